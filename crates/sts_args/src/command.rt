@@ -1,7 +1,8 @@
 //! The commands that the program knows, in the form that `clap` takes.
 
-ghost use Rattle.std.specs.Prelude.{◌≡◌, IfOk, Ok, codes, false};
-ghost use Rattle.clap.specs.Words.{App, app_of, new_app, rule_of, with_rule, with_subcommand};
+ghost use Rattle.std.specs.Prelude.{◌≡◌, IfOk, Ok, codes, false, true};
+ghost use Rattle.clap.specs.Words.{App, app_of, new_app, new_rule, rule_of};
+ghost use Rattle.clap.specs.Words.{with_rule, with_subcommand};
 ghost use Rattle.clap.specs.declared.builder.Command.TheViews.{out-Command};
 ghost use Rattle.sts_args.specs.Command as def;
 ghost use Rattle.sts_args.specs.Command.{IsLocal, Makes};
@@ -9,23 +10,12 @@ ghost use Rattle.sts_args.specs.Command.{IsLocal, Makes};
 use clap::{Arg, Command};
 use std::alloc::{AllocError, Global};
 
-/// The text file that each command takes first.
-fn file<'a>(alloc: Global) -> Arg<'a>
-    ensures rule { rule_of result ≡ def.file_rule }
+/// A file that the command has to be given.
+fn needed<'a>(alloc: Global, name: &'a str, help: &'a str) -> Arg<'a>
+    ensures rule { rule_of result ≡ record (new_rule name.entry.now) { required = true } }
     ensures local { result.global ≡ false }
 {
-    Arg::new(alloc, "FILE")
-        .required(true)
-        .help("the text of a program")
-}
-
-fn trace<'a>(alloc: Global) -> Arg<'a>
-    ensures rule { rule_of result ≡ def.trace_rule }
-    ensures local { result.global ≡ false }
-{
-    Arg::new(alloc, "TRACE")
-        .required(true)
-        .help("a trace: lines `step N`, `interrupt N` and `expire N`")
+    Arg::new(alloc, name).required(true).help(help)
 }
 
 /// An option that takes one value.
@@ -56,7 +46,9 @@ pub fn on_file<'a>(alloc: Global, name: &'a str, about: &'a str) -> Result<Comma
     ensures app { IfOk result (λ c. app_of c ≡ with_rule (new_app name.entry.now) def.file_rule) }
     ensures local { IfOk result (λ c. (out-Command c).has_globals ≡ false) }
 {
-    Command::new(alloc, name).about(about).arg(file(alloc))
+    Command::new(alloc, name)
+        .about(about)
+        .arg(needed(alloc, "FILE", "the text of a program"))
 }
 
 /// A command that takes a text file and a trace.
@@ -69,7 +61,11 @@ pub fn on_trace<'a>(alloc: Global, name: &'a str, about: &'a str) -> Result<Comm
         ≡ with_rule (with_rule (new_app name.entry.now) def.file_rule) def.trace_rule) }
     ensures local { IfOk result (λ c. (out-Command c).has_globals ≡ false) }
 {
-    on_file(alloc, name, about)?.arg(trace(alloc))
+    on_file(alloc, name, about)?.arg(needed(
+        alloc,
+        "TRACE",
+        "a trace: lines `step N`, `interrupt N` and `expire N`",
+    ))
 }
 
 /// The command that takes workers, and may take outside events and write a trace.

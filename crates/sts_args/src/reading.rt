@@ -1,11 +1,11 @@
 //! Reads a command line.
 
-ghost use Rattle.std.specs.Prelude.{◌≡◌, ◌↔◌, ◌≤◌, Ok, IfOk, IfErr, map, option_map, is_some, Some};
-ghost use Rattle.std.specs.Prelude.{codes, Bool, false, length, ◌∷◌, [], IfSome};
+ghost use Rattle.std.specs.Prelude.{◌≡◌, ◌↔◌, ◌≤◌, ◌&&◌, Ok, IfOk, IfErr, map, option_map};
+ghost use Rattle.std.specs.Prelude.{is_some, Some, codes, Bool, false, length, ◌∷◌, [], IfSome};
 ghost use Rattle.clap.specs.Words.{first_of, rows_of, found_of, kind_of, subcommand_rows_of};
 ghost use Rattle.sts_args.specs.declared.asked.Line.TheVariants.{Joined};
 ghost use Rattle.sts_args.specs.Asked.{Asks, HasWorkers, IsGiven, IsLineOf, asked, given, options};
-ghost use Rattle.sts_args.specs.Asked.{options_at, workers_at, workers_written};
+ghost use Rattle.sts_args.specs.Asked.{options_at, takes_trace, workers_at, workers_written};
 ghost use Rattle.sts_args.specs.Refused.{BlamesUnless, Refuses, TellsKind, is_whole};
 
 use crate::asked;
@@ -90,6 +90,7 @@ pub fn text_of<'a>(inner: &ArgMatches<'a>, id: &str) -> Option<&'a str>
     inner.get_str(id)
 }
 
+/// The request of a command of this name.
 fn asked_of<'a>(
     alloc: Global,
     name: &'a str,
@@ -100,25 +101,40 @@ fn asked_of<'a>(
     ensures lacks { IfErr result (BlamesUnless
         (is_whole (Some (name.now, rows_of (found_of inner.now))))) }
 {
-    match text_of(inner, "FILE") {
-        None => Err(unknown(alloc)),
-        Some(file) => {
-            if name == "verify" {
-                Ok(asked::Line::Verify { file })
-            } else if name == "list" {
-                Ok(asked::Line::List { file })
-            } else if name == "plain" {
-                let trace = trace_of(alloc, inner)?;
-                Ok(asked::Line::Plain { file, trace })
-            } else if name == "replay" {
-                let trace = trace_of(alloc, inner)?;
-                Ok(asked::Line::Replay { file, trace })
-            } else if name == "run" {
-                run_of(alloc, file, inner)
-            } else {
-                Err(unknown(alloc))
-            }
-        }
+    let Some(file) = text_of(inner, "FILE") else {
+        return Err(unknown(alloc));
+    };
+    if name == "verify" {
+        Ok(asked::Line::Verify { file })
+    } else if name == "list" {
+        Ok(asked::Line::List { file })
+    } else if name == "run" {
+        run_of(alloc, file, inner)
+    } else {
+        replay_of(alloc, name, file, inner)
+    }
+}
+
+/// `plain` or `replay` of a text, with the trace that it was given.
+fn replay_of<'a>(
+    alloc: Global,
+    name: &'a str,
+    file: &'a str,
+    inner: &ArgMatches<'a>,
+) -> Result<asked::Line<'a>, LineError>
+    ensures asked { first_of (codes "FILE") (rows_of (found_of inner.now)) ≡ Some file.now
+        → IfOk result (IsGiven (name.now, rows_of (found_of inner.now))) }
+    ensures workers { IfOk result HasWorkers }
+    ensures lacks { IfErr result (BlamesUnless (takes_trace name.now
+        && is_some (first_of (codes "TRACE") (rows_of (found_of inner.now))))) }
+{
+    let trace = trace_of(alloc, inner)?;
+    if name == "plain" {
+        Ok(asked::Line::Plain { file, trace })
+    } else if name == "replay" {
+        Ok(asked::Line::Replay { file, trace })
+    } else {
+        Err(unknown(alloc))
     }
 }
 
