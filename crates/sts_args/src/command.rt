@@ -138,29 +138,37 @@ fn with_subcommand<'a>(
 pub fn program<'a>(alloc: Global) -> Result<Command<'a>, AllocError>
     ensures { IfOk result (λ c. app_of c ≡ def.program) }
 {
-    let verify = on_file(
-        alloc,
-        "verify",
-        "Checks that no run can fault; prints budgets, or the refused instruction",
+    let program = with_subcommand(
+        Ok(bare(alloc)),
+        on_file(
+            alloc,
+            "verify",
+            "Checks that no run can fault; prints budgets, or the refused instruction",
+        ),
     );
-    let program = with_subcommand(Ok(bare(alloc)), verify);
-    let list = on_file(
-        alloc,
-        "list",
-        "Prints the program as the assembler understands it",
+    let program = with_subcommand(
+        program,
+        on_file(
+            alloc,
+            "list",
+            "Prints the program as the assembler understands it",
+        ),
     );
-    let program = with_subcommand(program, list);
-    let plain = on_trace(
-        alloc,
-        "plain",
-        "Runs a trace and checks every instruction; prints the result and the steps",
+    let program = with_subcommand(
+        program,
+        on_trace(
+            alloc,
+            "plain",
+            "Runs a trace and checks every instruction; prints the result and the steps",
+        ),
     );
-    let program = with_subcommand(program, plain);
-    let replay = on_trace(
-        alloc,
-        "replay",
-        "Verifies, then runs a trace without checks; prints the same, or the refusal",
+    let program = with_subcommand(
+        program,
+        on_trace(
+            alloc,
+            "replay",
+            "Verifies, then runs a trace without checks; prints the same, or the refusal",
+        ),
     );
-    let program = with_subcommand(program, replay);
     with_subcommand(program, run(alloc))
 }

@@ -1,12 +1,28 @@
-use Rattle.std.proofs.Common.{◌<◌, map, length, ap, sym, subst, arith, ◌∙◌}
+use Rattle.std.proofs.Common.{◌≡◌, ◌<◌, List, Some, None, map, length, ap, sym, subst, arith, ◌∙◌}
+use Rattle.std.specs.Prelude.{Option, Result, Ok, IfOk}
 use Rattle.std.proofs.lemmas.Result.{IfOk-weaker, IfErr-weaker}
 use Rattle.std.proofs.lemmas.List.{length-map}
-use Rattle.clap.specs.Words.{App, is_simple, is_simple_and_free, kind_of, HasKind, fault_of}
-use Rattle.clap.specs.Words.{subcommand_of}
-use Rattle.sts_args.specs.Asked.{IsLineOf, commanded}
+use Rattle.clap.specs.Words.{App, Row, Text, is_simple, is_simple_and_free, kind_of, HasKind, fault_of}
+use Rattle.clap.specs.Words.{subcommand_of, subcommand_rows_of}
+use Rattle.sts_args.specs.declared.asked.Line.{Line}
+use Rattle.sts_args.specs.declared.asked.Line.TheVariants as line
+use Rattle.sts_args.specs.declared.asked.LineError.{LineError}
+use Rattle.sts_args.specs.Asked.{IsLineOf, commanded, given}
 use Rattle.sts_args.specs.Refused.{BlamesUnless, is_whole}
 use Rattle.sts_args.proofs.Refusing.{refuses_blamed, refuses_told}
 use Rattle.sts_args.proofs.reading.line.Goals as goal
+
+-- a line of a command is not the joined form
+not_joined : (found : Option (Text × List Row)) → IsLineOf found line.Joined → ⊥
+not_joined None h = h
+not_joined (Some x) h = let bad : None ≡ Some (given x) = h.files in cc
+
+asks_command : (r : Result Line LineError) (found : Option (Text × List Row)) → IfOk r (IsLineOf found) → r ≡ Ok line.Joined → ⊥
+asks_command r found h same = not_joined found (subst (λ x. IfOk x (IsLineOf found)) same h)
+
+pub returns-in-Ok-clause-joined : goal.returns-in-Ok-clause-joined
+returns-in-Ok-clause-joined c =
+    (λ same. absurd (asks_command c.chosen.result (subcommand_rows_of c.in-Ok.matches) c.chosen.ensures.asked same), λ short. absurd (omega arith))
 
 pub returns-in-Ok-clause-asked : goal.returns-in-Ok-clause-asked
 returns-in-Ok-clause-asked c =
