@@ -77,6 +77,10 @@ pub past : (b : Bool) (c : Cause) (rest : Option Cause) → b ≡ false → rest
 past true c rest e = cc
 past false c rest e = refl
 
+here : (b : Bool) (c : Cause) (rest : Option Cause) → b ≡ true → Some c ≡ cond b (Some c) rest
+here true c rest e = refl
+here false c rest e = cc
+
 module _ (p : Program) (f pc : ℕ) (i : Instr) (s : TypeState) where
   -- the lowest-numbered cause from V3 to V5, if one holds there
   abbrev pub lead : List Instr → Option Cause → Option Cause
@@ -95,6 +99,12 @@ module _ (p : Program) (f pc : ℕ) (i : Instr) (s : TypeState) where
   abbrev pub after_leads : Option Cause
   after_leads = cond (test.is_too_deep i s) (Some LoopDepth) (slot after_slots)
 
+  pub under_found : test.lacks_operands p i s ≡ true → Some StackUnder ≡ least_cause p f pc i s
+  under_found e = here _ StackUnder _ e
+
+  pub over_found : test.lacks_operands p i s ≡ false → test.overflows p i s ≡ true → Some StackOver ≡ least_cause p f pc i s
+  over_found some_operands e = here _ StackOver _ e ∙ past _ StackUnder _ some_operands
+
   module _ (code : List Instr) (is : code ≡ (routine p f).code) (some_operands : test.lacks_operands p i s ≡ false) (room : test.overflows p i s ≡ false) (o : Option Cause) (e : o ≡ lead code None) where
     lead_is : o ≡ lead (routine p f).code None
     lead_is = e ∙ ap (λ c. lead c None) is
@@ -108,10 +118,24 @@ module _ (p : Program) (f pc : ℕ) (i : Instr) (s : TypeState) where
     pub lead_missed : is_some o ≡ false → after_leads ≡ least_cause p f pc i s
     lead_missed t = missed _ _ _ FallsOff BackJump LoopMismatch o after_leads lead_is t ∙ first_two (lead (routine p f).code after_leads)
 
+    pub depth_found : is_some o ≡ false → test.is_too_deep i s ≡ true → Some LoopDepth ≡ least_cause p f pc i s
+    depth_found none deep = here _ LoopDepth (slot after_slots) deep ∙ lead_missed none
+
     module _ (none : is_some o ≡ false) (flat : test.is_too_deep i s ≡ false) (o' : Option Cause) (e' : o' ≡ slot None) where
+      after_depth : slot after_slots ≡ least_cause p f pc i s
+      after_depth = past _ LoopDepth (slot after_slots) flat ∙ lead_missed none
+
       pub slot_found : is_some o' ≡ true → o' ≡ least_cause p f pc i s
-      slot_found t = found _ _ _ SlotKind SlotBusy WrongThread o' after_slots e' t ∙ past _ LoopDepth (slot after_slots) flat ∙ lead_missed none
+      slot_found t = found _ _ _ SlotKind SlotBusy WrongThread o' after_slots e' t ∙ after_depth
+
+      slot_passed : is_some o' ≡ false → after_slots ≡ least_cause p f pc i s
+      slot_passed t = missed _ _ _ SlotKind SlotBusy WrongThread o' after_slots e' t ∙ after_depth
+
+      pub illegal_found : is_some o' ≡ false → test.is_illegal p.profile i s ≡ true → Some IllegalState ≡ least_cause p f pc i s
+      illegal_found t illegal = here _ IllegalState (cond (test.breaks_structure i s) (Some Structure) late) illegal ∙ slot_passed t
+
+      pub structure_found : is_some o' ≡ false → test.is_illegal p.profile i s ≡ false → test.breaks_structure i s ≡ true → Some Structure ≡ least_cause p f pc i s
+      structure_found t legal broken = here _ Structure late broken ∙ past _ IllegalState _ legal ∙ slot_passed t
 
       pub slot_missed : is_some o' ≡ false → test.is_illegal p.profile i s ≡ false → test.breaks_structure i s ≡ false → late ≡ least_cause p f pc i s
-      slot_missed t legal ordered =
-          past _ Structure late ordered ∙ past _ IllegalState _ legal ∙ missed _ _ _ SlotKind SlotBusy WrongThread o' after_slots e' t ∙ past _ LoopDepth (slot after_slots) flat ∙ lead_missed none
+      slot_missed t legal ordered = past _ Structure late ordered ∙ past _ IllegalState _ legal ∙ slot_passed t
