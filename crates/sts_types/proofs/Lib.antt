@@ -1,5 +1,6 @@
 pub mod Arriving
 pub mod ComparingLemmas
+pub mod EdgeLemmas
 pub mod Fitting
 pub mod FollowLemmas
 pub mod Laws

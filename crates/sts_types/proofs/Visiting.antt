@@ -20,6 +20,7 @@ use Rattle.sts_types.specs.declared.arrival.Arrival.TheVariants.{Nothing, One, S
 use Rattle.sts_types.specs.Arrivals.{Arrive, filled}
 use Rattle.sts_types.specs.Room.{HasRoom}
 use Rattle.sts_types.proofs.Arriving.{all_places}
+use Rattle.sts_types.proofs.EdgeLemmas.{instr_there, refused_there, edges_there}
 use Rattle.sts_types.proofs.Fitting.{fits}
 use Rattle.sts_types.proofs.Laws.{laws, back_down}
 use Rattle.sts_types.proofs.Passing.{Passed, begin, is_dead, has_two, has_edge_cause}
@@ -69,12 +70,9 @@ module _ (p : Program) (f : ℕ) (code : List Instr) (is : code ≡ (routine p f
   several_here e = (here, has_two (typing p f) (size p f) (laws p f) table k here at e, at.clear)
 
   module _ (s : TypeState) (one_here : get_or table k Nothing ≡ One s) (i d : Instr) (instr : i ≡ get_or code k d) where
-    at_instr : i ≡ instr_at (routine p f).code k
-    at_instr = instr ∙ get_or_default code k d Ret within ∙ ap (λ c. instr_at c k) is
-
     pub cause_here : (c : Cause) → least_cause p f k i s ≡ Some c → IsTypeRefusal p f k c
     cause_here c e =
-        let refuses : edges p f k s ≡ Err c = ap (λ j. or_cause (least_cause p f k j s) (follows p (routine p f).code k j s)) (sym at_instr) ∙ ap (λ o. or_cause o (follows p (routine p f).code k i s)) e in
+        let refuses = refused_there p f code is k within s i d instr c e in
         (here, has_edge_cause (typing p f) (size p f) (laws p f) table k here at s one_here c refuses, at.clear)
 
     module _ (none : least_cause p f k i s ≡ None) where
@@ -82,7 +80,7 @@ module _ (p : Program) (f : ℕ) (code : List Instr) (is : code ≡ (routine p f
       out = follows p (routine p f).code k i s
 
       fine : edges p f k s ≡ Ok (follows p (routine p f).code k i s)
-      fine = ap (λ j. or_cause (least_cause p f k j s) (follows p (routine p f).code k j s)) (sym at_instr) ∙ ap (λ o. or_cause o (follows p (routine p f).code k i s)) none
+      fine = edges_there p f code is k within s i d instr none
 
       pub room : HasRoom p i s
       room = has_room p f k i s (fits p f k i s none)
@@ -103,7 +101,7 @@ module _ (p : Program) (f : ℕ) (code : List Instr) (is : code ≡ (routine p f
           by (Some q) e = let le = back_here q e in omega arith
 
       back_there : (o : Option ℕ) → back_of i s ≡ o → back_of (instr_at (routine p f).code k) s ≡ o
-      back_there o b = ap (λ j. back_of j s) (sym at_instr) ∙ b
+      back_there o b = ap (λ j. back_of j s) (sym (instr_there p f code is k within s i d instr)) ∙ b
 
       module _ (q : ℕ) (back : back_of i s ≡ Some q) (b : Bool) (tests : IsTrue b ↔ (get_or table q Nothing ≡ One s)) where
         pub turn_here : b ≡ false → IsTypeRefusal p f k StatesDiffer

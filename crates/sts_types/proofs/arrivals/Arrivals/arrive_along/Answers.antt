@@ -1,11 +1,11 @@
-use Rattle.std.proofs.Common.{rules, ◌≡◌, ◌<◌, ◌∙◌, length, map, slice_get, slice_set, Some, subst, sym, ap}
+use Rattle.std.proofs.Common.{rules, arith, get_or, ◌≡◌, ◌<◌, ◌∙◌, length, map, slice_get, slice_set, Some, subst, sym, ap}
 use Rattle.sts_rules.specs.Edges.{follows}
 use Rattle.sts_rules.specs.TypeState.{TypeState}
 use Rattle.sts_types.specs.declared.arrival.Arrival.TheVariants.{One}
 use Rattle.sts_types.specs.Arrivals.{ArriveAt, IsMarked, arrival_of, state_of}
 use Rattle.sts_types.proofs.Arriving.{place_within}
 use Rattle.sts_types.proofs.Marking.{more_kept, mark_holds, marks_hold, arrived, goes_there}
-use Rattle.sts_types.proofs.Marking.{within_marks, marked_there}
+use Rattle.sts_types.proofs.Marking.{within_marks, marked_there, longer_kept, same_kept, kept_itself}
 use Rattle.sts_types.proofs.arrivals.Arrivals.arrive_along.Goals as goal
 
 pub invariant_of-self-in-Some : goal.invariant_of-self-in-Some
@@ -58,3 +58,36 @@ merged-requires-clause-before c =
     let there : slice_get (out c.args.self.now.state) c.args.number ≡ Some (c.in-Some.to, c.edge.new.state) = ap (λ s. slice_get (out s) c.args.number) (sym state) ∙ goes_there (slice_get (out c.self.inside.state) c.args.number) c.self.inside.state c.edge.result c.edge.new.state c.in-Some.to c.edge.ensures c.in-Some.is in
     let within : c.in-Some.to < length c.self.inside.marks.items = within_marks c.self.inside.kept.items c.self.inside.marks.items c.args.self.now.table c.in-Some.to (ap (λ a. a.table) c.self.view_is) (place_within (out c.args.self.now.state) c.args.number c.in-Some.to (length c.args.self.now.table) c.edge.new.state there c.requires.places) in
     marked_there c.self.inside.kept.items c.keep.ensures.more.0 c.keep.new.kept.items c.as_slice.result.now c.self.inside.marks.items c.in-Some.to c.index-in-Some.result.now c.keep.ensures.more.1 c.as_slice.ensures.value c.self.invariant.0 within c.index-in-Some.ensures
+
+pub near-near-requires : goal.near-near-requires
+near-near-requires c =
+    let out = λ (s : TypeState). follows c.args.site.now.program.now c.args.site.now.loops.now c.args.site.now.pc c.args.site.now.instr s in
+    let state = ap (λ a. a.state) c.self.view_is in
+    let there : slice_get (out c.args.self.now.state) c.args.number ≡ Some (c.in-Some.to, c.edge.new.state) = ap (λ s. slice_get (out s) c.args.number) (sym state) ∙ goes_there (slice_get (out c.self.inside.state) c.args.number) c.self.inside.state c.edge.result c.edge.new.state c.in-Some.to c.edge.ensures c.in-Some.is in
+    within_marks c.self.inside.kept.items c.self.inside.marks.items c.args.self.now.table c.in-Some.to (ap (λ a. a.table) c.self.view_is) (place_within (out c.args.self.now.state) c.args.number c.in-Some.to (length c.args.self.now.table) c.edge.new.state there c.requires.places)
+
+pub index-requires : goal.index-requires
+index-requires c =
+    let more = c.keep.ensures.more in
+    let within : c.self.inside.like < length c.keep.new.kept.items = omega (arith, c.self.invariant.1, longer_kept c.self.inside.kept.items more.0 c.keep.new.kept.items more.1) in
+    search (rules, within)
+
+pub invariant_of-self : goal.invariant_of-self
+invariant_of-self c =
+    let kept = c.self.inside.kept.items in
+    let now = c.keep.new.kept.items in
+    let more = c.keep.ensures.more in
+    let within : c.self.inside.like < length now = omega (arith, c.self.invariant.1, longer_kept kept more.0 now more.1) in (
+      λ k d lt. mark_holds kept more.0 now (get_or c.self.inside.marks.items k d) more.1 (c.self.invariant.0 k d lt),
+      within,
+      kept_itself now c.self.inside.like c.index.result.now c.copy_from.new.self within c.index.ensures c.copy_from.ensures,
+      mark_holds kept more.0 now (One c.self.inside.start) more.1 c.self.invariant.3,
+    )
+
+pub returns-in-Err-clause-start : goal.returns-in-Err-clause-start
+returns-in-Err-clause-start c =
+    same_kept c.self.inside.kept.items c.keep.ensures.more.0 c.keep.new.kept.items c.self.inside.start c.keep.ensures.more.1 c.self.invariant.3.0 ∙ ap (λ a. a.start) c.self.view_is
+
+pub returns-in-Ok-clause-start : goal.returns-in-Ok-clause-start
+returns-in-Ok-clause-start c =
+    same_kept c.self.inside.kept.items c.keep.ensures.more.0 c.keep.new.kept.items c.self.inside.start c.keep.ensures.more.1 c.self.invariant.3.0 ∙ ap (λ a. a.start) c.self.view_is
