@@ -6,14 +6,9 @@ use Rattle.std.proofs.lemmas.Bool.{cases_eq, cases_lt}
 use Rattle.sts_types.specs.declared.arrival.Arrival.{Arrival}
 use Rattle.sts_types.specs.declared.arrival.Arrival.TheVariants.{Nothing, One, Several}
 use Rattle.sts_types.specs.Arrivals.{Merged, Arrive}
+use Rattle.sts_types.specs.Passing.{Stands, Below, at_entry, out_of, Passed}
 use Rattle.sts_rules.specs.Flow.{Flow, Leads, Reaches, first, then, IsAlone, TurnDiffers, TurnKeeps}
 use Rattle.sts_rules.specs.Flow.{IsClear, HasCause, dead, two, edge, turn}
-
--- the arrival that represents the states P
-abbrev pub Stands : {S : Type 0} → (S → Type 0) → Arrival S → Type 0
-Stands {S} P Nothing = (s : S) → P s → ⊥
-Stands {S} P (One s) = P s × ((other : S) → P other → other ≡ s)
-Stands {S} P Several = (a : S) × ((b : S) × (P a × P b × (a ≢ b)))
 
 module _ {S : Type 0} where
   merge_stands : (P : S → Type 0) (a b : Arrival S) (s : S) → Stands P a → Merged a s b → Stands (λ x. P x ⊎ (s ≡ x)) b
@@ -68,17 +63,6 @@ module _ {S : Type 0} where
 pub record IsForward {S C : Type 0} (f : Flow S C) (n : ℕ) : Type 0 where
   pub up : (pc : ℕ) (s : S) (out : List (ℕ × S)) (to : ℕ) (x : S) → f.edges pc s ≡ Ok out → Leads out to x → (pc < to) × (to < n)
   pub down : (pc : ℕ) (s : S) (out : List (ℕ × S)) (q : ℕ) → f.edges pc s ≡ Ok out → f.back pc s ≡ Some q → q ≤ pc
-
--- what arrives from the places below k
-pub data Below {S C : Type 0} (f : Flow S C) (k : ℕ) : ℕ → S → Type 0 where
-  at_entry : Below f k 0 f.entry
-  out_of : (from : ℕ) (before : S) (out : List (ℕ × S)) {pc : ℕ} {s : S} → from < k → Reaches f from before → f.edges from before ≡ Ok out → Leads out pc s → Below f k pc s
-
--- the pass up to k: the table represents all that arrives from the places below k, and no cause
--- holds at these
-pub record Passed {S C : Type 0} (f : Flow S C) (n : ℕ) (table : List (Arrival S)) (k : ℕ) : Type 0 where
-  pub holds : (length table ≡ n) × ((pc : ℕ) → pc < n → Stands (Below f k pc) (get_or table pc Nothing))
-  pub clear : (pc : ℕ) → pc < k → IsClear f pc
 
 module _ {S C : Type 0} (f : Flow S C) (n : ℕ) (laws : IsForward f n) where
   reaches : (k pc : ℕ) (s : S) → Below f k pc s → Reaches f pc s

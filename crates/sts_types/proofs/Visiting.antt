@@ -23,7 +23,8 @@ use Rattle.sts_types.proofs.Arriving.{all_places}
 use Rattle.sts_types.proofs.EdgeLemmas.{instr_there, refused_there, edges_there}
 use Rattle.sts_types.proofs.Fitting.{fits}
 use Rattle.sts_types.proofs.Laws.{laws, back_down}
-use Rattle.sts_types.proofs.Passing.{Passed, begin, is_dead, has_two, has_edge_cause}
+use Rattle.sts_types.specs.Passing.{Passed}
+use Rattle.sts_types.proofs.Passing.{begin, is_dead, has_two, has_edge_cause}
 use Rattle.sts_types.proofs.Passing.{has_turn_cause, turn_differs, turn_same, no_turn, goes_on}
 use Rattle.sts_types.proofs.RoomLemmas.{has_room}
 
@@ -40,8 +41,16 @@ least_is p f k i s s' r o e m is = ap (λ x. least_cause p f k i x) (sym e) ∙ 
 pub back_is : (i : Instr) (s s' : TypeState) (r o : Option ℕ) → s' ≡ s → r ≡ back_of i s' → r ≡ o → back_of i s ≡ o
 back_is i s s' r o e m is = ap (λ x. back_of i x) (sym e) ∙ sym m ∙ is
 
-pub back_fits_same : (i : Instr) (s s' : TypeState) → s' ≡ s → IfSome (back_of i s) (λ q. q < 4294967296) → IfSome (back_of i s') (λ q. q < 4294967296)
-back_fits_same i s s' e h = subst (λ x. IfSome (back_of i x) (λ q. q < 4294967296)) (sym e) h
+-- what is said of the place where a turn began
+pub turn_of : (i : Instr) (s s' : TypeState) (r : Option ℕ) (q : ℕ) (P : ℕ → Type 0) → s' ≡ s → r ≡ back_of i s' → r ≡ Some q → IfSome (back_of i s) P → P q
+turn_of i s s' r q P same e is h = subst (λ o. IfSome o P) (back_is i s s' r (Some q) same e is) h
+
+pub turn_fits : (i : Instr) (s s' : TypeState) (n : ℕ) → s' ≡ s → IfSome (back_of i s) (λ q. (q < 4294967296) × (q < n)) → IfSome (back_of i s') (λ q. q < 4294967296)
+turn_fits i s s' n same h = subst (λ x. IfSome (back_of i x) (λ q. q < 4294967296)) (sym same) (by (back_of i s) h)
+  where
+    by : (o : Option ℕ) → IfSome o (λ q. (q < 4294967296) × (q < n)) → IfSome o (λ q. q < 4294967296)
+    by None h = tt
+    by (Some q) h = h.0
 
 begins : (p : Program) (f : ℕ) (code : List Instr) (table : List (Arrival TypeState)) (s : TypeState) → code ≡ (routine p f).code → 0 < length code → table ≡ replicate (length code) Nothing → s ≡ entry p f → Passed (typing p f) (size p f) (set table 0 (One s)) 0
 begins p f code table s is some empty first =
@@ -90,31 +99,46 @@ module _ (p : Program) (f : ℕ) (code : List Instr) (is : code ≡ (routine p f
           let all = all_places (follows p (routine p f).code k i s) (size p f) (λ to x l. ((laws p f).up k s _ to x fine l).1) in
           subst (λ m. All (λ e. e.0 < m) (follows p loops k i s)) (sym at.holds.0 ∙ sym count) (subst (λ c. All (λ e. e.0 < size p f) (follows p c k i s)) (sym is ∙ sym same) all)
 
-      pub back_here : (q : ℕ) → back_of i s ≡ Some q → q ≤ k
+      back_here : (q : ℕ) → back_of i s ≡ Some q → q ≤ k
       back_here q b = back_down p f k i s q (fits p f k i s none) b
 
-      pub back_fits : k < 4096 → IfSome (back_of i s) (λ q. q < 4294967296)
+      pub back_fits : k < 4096 → IfSome (back_of i s) (λ q. (q < 4294967296) × (q < length table))
       back_fits small = by (back_of i s) refl
         where
-          by : (o : Option ℕ) → back_of i s ≡ o → IfSome o (λ q. q < 4294967296)
+          by : (o : Option ℕ) → back_of i s ≡ o → IfSome o (λ q. (q < 4294967296) × (q < length table))
           by None e = tt
-          by (Some q) e = let le = back_here q e in omega arith
+          by (Some q) e = let le = back_here q e in (omega arith, omega (arith, long))
 
       back_there : (o : Option ℕ) → back_of i s ≡ o → back_of (instr_at (routine p f).code k) s ≡ o
       back_there o b = ap (λ j. back_of j s) (sym (instr_there p f code is k within s i d instr)) ∙ b
 
+      pub no_turn_here : back_of i s ≡ None → TurnKeeps (typing p f) k s
+      no_turn_here e = no_turn (typing p f) (size p f) (laws p f) table k here at s one_here (back_there None e)
+
       module _ (q : ℕ) (back : back_of i s ≡ Some q) (b : Bool) (tests : IsTrue b ↔ (get_or table q Nothing ≡ One s)) where
-        pub turn_here : b ≡ false → IsTypeRefusal p f k StatesDiffer
-        turn_here differs =
+        turn_at : b ≡ false → IsTypeRefusal p f k StatesDiffer
+        turn_at differs =
             let other : get_or table q Nothing ≢ One s = λ e. (let t = tests.1 e in cc) in
             let d' = turn_differs (typing p f) (size p f) (laws p f) table k here at s one_here _ q fine (back_there (Some q) back) other in
             (here, has_turn_cause (typing p f) (size p f) (laws p f) table k here at s one_here _ fine d', at.clear)
 
-        pub keeps_here : b ≡ true → TurnKeeps (typing p f) k s
-        keeps_here kept = turn_same (typing p f) (size p f) (laws p f) table k here at s one_here _ q fine (back_there (Some q) back) (tests.0 kept)
+        keeps_at : b ≡ true → TurnKeeps (typing p f) k s
+        keeps_at kept = turn_same (typing p f) (size p f) (laws p f) table k here at s one_here _ q fine (back_there (Some q) back) (tests.0 kept)
 
-      pub no_turn_here : back_of i s ≡ None → TurnKeeps (typing p f) k s
-      no_turn_here e = no_turn (typing p f) (size p f) (laws p f) table k here at s one_here (back_there None e)
+      module _ (b : Bool) (tests : IsTrue b ↔ IfSome (back_of i s) (λ q. get_or table q Nothing ≡ One s)) where
+        pub turn_here : b ≡ false → IsTypeRefusal p f k StatesDiffer
+        turn_here differs = by (back_of i s) refl tests
+          where
+            by : (o : Option ℕ) → back_of i s ≡ o → (IsTrue b ↔ IfSome o (λ q. get_or table q Nothing ≡ One s)) → IsTypeRefusal p f k StatesDiffer
+            by None e t = let h = t.1 tt in cc
+            by (Some q) e t = turn_at q e b t differs
+
+        pub keeps_here : b ≡ true → TurnKeeps (typing p f) k s
+        keeps_here kept = by (back_of i s) refl tests
+          where
+            by : (o : Option ℕ) → back_of i s ≡ o → (IsTrue b ↔ IfSome o (λ q. get_or table q Nothing ≡ One s)) → TurnKeeps (typing p f) k s
+            by None e t = no_turn_here e
+            by (Some q) e t = keeps_at q e b t kept
 
       pub goes_on_here : (loops : List Instr) (after : List (Arrival TypeState)) → loops ≡ code → TurnKeeps (typing p f) k s → Arrive table (follows p loops k i s) after → Passed (typing p f) (size p f) after (k + 1)
       goes_on_here loops after same keeps arrives = goes_on (typing p f) (size p f) (laws p f) table k here at s one_here _ after fine keeps (subst (λ c. Arrive table (follows p c k i s) after) (same ∙ is) arrives)

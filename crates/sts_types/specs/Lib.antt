@@ -1,4 +1,5 @@
 pub mod Arrivals
+pub mod Passing
 pub mod Room
 pub mod Simple
 pub mod Site

@@ -5,7 +5,9 @@ ghost use Rattle.std.specs.Prelude.{slice_set, vec_len, IsTrue, OnOk, IfSome, Ma
 ghost use Rattle.std.specs.Prelude.{Some, ℕ, ◌+◌, ◌∷◌, [], option_to_list};
 ghost use Rattle.sts_rules.specs.Edges as def;
 ghost use Rattle.sts_rules.specs.Refusal.{IsWellTyped};
+ghost use Rattle.sts_code.specs.Program.{routine, instr_at};
 ghost use Rattle.sts_types.specs.Arrivals.{Merged, Arrive, at_height};
+ghost use Rattle.sts_types.specs.Passing.{PassedTo};
 ghost use Rattle.sts_types.specs.Site.{IsSite, HasRoomAt, follows_at};
 ghost use Rattle.sts_types.specs.Typing.{Tells};
 
@@ -103,6 +105,102 @@ fn go_on(pc: u32, height: u8, arrivals: &mut Arrivals)
     arrivals.arrive_moved(pc + 1, height);
 }
 
+/// Is the typestate at the beginning of the turn that a `next` ends the current one? Other
+/// instructions end no turn.
+fn keeps_turn(instr: Instr, arrivals: &Arrivals) -> bool
+    requires { IfSome (def.back_of instr arrivals.now.state)
+        (λ q. (q < 2 ^ 32) × (q < length arrivals.now.table)) }
+    ensures { IsTrue result ↔ IfSome (def.back_of instr arrivals.now.state)
+        (λ q. slice_index_or arrivals.now.table q Arrival.Nothing
+        ≡ Arrival.One arrivals.now.state) }
+{
+    match back_to(instr, arrivals.state()) {
+        Some(start) => arrivals.is_one(start),
+        None => true,
+    }
+}
+
+/// Goes on from a place by all tests of a cause. The current typestate is the only one that arrived
+/// there.
+fn visit_in_full(
+    program: &Program,
+    function: u32,
+    loops: &CodeLoops<'_>,
+    pc: u32,
+    instr: Instr,
+    arrivals: &mut Arrivals,
+) -> Result<(), TypeError>
+    requires code { loops.now ≡ (routine program.now function).code }
+    requires inside { pc < length loops.now }
+    requires small { pc < MAX_INSTRUCTIONS }
+    requires instr { instr ≡ instr_at loops.now pc }
+    requires passed { PassedTo program.now function arrivals.old.table pc }
+    requires one { slice_index_or arrivals.old.table pc Arrival.Nothing
+        ≡ Arrival.One arrivals.old.state }
+    requires start { arrivals.old.start ≡ arrivals.old.state }
+    ensures { MatchResult result
+        (λ _. PassedTo program.now function arrivals.new.table (pc + 1))
+        (Tells program.now function) }
+{
+    let skip = skip(loops, pc, instr);
+    let site = Site {
+        program,
+        function,
+        loops,
+        pc,
+        instr,
+        skip,
+    };
+    if let Some(cause) = least_cause(&site, arrivals.state()) {
+        return Err(refused(pc, cause));
+    }
+    if !keeps_turn(instr, arrivals) {
+        return Err(refused(pc, Cause::StatesDiffer));
+    }
+    follow(&site, arrivals)?;
+    Ok(())
+}
+
+/// Goes on from a place, unless a cause holds there. Most instructions take a short way.
+fn visit(
+    program: &Program,
+    function: u32,
+    code: &[Instr],
+    loops: &CodeLoops<'_>,
+    pc: u32,
+    arrivals: &mut Arrivals,
+) -> Result<(), TypeError>
+    requires code { code.now ≡ (routine program.now function).code }
+    requires loops { loops.now ≡ code.now }
+    requires inside { pc < length code.now }
+    requires small { pc < MAX_INSTRUCTIONS }
+    requires passed { PassedTo program.now function arrivals.old.table pc }
+    ensures { MatchResult result
+        (λ _. PassedTo program.now function arrivals.new.table (pc + 1))
+        (Tells program.now function) }
+{
+    match arrivals.load(pc) {
+        Arrival::Nothing => return Err(refused(pc, Cause::DeadCode)),
+        Arrival::Several => return Err(refused(pc, Cause::StatesDiffer)),
+        Arrival::One(()) => {}
+    }
+    let short = short_way(
+        program,
+        function,
+        loops,
+        pc,
+        code[pc as usize],
+        arrivals.state(),
+    );
+    match short {
+        Some(height) => {
+            go_on(pc, height, arrivals);
+            Ok(())
+        }
+        None => visit_in_full(program, function, loops, pc, code[pc as usize], arrivals),
+    }
+}
+
 /// Checks that each place of the function has one typestate and no cause from V1 to V16. If not,
 /// reports the first place that has a cause, with the cause that is named there.
 ///
@@ -119,42 +217,7 @@ pub fn type_function(alloc: Global, program: &Program, function: u32) -> Result<
     let loops = CodeLoops::with_tables(code, &tables);
     let mut arrivals = Arrivals::new(alloc, code.len(), entry(program, function))?;
     for pc in 0..loops.len() {
-        match arrivals.load(pc) {
-            Arrival::Nothing => return Err(refused(pc, Cause::DeadCode)),
-            Arrival::Several => return Err(refused(pc, Cause::StatesDiffer)),
-            Arrival::One(()) => {}
-        }
-        let short = short_way(
-            program,
-            function,
-            &loops,
-            pc,
-            code[pc as usize],
-            arrivals.state(),
-        );
-        if let Some(height) = short {
-            go_on(pc, height, &mut arrivals);
-            continue;
-        }
-        let instr = code[pc as usize];
-        let skip = skip(&loops, pc, instr);
-        let site = Site {
-            program,
-            function,
-            loops: &loops,
-            pc,
-            instr,
-            skip,
-        };
-        if let Some(cause) = least_cause(&site, arrivals.state()) {
-            return Err(refused(pc, cause));
-        }
-        if let Some(start) = back_to(instr, arrivals.state()) {
-            if !arrivals.is_one(start) {
-                return Err(refused(pc, Cause::StatesDiffer));
-            }
-        }
-        follow(&site, &mut arrivals)?;
+        visit(program, function, code, &loops, pc, &mut arrivals)?;
     }
     Ok(())
 }
