@@ -1,18 +1,17 @@
 -- One place of the pass over a function: each exit of the body, and how the pass goes on.
 use Rattle.std.proofs.Common.{◌≡◌, ◌≢◌, ℕ, ◌+◌, ◌<◌, ◌≤◌, ◌↔◌, IsTrue, IfSome, Bool, true, false}
-use Rattle.std.proofs.Common.{List, length, Option, Some, None, Ok, Err, get_or, set, replicate}
+use Rattle.std.proofs.Common.{List, length, Option, Some, None, Ok, get_or, set, replicate}
 use Rattle.std.proofs.Common.{refl, sym, ap, ◌∙◌, subst, arith, get_or-set_same, get_or-set_other}
 use Rattle.std.proofs.Common.{length-set}
 use Rattle.std.specs.List.{All}
-use Rattle.std.proofs.lemmas.List.{get_or_default, length-replicate, get_or-replicate}
+use Rattle.std.proofs.lemmas.List.{length-replicate, get_or-replicate}
 use Rattle.sts_code.specs.Program.{Program, routine, instr_at}
 use Rattle.sts_code.specs.declared.instr.Instr.{Instr}
-use Rattle.sts_code.specs.declared.instr.Instr.TheVariants.{Ret}
 use Rattle.sts_rules.specs.declared.typing.Cause.{Cause}
 use Rattle.sts_rules.specs.declared.typing.Cause.TheVariants.{StatesDiffer, DeadCode}
 use Rattle.sts_rules.specs.TypeState.{TypeState, entry}
 use Rattle.sts_rules.specs.Causes.{least_cause}
-use Rattle.sts_rules.specs.Edges.{edges, follows, or_cause, back_of, typing}
+use Rattle.sts_rules.specs.Edges.{edges, follows, back_of, typing}
 use Rattle.sts_rules.specs.Flow.{TurnKeeps}
 use Rattle.sts_rules.specs.Refusal.{size, IsTypeRefusal}
 use Rattle.sts_types.specs.declared.arrival.Arrival.{Arrival}

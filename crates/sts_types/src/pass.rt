@@ -201,6 +201,26 @@ fn visit(
     }
 }
 
+/// Visits the places of a function in order, up to the first with a cause.
+fn visit_all(
+    program: &Program,
+    function: u32,
+    code: &[Instr],
+    loops: &CodeLoops<'_>,
+    arrivals: &mut Arrivals,
+) -> Result<(), TypeError>
+    requires code { code.now ≡ (routine program.now function).code }
+    requires loops { loops.now ≡ code.now }
+    requires begun { PassedTo program.now function arrivals.old.table 0 }
+    ensures { MatchResult result (λ _. IsWellTyped program.now function)
+        (Tells program.now function) }
+{
+    for pc in 0..loops.len() {
+        visit(program, function, code, loops, pc, arrivals)?;
+    }
+    Ok(())
+}
+
 /// Checks that each place of the function has one typestate and no cause from V1 to V16. If not,
 /// reports the first place that has a cause, with the cause that is named there.
 ///
@@ -216,10 +236,7 @@ pub fn type_function(alloc: Global, program: &Program, function: u32) -> Result<
     let tables = Tables::new(alloc, code)?;
     let loops = CodeLoops::with_tables(code, &tables);
     let mut arrivals = Arrivals::new(alloc, code.len(), entry(program, function))?;
-    for pc in 0..loops.len() {
-        visit(program, function, code, &loops, pc, &mut arrivals)?;
-    }
-    Ok(())
+    visit_all(program, function, code, &loops, &mut arrivals)
 }
 
 fn refused(pc: u32, cause: Cause) -> TypeError

@@ -1,4 +1,4 @@
-use Rattle.std.proofs.Common.{IsTrue, IfSome, ◌↔◌, ◌≡◌, ◌<◌, Some, None, length, get_or, refl, sym, subst}
+use Rattle.std.proofs.Common.{IsTrue, IfSome, ◌↔◌, ◌≡◌, ◌<◌, Some, length, get_or, sym, subst}
 use Rattle.sts_types.specs.declared.arrival.Arrival.TheVariants.{Nothing, One}
 use Rattle.sts_types.proofs.Visiting.{back_is, turn_of, turn_fits}
 use Rattle.sts_types.proofs.pass.keeps_turn.Goals as goal
