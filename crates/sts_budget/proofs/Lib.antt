@@ -14,6 +14,7 @@ pub mod Listed
 pub mod LaidStepLemmas
 pub mod Rows
 pub mod HandOn
+pub mod HandedValues
 pub mod LastTurns
 pub mod ReadyLemmas
 pub mod TogetherLemmas

@@ -12,11 +12,11 @@ ghost use Rattle.sts_budget.specs.Together.{AreMost};
 
 use crate::change::Resource;
 use crate::greatest::{greatest, most_of};
-use crate::layout::{Layout, lay_out};
+use crate::layout::lay_out;
 use crate::pass::Pass;
 use crate::together::{Source, budgets_together};
 use std::alloc::{AllocError, Global};
-use sts_code::{Instr, Program, code_of};
+use sts_code::{Program, code_of};
 use sts_rules::{Budgets, Cause};
 
 /// Why a function has no budgets.
@@ -65,10 +65,18 @@ pub fn budget(
     if let Some(budgets) = quick_budgets(alloc, &source)? {
         return Ok(budgets);
     }
-    let steps = budget_of(alloc, &pass_of(Resource::Steps, earlier, code, &layout))?;
-    let tasks = budget_of(alloc, &pass_of(Resource::Tasks, earlier, code, &layout))?;
-    let scopes = budget_of(alloc, &pass_of(Resource::Scopes, earlier, code, &layout))?;
-    let binds = budget_of(alloc, &pass_of(Resource::Binds, earlier, code, &layout))?;
+    budgets_in_turn(alloc, &source)
+}
+
+/// The budgets of a function, each found by a pass of its own.
+fn budgets_in_turn(alloc: Global, source: &Source<'_>) -> Result<Budgets, BudgetError>
+    requires { IsLaidFor source.now.earlier.now source.now.code.now source.now.layout.now }
+    ensures { IsFound source.now.earlier.now source.now.code.now result }
+{
+    let steps = budget_of(alloc, &pass_of(Resource::Steps, source))?;
+    let tasks = budget_of(alloc, &pass_of(Resource::Tasks, source))?;
+    let scopes = budget_of(alloc, &pass_of(Resource::Scopes, source))?;
+    let binds = budget_of(alloc, &pass_of(Resource::Binds, source))?;
     Ok(Budgets {
         steps,
         tasks,
@@ -102,23 +110,18 @@ fn cause_of(resource: Resource) -> Cause
 }
 
 /// The pass over a function for a resource.
-fn pass_of<'p>(
-    resource: Resource,
-    earlier: &'p [Budgets],
-    code: &'p [Instr],
-    layout: &'p Layout,
-) -> Pass<'p>
+fn pass_of<'p>(resource: Resource, source: &Source<'p>) -> Pass<'p>
     ensures resource { result.resource ≡ resource }
-    ensures earlier { result.earlier.now ≡ earlier.now }
-    ensures code { result.code.now ≡ code.now }
-    ensures layout { result.layout.now ≡ layout.now }
+    ensures earlier { result.earlier.now ≡ source.now.earlier.now }
+    ensures code { result.code.now ≡ source.now.code.now }
+    ensures layout { result.layout.now ≡ source.now.layout.now }
     ensures most { result.most ≡ limit_of resource - own_of resource }
 {
     Pass {
         resource,
-        earlier,
-        code,
-        layout,
+        earlier: source.earlier,
+        code: source.code,
+        layout: source.layout,
         most: most_of(resource),
     }
 }

@@ -1,17 +1,18 @@
 //! The budgets of all resources, found in one pass over a function.
 
 ghost use Rattle.std.specs.Prelude.{◌≡◌, ◌<◌, ◌≤◌, ◌+◌, ◌++◌, ℕ, All, IsTrue, IfOk, IfSome, length, min, get_or};
+ghost use Rattle.std.specs.Prelude.{replicate};
 ghost use Rattle.sts_code.specs.Facts as facts;
 ghost use Rattle.sts_rules.specs.Around as around;
 ghost use Rattle.sts_rules.specs.Budget.{skeleton};
 ghost use Rattle.sts_budget.specs.declared.change.Resource.{Resource};
-ghost use Rattle.sts_budget.specs.Change.{depth_of};
+ghost use Rattle.sts_budget.specs.Change.{depth_of, own_of};
 ghost use Rattle.sts_budget.specs.Handing.{handed_value};
 ghost use Rattle.sts_budget.specs.Laid.{AreListed};
 ghost use Rattle.sts_budget.specs.Ready.{IsLaidFor, flows_in, head_in, names_in};
 ghost use Rattle.sts_budget.specs.Table.{IsRaisedAt, IsSent, IsSpread, IsPartial, read};
 ghost use Rattle.sts_budget.specs.Together.{rows_of, sums_of, over_open, width, most, AreMost};
-ghost use Rattle.sts_budget.specs.Together.{AreTopped};
+ghost use Rattle.sts_budget.specs.Together.{AreTopped, top_of, budget_of};
 
 use crate::change::Resource;
 use crate::greatest::{Top, add_place, most_of, no_top, own_of};
@@ -301,6 +302,36 @@ impl Tops {
     }
 }
 
+/// No place so far, for each resource.
+fn no_tops(alloc: Global, places: usize) -> Result<Tops, AllocError>
+    ensures { IfOk result (λ t. (k : Resource) →
+        ((top_of t k).bases.items ≡ replicate places 0) × ((top_of t k).greatest ≡ 0)) }
+{
+    let steps = no_top(alloc, places)?;
+    let tasks = no_top(alloc, places)?;
+    let scopes = no_top(alloc, places)?;
+    let binds = no_top(alloc, places)?;
+    Ok(Tops {
+        steps,
+        tasks,
+        scopes,
+        binds,
+    })
+}
+
+/// The budgets that have these greatest sums.
+fn budgets_of(tops: &Tops) -> Budgets
+    requires { (k : Resource) → (top_of tops.now k).greatest ≤ most k }
+    ensures { (k : Resource) → budget_of result k ≡ own_of k + (top_of tops.now k).greatest }
+{
+    Budgets {
+        steps: own_of(Resource::Steps) + tops.steps.greatest as u32,
+        tasks: own_of(Resource::Tasks) + tops.tasks.greatest as u32,
+        scopes: own_of(Resource::Scopes) + tops.scopes.greatest as u32,
+        binds: own_of(Resource::Binds) + tops.binds.greatest as u32,
+    }
+}
+
 /// The budgets, found with rows of `N` sums, or `None` if one is over its limit.
 fn budgets_by<const N: usize>(
     alloc: Global,
@@ -317,27 +348,13 @@ fn budgets_by<const N: usize>(
         None => return Ok(None),
     };
     let places = source.code.len();
-    let steps = no_top(alloc, places)?;
-    let tasks = no_top(alloc, places)?;
-    let scopes = no_top(alloc, places)?;
-    let binds = no_top(alloc, places)?;
-    let mut tops = Tops {
-        steps,
-        tasks,
-        scopes,
-        binds,
-    };
+    let mut tops = no_tops(alloc, places)?;
     for pc in 0..places {
         if !tops.add(source, &tables, pc) {
             return Ok(None);
         }
     }
-    Ok(Some(Budgets {
-        steps: own_of(Resource::Steps) + tops.steps.greatest as u32,
-        tasks: own_of(Resource::Tasks) + tops.tasks.greatest as u32,
-        scopes: own_of(Resource::Scopes) + tops.scopes.greatest as u32,
-        binds: own_of(Resource::Binds) + tops.binds.greatest as u32,
-    }))
+    Ok(Some(budgets_of(&tops)))
 }
 
 /// The budgets of a function in which entries open, or `None` if one is over its limit. The rows

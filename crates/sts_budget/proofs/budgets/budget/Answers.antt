@@ -1,10 +1,9 @@
-use Rattle.std.proofs.Common.{◌-◌, ◌∙◌, Ok, Err, ap, sym}
-use Rattle.sts_budget.specs.Change.{limit_of, own_of}
+use Rattle.std.proofs.Common.{subst}
 use Rattle.sts_code.specs.Program.{routine}
 use Rattle.sts_budget.specs.declared.change.Resource.TheVariants.{Steps, Tasks, Scopes, Binds}
+use Rattle.sts_budget.specs.Outcome.{IsFound}
 use Rattle.sts_budget.proofs.ReadyLemmas.{is_ready}
-use Rattle.sts_budget.proofs.Found.{before_steps, before_tasks, before_scopes, before_binds}
-use Rattle.sts_budget.proofs.Found.{found_error, found_all, as_ready, as_number}
+use Rattle.sts_budget.proofs.Found.{found_all}
 use Rattle.sts_budget.proofs.budgets.budget.Goals as goal
 
 pub quick_budgets-requires : goal.quick_budgets-requires
@@ -15,41 +14,8 @@ returns-in-Some c =
     let found = rw c.in-Some.is at (c.in_ok-budgets.ensures {u = tt}) in
     found_all c.args.earlier.now c.code_of-code.result.now (routine c.args.program.now c.args.function).code c.code_of-code.ensures.value c.in-Some.budgets.steps c.in-Some.budgets.tasks c.in-Some.budgets.scopes c.in-Some.budgets.binds (found Steps) (found Tasks) (found Scopes) (found Binds)
 
-pub budget_of-requires : goal.budget_of-requires
-budget_of-requires c = record {
-  ready = as_ready _ c.args.earlier.now _ c.code_of-code.result.now _ c.in_ok-layout.layout c.pass_of.ensures.earlier c.pass_of.ensures.code c.pass_of.ensures.layout (is_ready c.args.program.now c.args.function c.args.earlier.now c.code_of-code.result.now c.in_ok-layout.layout c.code_of-code.ensures.checked c.requires.in_program c.requires.typed c.requires.long c.code_of-code.ensures.value (c.in_ok-layout.ensures {u = tt}));
-  most = c.pass_of.ensures.most ∙ ap (λ r. limit_of r - own_of r) (sym c.pass_of.ensures.resource);
-}
-
-pub budget_of-requires-2 : goal.budget_of-requires-2
-budget_of-requires-2 c = record {
-  ready = as_ready _ c.args.earlier.now _ c.code_of-code.result.now _ c.in_ok-layout.layout c.pass_of-2.ensures.earlier c.pass_of-2.ensures.code c.pass_of-2.ensures.layout (is_ready c.args.program.now c.args.function c.args.earlier.now c.code_of-code.result.now c.in_ok-layout.layout c.code_of-code.ensures.checked c.requires.in_program c.requires.typed c.requires.long c.code_of-code.ensures.value (c.in_ok-layout.ensures {u = tt}));
-  most = c.pass_of-2.ensures.most ∙ ap (λ r. limit_of r - own_of r) (sym c.pass_of-2.ensures.resource);
-}
-
-pub budget_of-requires-3 : goal.budget_of-requires-3
-budget_of-requires-3 c = record {
-  ready = as_ready _ c.args.earlier.now _ c.code_of-code.result.now _ c.in_ok-layout.layout c.pass_of-3.ensures.earlier c.pass_of-3.ensures.code c.pass_of-3.ensures.layout (is_ready c.args.program.now c.args.function c.args.earlier.now c.code_of-code.result.now c.in_ok-layout.layout c.code_of-code.ensures.checked c.requires.in_program c.requires.typed c.requires.long c.code_of-code.ensures.value (c.in_ok-layout.ensures {u = tt}));
-  most = c.pass_of-3.ensures.most ∙ ap (λ r. limit_of r - own_of r) (sym c.pass_of-3.ensures.resource);
-}
-
-pub budget_of-requires-4 : goal.budget_of-requires-4
-budget_of-requires-4 c = record {
-  ready = as_ready _ c.args.earlier.now _ c.code_of-code.result.now _ c.in_ok-layout.layout c.pass_of-4.ensures.earlier c.pass_of-4.ensures.code c.pass_of-4.ensures.layout (is_ready c.args.program.now c.args.function c.args.earlier.now c.code_of-code.result.now c.in_ok-layout.layout c.code_of-code.ensures.checked c.requires.in_program c.requires.typed c.requires.long c.code_of-code.ensures.value (c.in_ok-layout.ensures {u = tt}));
-  most = c.pass_of-4.ensures.most ∙ ap (λ r. limit_of r - own_of r) (sym c.pass_of-4.ensures.resource);
-}
-
-pub returns-in_err-steps : goal.returns-in_err-steps
-returns-in_err-steps c = found_error Steps c.args.earlier.now c.code_of-code.result.now (routine c.args.program.now c.args.function).code c.code_of-code.ensures.value (before_steps c.args.earlier.now c.code_of-code.result.now) c.in_err-steps.field-0.0 (as_number _ Steps _ c.args.earlier.now _ c.code_of-code.result.now (Err c.in_err-steps.field-0.0) c.pass_of.ensures.resource c.pass_of.ensures.earlier c.pass_of.ensures.code (c.in_err-steps.ensures {u = tt})) c.from_residual-in_err-steps.result c.from_residual-in_err-steps.ensures.1
-
-pub returns-in_err-tasks : goal.returns-in_err-tasks
-returns-in_err-tasks c = found_error Tasks c.args.earlier.now c.code_of-code.result.now (routine c.args.program.now c.args.function).code c.code_of-code.ensures.value (before_tasks c.args.earlier.now c.code_of-code.result.now c.in_ok-steps.steps (as_number _ Steps _ c.args.earlier.now _ c.code_of-code.result.now (Ok c.in_ok-steps.steps) c.pass_of.ensures.resource c.pass_of.ensures.earlier c.pass_of.ensures.code (c.in_ok-steps.ensures {u = tt}))) c.in_err-tasks.field-0.0 (as_number _ Tasks _ c.args.earlier.now _ c.code_of-code.result.now (Err c.in_err-tasks.field-0.0) c.pass_of-2.ensures.resource c.pass_of-2.ensures.earlier c.pass_of-2.ensures.code (c.in_err-tasks.ensures {u = tt})) c.from_residual-in_err-tasks.result c.from_residual-in_err-tasks.ensures.1
-
-pub returns-in_err-scopes : goal.returns-in_err-scopes
-returns-in_err-scopes c = found_error Scopes c.args.earlier.now c.code_of-code.result.now (routine c.args.program.now c.args.function).code c.code_of-code.ensures.value (before_scopes c.args.earlier.now c.code_of-code.result.now c.in_ok-steps.steps c.in_ok-tasks.tasks (as_number _ Steps _ c.args.earlier.now _ c.code_of-code.result.now (Ok c.in_ok-steps.steps) c.pass_of.ensures.resource c.pass_of.ensures.earlier c.pass_of.ensures.code (c.in_ok-steps.ensures {u = tt})) (as_number _ Tasks _ c.args.earlier.now _ c.code_of-code.result.now (Ok c.in_ok-tasks.tasks) c.pass_of-2.ensures.resource c.pass_of-2.ensures.earlier c.pass_of-2.ensures.code (c.in_ok-tasks.ensures {u = tt}))) c.in_err-scopes.field-0.0 (as_number _ Scopes _ c.args.earlier.now _ c.code_of-code.result.now (Err c.in_err-scopes.field-0.0) c.pass_of-3.ensures.resource c.pass_of-3.ensures.earlier c.pass_of-3.ensures.code (c.in_err-scopes.ensures {u = tt})) c.from_residual-in_err-scopes.result c.from_residual-in_err-scopes.ensures.1
-
-pub returns-in_err-binds : goal.returns-in_err-binds
-returns-in_err-binds c = found_error Binds c.args.earlier.now c.code_of-code.result.now (routine c.args.program.now c.args.function).code c.code_of-code.ensures.value (before_binds c.args.earlier.now c.code_of-code.result.now c.in_ok-steps.steps c.in_ok-tasks.tasks c.in_ok-scopes.scopes (as_number _ Steps _ c.args.earlier.now _ c.code_of-code.result.now (Ok c.in_ok-steps.steps) c.pass_of.ensures.resource c.pass_of.ensures.earlier c.pass_of.ensures.code (c.in_ok-steps.ensures {u = tt})) (as_number _ Tasks _ c.args.earlier.now _ c.code_of-code.result.now (Ok c.in_ok-tasks.tasks) c.pass_of-2.ensures.resource c.pass_of-2.ensures.earlier c.pass_of-2.ensures.code (c.in_ok-tasks.ensures {u = tt})) (as_number _ Scopes _ c.args.earlier.now _ c.code_of-code.result.now (Ok c.in_ok-scopes.scopes) c.pass_of-3.ensures.resource c.pass_of-3.ensures.earlier c.pass_of-3.ensures.code (c.in_ok-scopes.ensures {u = tt}))) c.in_err-binds.field-0.0 (as_number _ Binds _ c.args.earlier.now _ c.code_of-code.result.now (Err c.in_err-binds.field-0.0) c.pass_of-4.ensures.resource c.pass_of-4.ensures.earlier c.pass_of-4.ensures.code (c.in_err-binds.ensures {u = tt})) c.from_residual-in_err-binds.result c.from_residual-in_err-binds.ensures.1
+pub budgets_in_turn-requires : goal.budgets_in_turn-requires
+budgets_in_turn-requires c = is_ready c.args.program.now c.args.function c.args.earlier.now c.code_of-code.result.now c.in_ok-layout.layout c.code_of-code.ensures.checked c.requires.in_program c.requires.typed c.requires.long c.code_of-code.ensures.value (c.in_ok-layout.ensures {u = tt})
 
 pub returns : goal.returns
-returns c = found_all c.args.earlier.now c.code_of-code.result.now (routine c.args.program.now c.args.function).code c.code_of-code.ensures.value c.in_ok-steps.steps c.in_ok-tasks.tasks c.in_ok-scopes.scopes c.in_ok-binds.binds (as_number _ Steps _ c.args.earlier.now _ c.code_of-code.result.now (Ok c.in_ok-steps.steps) c.pass_of.ensures.resource c.pass_of.ensures.earlier c.pass_of.ensures.code (c.in_ok-steps.ensures {u = tt})) (as_number _ Tasks _ c.args.earlier.now _ c.code_of-code.result.now (Ok c.in_ok-tasks.tasks) c.pass_of-2.ensures.resource c.pass_of-2.ensures.earlier c.pass_of-2.ensures.code (c.in_ok-tasks.ensures {u = tt})) (as_number _ Scopes _ c.args.earlier.now _ c.code_of-code.result.now (Ok c.in_ok-scopes.scopes) c.pass_of-3.ensures.resource c.pass_of-3.ensures.earlier c.pass_of-3.ensures.code (c.in_ok-scopes.ensures {u = tt})) (as_number _ Binds _ c.args.earlier.now _ c.code_of-code.result.now (Ok c.in_ok-binds.binds) c.pass_of-4.ensures.resource c.pass_of-4.ensures.earlier c.pass_of-4.ensures.code (c.in_ok-binds.ensures {u = tt}))
+returns c = subst (λ code. IsFound c.args.earlier.now code c.budgets_in_turn.result) c.code_of-code.ensures.value c.budgets_in_turn.ensures

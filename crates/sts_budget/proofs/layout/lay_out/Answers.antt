@@ -1,4 +1,4 @@
-use Rattle.std.proofs.Common.{◌≡◌, ◌<◌, ℕ, [], ◌∷◌, ◌++◌, None, pos, get_or, length, refl, sym, ap}
+use Rattle.std.proofs.Common.{rules, ◌≡◌, ◌<◌, ℕ, [], ◌∷◌, ◌++◌, None, pos, get_or, length, refl, sym, ap}
 use Rattle.std.proofs.Common.{◌∙◌, subst, arith}
 use Rattle.std.proofs.lemmas.List.{length-map}
 use Rattle.sts_code.specs.declared.instr.Instr.TheVariants.{Push}
@@ -84,3 +84,15 @@ pub overflow_cast-pc-in-loop-pc : goal.overflow_cast-pc-in-loop-pc
 overflow_cast-pc-in-loop-pc c =
     let s : Stage c.args.program.now c.args.function c.loop-pc.pc c.code_of-code.result.now c.loop-pc.heads.items c.loop-pc.mates.items (listed c.loop-pc.lists.items c.loop-pc.which.items) = record { fine = c.code_of-code.ensures.checked; in_program = c.requires.in_program; typed = c.requires.typed; code_is = c.code_of-code.ensures.value; within = c.loop-pc-test.true; laid = c.loop-pc.invariant.0 } in
     let lt = short s in omega arith
+
+pub index-requires : goal.index-requires
+index-requires c =
+    let s : Stage c.args.program.now c.args.function c.loop-pc.pc c.code_of-code.result.now c.loop-pc.heads.items c.loop-pc.mates.items (listed c.loop-pc.lists.items c.loop-pc.which.items) = record { fine = c.code_of-code.ensures.checked; in_program = c.requires.in_program; typed = c.requires.typed; code_is = c.code_of-code.ensures.value; within = c.loop-pc-test.true; laid = c.loop-pc.invariant.0 } in
+    let lt : c.loop-pc.pc < length c.loop-pc.which.items = omega (arith, inside_of s, c.loop-pc.invariant.0.names_long, length-map c.loop-pc.which.items (λ i. get_or c.loop-pc.lists.items i [])) in
+    search (rules, lt)
+
+pub list_after-requires-clause-listed : goal.list_after-requires-clause-listed
+list_after-requires-clause-listed c =
+    let s : Stage c.args.program.now c.args.function c.loop-pc.pc c.code_of-code.result.now c.loop-pc.heads.items c.loop-pc.mates.items (listed c.loop-pc.lists.items c.loop-pc.which.items) = record { fine = c.code_of-code.ensures.checked; in_program = c.requires.in_program; typed = c.requires.typed; code_is = c.code_of-code.ensures.value; within = c.loop-pc-test.true; laid = c.loop-pc.invariant.0 } in
+    let lt : c.loop-pc.pc < length c.loop-pc.which.items = omega (arith, inside_of s, c.loop-pc.invariant.0.names_long, length-map c.loop-pc.which.items (λ i. get_or c.loop-pc.lists.items i [])) in
+    subst (λ k. k < length c.loop-pc.lists.items) (sym (c.index.ensures ∙ any_default c.loop-pc.which.items c.loop-pc.pc _ 0 lt)) (c.loop-pc.invariant.1 c.loop-pc.pc)
