@@ -1,11 +1,11 @@
-use Rattle.std.proofs.Common.{◌≡◌, ◌≤◌, ◌+◌, ◌-◌, length, sym, subst, arith, ap, ◌∙◌, None}
+use Rattle.std.proofs.Common.{rules, ◌≡◌, ◌<◌, ◌≤◌, ◌+◌, ◌-◌, length, sym, subst, arith, ap, ◌∙◌, None}
 use Rattle.sts_rules.specs.Budget.{skeleton}
 use Rattle.sts_budget.specs.Change.{own_of, limit_of, depth_of}
 use Rattle.sts_budget.specs.Last.{IsTop, IsTopped}
 use Rattle.sts_budget.specs.Ready.{flows_in}
 use Rattle.sts_budget.specs.Table.{IsPartial}
 use Rattle.sts_budget.proofs.LaidStepLemmas.{any_default}
-use Rattle.sts_budget.proofs.LastTurns.{exceeds, bases_none, top_none, finished, own_within}
+use Rattle.sts_budget.proofs.LastTurns.{exceeds, bases_none, top_none, finished, own_within, limit_small}
 use Rattle.sts_budget.proofs.greatest.greatest_by.Goals as goal
 
 pub returns-in-None : goal.returns-in-None
@@ -42,3 +42,14 @@ returns g c =
     let most_is : c.args.pass.now.most ≡ limit_of c.args.pass.now.resource - own_of c.args.pass.now.resource = c.requires.most in
     let le : c.own_of.result + c.loop-pc.top.greatest ≤ limit_of c.args.pass.now.resource = omega (arith, c.own_of.ensures, c.loop-pc.invariant.2, most_is, own_within c.args.pass.now.resource) in
     (rw c.own_of.ensures t, le)
+
+pub index-head-requires : goal.index-head-requires
+index-head-requires g c =
+    let lt : c.loop-pc.pc < length c.args.pass.now.layout.now.heads.items = omega (arith, c.requires.ready.heads_long, c.loop-pc-test.true) in
+    search (rules, lt)
+
+pub overflow_cast-result : goal.overflow_cast-result
+overflow_cast-result g c = omega (arith, c.loop-pc.invariant.2, c.requires.most, limit_small c.args.pass.now.resource)
+
+pub overflow_add-result : goal.overflow_add-result
+overflow_add-result g c = omega (arith, c.loop-pc.invariant.2, c.requires.most, c.own_of.ensures, own_within c.args.pass.now.resource, limit_small c.args.pass.now.resource)

@@ -1,14 +1,15 @@
-use Rattle.std.proofs.Common.{◌≡◌, ◌<◌, ℕ, length, get_or, min, sym, ap, ◌∙◌, subst}
+use Rattle.std.proofs.Common.{◌≡◌, ◌<◌, ℕ, pos, length, get_or, min, sym, ap, ◌∙◌, subst}
 use Rattle.std.proofs.Common.{arith, ◌++◌}
 use Rattle.sts_rules.specs.Around.{next_place}
 use Rattle.sts_code.specs.Program.{instr_at}
+use Rattle.sts_code.specs.declared.instr.Instr.TheVariants.{Push, Ret}
 use Rattle.sts_code.specs.Facts.{targets}
 use Rattle.sts_budget.specs.Change.{depth_of}
-use Rattle.sts_budget.specs.Handing.{handed_value}
+use Rattle.sts_budget.specs.Handing.{handed_value, is_quiet}
 use Rattle.sts_budget.specs.Ready.{names_in}
 use Rattle.sts_budget.specs.Table.{read, IsSent, IsStopped}
-use Rattle.sts_budget.proofs.LaidStepLemmas.{among_at}
-use Rattle.sts_budget.proofs.HandOn.{not_quiet, sent_spread, stopped_over, leads_in}
+use Rattle.sts_budget.proofs.LaidStepLemmas.{among_at, any_default}
+use Rattle.sts_budget.proofs.HandOn.{quiet_spread, not_quiet, sent_spread, stopped_over, leads_in}
 use Rattle.sts_budget.proofs.LastTurns.{limit_small}
 use Rattle.sts_budget.proofs.pass.hand_on.Goals as goal
 
@@ -39,3 +40,8 @@ returns-clause-over g c = λ t.
     let values : (d : ℕ) → d < g.row.N → get_or c.values_of-values.result d 0 ≡ min (handed_value c.args.pass.now.resource c.args.pass.now.earlier.now c.args.pass.now.code.now c.args.pass.now.layout.now (read c.args.best.now.items) c.args.pc d) 18446744073709551615 = subst (λ rows. (d : ℕ) → d < g.row.N → get_or c.values_of-values.result d 0 ≡ min (handed_value c.args.pass.now.resource c.args.pass.now.earlier.now c.args.pass.now.code.now c.args.pass.now.layout.now (read rows) c.args.pc d) 18446744073709551615) c.as_slice.ensures.value c.values_of-values.ensures in
     let stopped = subst (λ ps. IsStopped c.values_of-values.result (λ q. depth_of c.args.pass.now.resource (names_in c.args.pass.now.layout.now q)) c.args.pass.now.most ps) places (c.send_on.ensures.over t) in
     stopped_over c.args.pass.now.resource c.args.pass.now.earlier.now c.args.pass.now.code.now c.args.pass.now.layout.now c.requires.ready g.row.N c.args.pc c.args.pass.now.most c.values_of-values.result c.args.best.now.items c.requires.fits c.requires.in_code quiet values stopped)
+
+pub returns-then-is_quiet-clause-spread : goal.returns-then-is_quiet-clause-spread
+returns-then-is_quiet-clause-spread g c = λ t.
+    (let at : get_or c.args.pass.now.code.now c.args.pc (Push (pos 0)) ≡ instr_at c.args.pass.now.code.now c.args.pc = any_default c.args.pass.now.code.now c.args.pc _ Ret c.requires.in_code in
+    quiet_spread c.args.pass.now.resource c.args.pass.now.earlier.now c.args.pass.now.code.now c.args.pass.now.layout.now c.requires.ready c.args.pc c.args.best.now.items (sym (ap is_quiet at) ∙ sym c.is_quiet.ensures ∙ c.if-is_quiet.true))

@@ -1,4 +1,4 @@
-use Rattle.std.proofs.Common.{◌+◌, ◌∙◌, None, length, refl, sym, ap, arith}
+use Rattle.std.proofs.Common.{rules, ◌+◌, ◌<◌, ◌∙◌, None, length, refl, sym, ap, arith}
 use Rattle.sts_budget.specs.declared.change.Resource.TheVariants.{Steps, Tasks, Scopes, Binds}
 use Rattle.sts_budget.specs.Together.{most}
 use Rattle.sts_budget.proofs.LaidStepLemmas.{any_default}
@@ -23,3 +23,11 @@ returns g c = λ yes. each _
     (renamed Tasks c.args.source.now.earlier.now c.args.source.now.code.now c.args.source.now.layout.now _ c.args.tables.now.tasks.items c.as_slice-2.ensures.value (c.args.pc + 1) c.add_place-2.new.top _ (most Tasks) c.most_of-2.ensures (c.add_place-2.ensures.next c.if-not-add_place-2.false))
     (renamed Scopes c.args.source.now.earlier.now c.args.source.now.code.now c.args.source.now.layout.now _ c.args.tables.now.scopes.items c.as_slice-3.ensures.value (c.args.pc + 1) c.add_place-3.new.top _ (most Scopes) c.most_of-3.ensures (c.add_place-3.ensures.next c.if-not-add_place-3.false))
     (renamed Binds c.args.source.now.earlier.now c.args.source.now.code.now c.args.source.now.layout.now _ c.args.tables.now.binds.items c.as_slice-4.ensures.value (c.args.pc + 1) c.add_place-4.new.top _ (most Binds) c.most_of-4.ensures (c.add_place-4.ensures.next yes))
+
+pub index-head-requires : goal.index-head-requires
+index-head-requires g c =
+    let lt : c.args.pc < length c.args.source.now.layout.now.heads.items = omega (arith, c.requires.ready.heads_long, c.requires.in_code) in
+    search (rules, lt)
+
+pub names_at-requires : goal.names_at-requires
+names_at-requires g c = record { in_code = omega (arith, c.requires.ready.which_long, c.requires.in_code); listed = c.requires.ready.listed }
