@@ -1,2 +1,3 @@
 pub mod LoopLemmas
 pub mod LocalsLemmas
+pub mod FillLemmas
