@@ -6,7 +6,7 @@ ghost use Rattle.sts_code.specs.Facts.{is_await_all};
 ghost use Rattle.sts_model.specs.Local as frames;
 ghost use Rattle.sts_model.specs.Told.{result_told};
 ghost use Rattle.sts_model.specs.declared.event.Phase.TheVariants.{Attempted};
-ghost use Rattle.laws_live.specs.Effect.{live_join, live_joined};
+ghost use Rattle.laws_live.specs.Effect.{live_join, live_joined, live_verdict};
 ghost use Rattle.laws_live.specs.Reading.{live_any_lives, live_count, live_scope_at, lives_in};
 ghost use Rattle.laws_live.specs.Reading.{scope_in, with_alive, with_live_phase};
 ghost use Rattle.sts_store.specs.Parts.{frame_of, live_of, unseen_of};
@@ -113,6 +113,28 @@ impl Store {
         self.leave_join(t, to);
     }
 
+    /// Takes the joiner's result: the place to go to, and the operand to push, if there is one.
+    #[inline(always)]
+    fn take_result(&mut self, t: u32, s: u32, failed: u32)
+        requires lives { lives_in (live_of self.old) t ≡ true }
+        requires stands { is_some (scope_in (live_of self.old) s) ≡ true }
+        requires more { (frame_of self.old t).pc + 1 < 2 ^ 32 }
+        requires room { (nat_le 32 (length (frame_of self.old t).operands)
+            && not (is_await_all (live_scope_at (live_of self.old) s).joiner)) ≡ false }
+        ensures live { live_of self.new ≡ live_verdict
+            (result_told (live_scope_at (live_of self.old) s).joiner
+                (live_scope_at (live_of self.old) s).told (live_count (live_of self.old) s))
+            (live_of self.old) t s (frame_of self.old t) failed }
+        ensures unseen { unseen_of self.new ≡ unseen_of self.old }
+    {
+        let next = self.frame(t).pc + 1;
+        match self.verdict(s) {
+            Verdict::Ok(None) => self.joined(t, s, next),
+            Verdict::Ok(Some(value)) => self.joined_with(t, s, next, value),
+            Verdict::Failed(code) => self.joined_with(t, s, failed, code),
+        }
+    }
+
     /// Takes the answer of `join`, once there is one: the place to go to, and the operands to push.
     pub fn join(&mut self, t: u32, s: u32, failed: u32, timeout: u32, interrupted: u32)
         requires lives { lives_in (live_of self.old) t ≡ true }
@@ -127,12 +149,7 @@ impl Store {
         if self.expired(s) {
             self.joined(t, s, timeout);
         } else if self.has_result(s) {
-            let next = self.frame(t).pc + 1;
-            match self.verdict(s) {
-                Verdict::Ok(None) => self.joined(t, s, next),
-                Verdict::Ok(Some(value)) => self.joined_with(t, s, next, value),
-                Verdict::Failed(code) => self.joined_with(t, s, failed, code),
-            }
+            self.take_result(t, s, failed);
         } else {
             self.attempted(t, s, interrupted);
         }

@@ -2,7 +2,7 @@
 
 ghost use Rattle.std.specs.Prelude.{◌≡◌, ◌<◌, ◌≤◌, ◌-◌, ◌∷◌, ℕ, [], Some, IfOk};
 ghost use Rattle.sts_code.specs.declared.limits.TheConstants.{MAX_STANDING};
-ghost use Rattle.sts_store.specs.Parts.{live_of, root_alone, unseen_of};
+ghost use Rattle.sts_store.specs.Parts.{live_of, no_running, root_alone, unseen_of};
 ghost use Rattle.sts_model.specs.declared.event.Stand.TheVariants.{Free};
 
 use crate::running::Running;
@@ -52,6 +52,22 @@ impl Model for Store {
     }) };
 }
 
+/// The root task alone, at this frame, with nothing bound, and room for the other tasks.
+///
+/// # Errors
+///
+/// Memory ran out.
+fn root_frames(alloc: Global, tasks: u32, frame: Frame) -> Result<Held<Running>, AllocError>
+    requires { 0 < tasks }
+    ensures slots { IfOk result (λ h. h.slots ≡ Some (record no_running { frame = frame }) ∷ []) }
+    ensures room { IfOk result (λ h. h.room ≡ tasks - 1) }
+{
+    let mut frames = Held::with_room(alloc, tasks)?;
+    let env = Env::empty();
+    frames.push(Running { frame, env });
+    Ok(frames)
+}
+
 impl Store {
     /// The root task alone, at this frame, with nothing bound, and this much room. No later call
     /// can answer that memory ran out.
@@ -74,11 +90,9 @@ impl Store {
           binding_room = room.bindings;
         })) }
     {
-        let tree = Tree::with_room(alloc, room.tasks, room.scopes)?;
-        let mut frames = Held::with_room(alloc, room.tasks)?;
         let chains = Chains::with_room(alloc, room.bindings)?;
-        let env = Env::empty();
-        frames.push(Running { frame, env });
+        let frames = root_frames(alloc, room.tasks, frame)?;
+        let tree = Tree::with_room(alloc, room.tasks, room.scopes)?;
         Ok(Store {
             tree,
             frames,

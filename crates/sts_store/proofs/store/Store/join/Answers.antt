@@ -1,10 +1,4 @@
-use Rattle.std.proofs.Common.{[], ◌∷◌, sym, ◌∙◌, ap, ◌+◌, w64, rules}
-use mir.Val.{SFits}
-use Rattle.std.proofs.lemmas.Int.{to_z-of_z}
-use Rattle.sts_model.specs.declared.event.Verdict.TheVariants as verdict
-use Rattle.sts_model.specs.declared.record.Frame.{Frame}
-use Rattle.sts_model.specs.Local.{goes}
-use Rattle.laws_live.specs.Effect.{live_joined, live_verdict}
+use Rattle.std.proofs.Common.{sym, ◌∙◌}
 use Rattle.sts_store.specs.Parts.{live_of, frame_of}
 use Rattle.sts_store.proofs.Phases.{join_expired, join_told, join_waits}
 use Rattle.sts_store.proofs.store.Store.join.Goals as goal
@@ -15,38 +9,14 @@ returns-then-expired-clause-live c =
     c.joined.ensures.live
     ∙ sym (join_expired (live_of now) c.args.t (frame_of now c.args.t) c.args.s c.args.failed c.args.timeout c.args.interrupted (sym c.expired.ensures ∙ c.if-expired.true))
 
+pub returns-then-has_result-clause-live : goal.returns-then-has_result-clause-live
+returns-then-has_result-clause-live c =
+    let now = c.args.self.now in
+    c.take_result.ensures.live
+    ∙ sym (join_told (live_of now) c.args.t (frame_of now c.args.t) c.args.s c.args.failed c.args.timeout c.args.interrupted (sym c.expired.ensures ∙ c.if-expired.false) (sym c.has_result.ensures ∙ c.if-has_result.true))
+
 pub returns-else-has_result-clause-live : goal.returns-else-has_result-clause-live
 returns-else-has_result-clause-live c =
     let now = c.args.self.now in
     c.attempted.ensures.live
     ∙ sym (join_waits (live_of now) c.args.t (frame_of now c.args.t) c.args.s c.args.failed c.args.timeout c.args.interrupted (sym c.expired.ensures ∙ c.if-expired.false) (sym c.has_result.ensures ∙ c.if-has_result.false))
-
-pub returns-in-Ok-None-clause-live : goal.returns-in-Ok-None-clause-live
-returns-in-Ok-None-clause-live c =
-    let now = c.args.self.now in
-    let f = frame_of now c.args.t in
-    c.joined-in-Ok-None.ensures.live
-    ∙ ap (λ (g : Frame). live_joined (live_of now) c.args.t c.args.s (goes f (g.pc + 1) 0 [])) c.frame.ensures
-    ∙ sym (join_told (live_of now) c.args.t f c.args.s c.args.failed c.args.timeout c.args.interrupted (sym c.expired.ensures ∙ c.if-expired.false) (sym c.has_result.ensures ∙ c.if-has_result.true)
-    ∙ ap (λ q. live_verdict q (live_of now) c.args.t c.args.s f c.args.failed) (sym c.verdict.ensures ∙ c.in-Ok-None.is ∙ ap verdict.Ok c.in-Ok-None.field-0-is))
-
-pub returns-in-Ok-Some-clause-live : goal.returns-in-Ok-Some-clause-live
-returns-in-Ok-Some-clause-live c =
-    let now = c.args.self.now in
-    let f = frame_of now c.args.t in
-    let fits : SFits w64 c.in-Ok-Some.value = search rules in
-    c.joined_with.ensures.live
-    ∙ ap (λ n. live_joined (live_of now) c.args.t c.args.s (goes f (c.frame.result.now.pc + 1) 0 (n ∷ []))) (to_z-of_z w64 c.in-Ok-Some.value fits)
-    ∙ ap (λ (g : Frame). live_joined (live_of now) c.args.t c.args.s (goes f (g.pc + 1) 0 (c.in-Ok-Some.value ∷ []))) c.frame.ensures
-    ∙ sym (join_told (live_of now) c.args.t f c.args.s c.args.failed c.args.timeout c.args.interrupted (sym c.expired.ensures ∙ c.if-expired.false) (sym c.has_result.ensures ∙ c.if-has_result.true)
-    ∙ ap (λ q. live_verdict q (live_of now) c.args.t c.args.s f c.args.failed) (sym c.verdict.ensures ∙ c.in-Ok-Some.is ∙ ap verdict.Ok c.in-Ok-Some.field-0-is))
-
-pub returns-in-Failed-clause-live : goal.returns-in-Failed-clause-live
-returns-in-Failed-clause-live c =
-    let now = c.args.self.now in
-    let f = frame_of now c.args.t in
-    let fits : SFits w64 c.in-Failed.code = search rules in
-    c.joined_with-in-Failed.ensures.live
-    ∙ ap (λ n. live_joined (live_of now) c.args.t c.args.s (goes f c.args.failed 0 (n ∷ []))) (to_z-of_z w64 c.in-Failed.code fits)
-    ∙ sym (join_told (live_of now) c.args.t f c.args.s c.args.failed c.args.timeout c.args.interrupted (sym c.expired.ensures ∙ c.if-expired.false) (sym c.has_result.ensures ∙ c.if-has_result.true)
-    ∙ ap (λ q. live_verdict q (live_of now) c.args.t c.args.s f c.args.failed) (sym c.verdict.ensures ∙ c.in-Failed.is))
