@@ -87,6 +87,10 @@ tally_is m s c U e =
     sym (ap (λ n. n - ((live_scope_at (live_of m) s).told.successes + (live_scope_at (live_of m) s).told.failures)) (words.count_is (beside m) m.tree s)
     ∙ ap (λ (x : LiveScope). length (births (is_of s) 0 m.tree.tasks) - (x.told.successes + x.told.failures)) (scope_there (beside m) m.tree s c e))
 
+-- the scope that was looked up, if there is one
+pub scope_found : (m : Parts) (s : ℕ) (o : Option (ScopeNode Env)) → o ≡ get_or m.tree.scopes s None → live_scope_at (live_of m) s ≡ unwrap_or (option_map (scope_seen (beside m)) o) no_live_scope
+scope_found m s o e = ap (λ q. unwrap_or q no_live_scope) (scope_is (beside m) m.tree s ∙ ap (option_map (scope_seen (beside m))) (sym e))
+
 pub total_is : (m : Parts) (s : ℕ) (c : ScopeNode Env) → get_or m.tree.scopes s None ≡ Some c → (live_scope_at (live_of m) s).told.total ≡ c.tally.told.total
 total_is m s c e = ap (λ (x : LiveScope). x.told.total) (scope_there (beside m) m.tree s c e)
 

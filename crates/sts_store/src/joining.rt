@@ -123,7 +123,7 @@ impl Store {
             && not (is_await_all (live_scope_at (live_of self.old) s).joiner)) ≡ false }
         ensures live { live_of self.new ≡ live_verdict
             (result_told (live_scope_at (live_of self.old) s).joiner
-                (live_scope_at (live_of self.old) s).told (live_count (live_of self.old) s))
+            (live_scope_at (live_of self.old) s).told (live_count (live_of self.old) s))
             (live_of self.old) t s (frame_of self.old t) failed }
         ensures unseen { unseen_of self.new ≡ unseen_of self.old }
     {

@@ -1,4 +1,4 @@
-use Rattle.std.proofs.Common.{◌≡◌, ◌<◌, ◌≤◌, ◌+◌, ◌-◌, ◌^◌, [], ◌∷◌, ◌++◌, Bool, true, false, Some, refl, sym, ◌∙◌, ap, subst, length, not, arith, cond, take}
+use Rattle.std.proofs.Common.{◌≡◌, ◌<◌, ◌≤◌, ◌+◌, ◌-◌, ◌^◌, [], ◌∷◌, ◌++◌, Bool, true, false, Some, refl, sym, ◌∙◌, ap, subst, length, not, arith, cond, take, rules}
 use Rattle.std.specs.Prelude.{reverse, is_some}
 use Rattle.sts_code.specs.Program.{routine}
 use Rattle.sts_model.specs.Effect.{forked}
@@ -150,3 +150,43 @@ returns-clause-unseen c =
           ∙ ap (λ n. record (unseen_of m) { stands = (unseen_of m).stands ++ Some Free ∷ []; task_keys = m.tree.task_keys ++ key ∷ []; task_room = m.tree.task_room - 1; frame_room = n }) room
           ∙ ap (λ (n : Parts). record (unseen_of n) { stands = (unseen_of n).stands ++ Some Free ∷ []; task_keys = n.tree.task_keys ++ key ∷ []; task_room = n.tree.task_room - 1; frame_room = cond (live_scope_at (live_of n) s).cancelled n.frames.room (n.frames.room - 1) }) c.self.view_is,
     )
+
+pub args-args-requires : goal.args-args-requires
+args-args-requires c = search rules
+
+pub entry_frame-frame-requires-clause-few : goal.entry_frame-frame-requires-clause-few
+entry_frame-frame-requires-clause-few c = search rules
+
+pub add_subtask-child-requires-clause-room : goal.add_subtask-child-requires-clause-room
+add_subtask-child-requires-clause-room c = search rules
+
+pub place-requires-clause-room : goal.place-requires-clause-room
+place-requires-clause-room c = search rules
+
+pub overflow_cast-args : goal.overflow_cast-args
+overflow_cast-args c = search rules
+
+pub env-env-requires : goal.env-env-requires
+env-env-requires c = λ none.
+    let m = the_view c.self.inside in
+    let p = scope_stands m c.args.s (subst (λ n. is_some (scope_in (live_of n) c.args.s) ≡ true) (sym c.self.view_is) c.requires.stands) in
+    let never = sym p.1 ∙ none in
+    cc
+
+pub add_subtask-child-requires-clause-stands : goal.add_subtask-child-requires-clause-stands
+add_subtask-child-requires-clause-stands c = λ none.
+    let m = the_view c.self.inside in
+    let p = scope_stands m c.args.s (subst (λ n. is_some (scope_in (live_of n) c.args.s) ≡ true) (sym c.self.view_is) c.requires.stands) in
+    let never = sym p.1 ∙ none in
+    cc
+
+pub at-requires : goal.at-requires
+at-requires c = λ none.
+    let m = the_view c.self.inside in
+    let p = scope_stands m c.args.s (subst (λ n. is_some (scope_in (live_of n) c.args.s) ≡ true) (sym c.self.view_is) c.requires.stands) in
+    let l = living m c.args.self.now c.self.invariant c.self.view_is c.args.t c.requires.lives in
+    let child : Running = record { frame = c.entry_frame-frame.result; env = c.env-env.result.now } in
+    let slots = c.place.ensures.slots ∙ ap (λ b. m.frames.slots ++ born_if b child ∷ []) (c.add_subtask-child.ensures.lives p.0 p.1) in
+    let there = still_there m c.self.invariant (subst (λ n. InOrder (live_of n)) (sym c.self.view_is) c.requires.order) c.args.t c.args.s p.0 p.1 child c.add_subtask-child.new.self.task_keys (m.tree.task_room - 1) c.place.new.frames slots l c.add_subtask-child.new.self (c.add_subtask-child.ensures.added p.0 p.1) in
+    let never = sym there ∙ none in
+    cc
