@@ -35,20 +35,24 @@ life_is (Some task) = refl
 pub lives_quiet : (v x : Live) (i : ℕ) → IsQuiet v x → lives_in x i ≡ lives_in v i
 lives_quiet v x i h = life_is (task_in x i) ∙ (h.tasks i).living ∙ sym (life_is (task_in v i))
 
--- a task lives if and only if it lives at another frame
-pub lives_written : (v : Live) (t : ℕ) (f : Frame) (i : ℕ) → lives_in (with_live_frame v t f) i ≡ lives_in v i
-lives_written v t f i = at_set (λ o. is_some (unwrap_or o no_live_task).alive ≡ lives_in v i) v.tasks t i (option_map over (task_in v t)) None (λ e. rw e (by (task_in v t))) refl
+-- a task lives if and only if it lives with another state of its own
+pub lives_changed : (v : Live) (t : ℕ) (change : Alive → Alive) (i : ℕ) → lives_in (with_alive v t change) i ≡ lives_in v i
+lives_changed v t change i = at_set (λ o. is_some (unwrap_or o no_live_task).alive ≡ lives_in v i) v.tasks t i (option_map over (task_in v t)) None (λ e. rw e (by (task_in v t))) refl
   where
     over : LiveTask → LiveTask
-    over task = record task { alive = option_map (λ (a : Alive). record a { frame = f }) task.alive }
+    over task = record task { alive = option_map change task.alive }
 
-    held : (o : Option Alive) → is_some (option_map (λ (a : Alive). record a { frame = f }) o) ≡ is_some o
+    held : (o : Option Alive) → is_some (option_map change o) ≡ is_some o
     held None = refl
     held (Some a) = refl
 
     by : (o : Option LiveTask) → is_some (unwrap_or (option_map over o) no_live_task).alive ≡ is_some (unwrap_or o no_live_task).alive
     by None = refl
     by (Some task) = held task.alive
+
+-- and at another frame
+pub lives_written : (v : Live) (t : ℕ) (f : Frame) (i : ℕ) → lives_in (with_live_frame v t f) i ≡ lives_in v i
+lives_written v t f i = lives_changed v t (λ alive. record alive { frame = f }) i
 
 -- a living task was born
 pub inside : (v : Live) (t : ℕ) → lives_in v t ≡ true → t < length v.tasks
@@ -274,6 +278,12 @@ forker_stands v u t lives same = let less = inside v t lives in ap (λ o. unwrap
 -- what it may have
 abbrev having : LiveTask → Option Alive → Option LiveTask
 having task alive = Some (record task { alive = alive })
+
+pub binder_lives : (v : Live) (t : ℕ) (f : Frame) (k : ℕ) → lives_in v t ≡ true → lives_in (live_bind v t f k) t ≡ true
+binder_lives v t f k lives = lives_changed v t _ t ∙ lives
+
+pub unbinder_lives : (v : Live) (t : ℕ) (f : Frame) → lives_in v t ≡ true → lives_in (live_unbind v t f) t ≡ true
+unbinder_lives v t f lives = lives_changed v t _ t ∙ lives
 
 module _ (v : Live) (t : ℕ) (l : Living v t) where
   lives_there : task_in v t ≡ having l.task (Some l.alive)

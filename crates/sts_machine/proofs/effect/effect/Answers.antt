@@ -1,14 +1,15 @@
-use Rattle.std.proofs.Common.{◌≡◌, ◌++◌, ◌∷◌, [], sym, ◌∙◌, ap, subst, rules, true, false, is_some, ℕ}
+use Rattle.std.proofs.Common.{◌≡◌, ◌++◌, ◌∷◌, [], sym, ◌∙◌, ap, subst, arith, rules, true, false, is_some, ℕ}
 use Rattle.sts_model.specs.declared.record.Frame.{Frame}
 use Rattle.sts_model.specs.Effect.{named}
 use Rattle.sts_model.specs.Misuse.{slot, innermost, is_entry_of, is_binding}
 use Rattle.sts_model.specs.Live.{Live}
+use Rattle.laws_live.specs.Effect.{live_effect, live_fork, live_close}
 use Rattle.laws_live.specs.Reading.{lives_in, scope_in}
 use Rattle.sts_store.specs.Parts.{Unseen, frame_of, live_of, stand_in, unseen_of}
 use Rattle.laws_live.specs.Fine.{IsLiveFine}
-use Rattle.sts_machine.specs.Changing.{may_wait}
+use Rattle.sts_machine.specs.Changing.{ends_task, may_wait}
 use Rattle.sts_machine.specs.Room.{HasRoomLeft}
-use Rattle.sts_machine.proofs.Changing.{as_are, changes-quiet, lives_quiet, living, opens, opener_lives, forks, forker_lives, forker_stands, unbinds, ends, ended_dead, none_bound}
+use Rattle.sts_machine.proofs.Changing.{as_are, changes-quiet, lives_quiet, living, opens, opener_lives, forks, forker_lives, forker_stands, binds, binder_lives, unbinds, unbinder_lives, ends, ended_dead, none_bound}
 use Rattle.sts_machine.proofs.Closing.{closes, closer_lives}
 use Rattle.sts_machine.proofs.Fine.{holds, scope_at, fork_own, close_stands, close_entry}
 use Rattle.sts_machine.proofs.Quiet.{quiet-effect}
@@ -149,3 +150,181 @@ pub returns-in-Fail-clause-ended : goal.returns-in-Fail-clause-ended
 returns-in-Fail-clause-ended c = λ e.
     ap (λ (x : Live). lives_in x c.args.t) c.end-in-Fail.ensures.live
     ∙ ended_dead (live_of c.args.store.now) c.args.t _ c.requires.lives
+
+pub returns-in-Open-clause-live : goal.returns-in-Open-clause-live
+returns-in-Open-clause-live c = c.open.ensures.live ∙ ap (live_effect c.args.program.now (live_of c.args.store.now) c.args.t (frame_of c.args.store.now c.args.t)) (sym c.in-Open.is)
+
+pub returns-in-Bind-clause-live : goal.returns-in-Bind-clause-live
+returns-in-Bind-clause-live c = c.bind.ensures.live ∙ ap (live_effect c.args.program.now (live_of c.args.store.now) c.args.t (frame_of c.args.store.now c.args.t)) (sym c.in-Bind.is)
+
+pub returns-in-Unbind-clause-live : goal.returns-in-Unbind-clause-live
+returns-in-Unbind-clause-live c = c.unbind.ensures.live ∙ ap (live_effect c.args.program.now (live_of c.args.store.now) c.args.t (frame_of c.args.store.now c.args.t)) (sym c.in-Unbind.is)
+
+pub returns-in-Fork-clause-live : goal.returns-in-Fork-clause-live
+returns-in-Fork-clause-live c =
+    let m = c.args.store.now in
+    let same = c.named-s.ensures ∙ ap (λ (f : Frame). named (slot f c.in-Fork.slot)) c.frame.ensures in
+    c.fork.ensures.live
+    ∙ ap (λ (s : ℕ). live_fork c.args.program.now (live_of m) c.args.t (frame_of m c.args.t) s c.in-Fork.function c.in-Fork.handle) same
+    ∙ ap (live_effect c.args.program.now (live_of c.args.store.now) c.args.t (frame_of c.args.store.now c.args.t)) (sym c.in-Fork.is)
+
+pub returns-in-Close-clause-live : goal.returns-in-Close-clause-live
+returns-in-Close-clause-live c =
+    let m = c.args.store.now in
+    let same = c.named-s-in-Close.ensures ∙ ap (λ (f : Frame). named (slot f c.in-Close.x)) c.frame-in-Close.ensures in
+    c.close.ensures.live
+    ∙ ap (λ (s : ℕ). live_close (live_of m) c.args.t (frame_of m c.args.t) s) same
+    ∙ ap (live_effect c.args.program.now (live_of c.args.store.now) c.args.t (frame_of c.args.store.now c.args.t)) (sym c.in-Close.is)
+
+pub returns-in_default-clause-live : goal.returns-in_default-clause-live
+returns-in_default-clause-live c = c.quiet.ensures.live
+
+pub returns-in-Open-clause-ended : goal.returns-in-Open-clause-ended
+returns-in-Open-clause-ended c = λ e. let never : false ≡ true = ap ends_task (sym c.in-Open.is) ∙ e in cc
+
+pub returns-in-Fork-clause-ended : goal.returns-in-Fork-clause-ended
+returns-in-Fork-clause-ended c = λ e. let never : false ≡ true = ap ends_task (sym c.in-Fork.is) ∙ e in cc
+
+pub returns-in-Close-clause-ended : goal.returns-in-Close-clause-ended
+returns-in-Close-clause-ended c = λ e. let never : false ≡ true = ap ends_task (sym c.in-Close.is) ∙ e in cc
+
+pub returns-in-Bind-clause-ended : goal.returns-in-Bind-clause-ended
+returns-in-Bind-clause-ended c = λ e. let never : false ≡ true = ap ends_task (sym c.in-Bind.is) ∙ e in cc
+
+pub returns-in-Unbind-clause-ended : goal.returns-in-Unbind-clause-ended
+returns-in-Unbind-clause-ended c = λ e. let never : false ≡ true = ap ends_task (sym c.in-Unbind.is) ∙ e in cc
+
+pub returns-in-Ret-clause-stays : goal.returns-in-Ret-clause-stays
+returns-in-Ret-clause-stays c = λ e. let never : true ≡ false = ap ends_task (sym c.in-Ret.is) ∙ e in cc
+
+pub returns-in-Fail-clause-stays : goal.returns-in-Fail-clause-stays
+returns-in-Fail-clause-stays c = λ e. let never : true ≡ false = ap ends_task (sym c.in-Fail.is) ∙ e in cc
+
+pub open-requires-clause-lives : goal.open-requires-clause-lives
+open-requires-clause-lives c = c.requires.lives
+
+pub open-requires-clause-more : goal.open-requires-clause-more
+open-requires-clause-more c = omega (arith, c.requires.inside, c.requires.short)
+
+pub open-requires-clause-order : goal.open-requires-clause-order
+open-requires-clause-order c = c.requires.order
+
+pub fork-requires-clause-lives : goal.fork-requires-clause-lives
+fork-requires-clause-lives c = c.requires.lives
+
+pub fork-requires-clause-more : goal.fork-requires-clause-more
+fork-requires-clause-more c = omega (arith, c.requires.inside, c.requires.short)
+
+pub fork-requires-clause-order : goal.fork-requires-clause-order
+fork-requires-clause-order c = c.requires.order
+
+pub close-requires-clause-lives : goal.close-requires-clause-lives
+close-requires-clause-lives c = c.requires.lives
+
+pub close-requires-clause-more : goal.close-requires-clause-more
+close-requires-clause-more c = omega (arith, c.requires.inside, c.requires.short)
+
+pub close-requires-clause-order : goal.close-requires-clause-order
+close-requires-clause-order c = c.requires.order
+
+pub bind-requires-clause-lives : goal.bind-requires-clause-lives
+bind-requires-clause-lives c = c.requires.lives
+
+pub bind-requires-clause-more : goal.bind-requires-clause-more
+bind-requires-clause-more c = omega (arith, c.requires.inside, c.requires.short)
+
+pub unbind-requires-clause-lives : goal.unbind-requires-clause-lives
+unbind-requires-clause-lives c = c.requires.lives
+
+pub unbind-requires-clause-more : goal.unbind-requires-clause-more
+unbind-requires-clause-more c = omega (arith, c.requires.inside, c.requires.short)
+
+pub unbind-requires-clause-order : goal.unbind-requires-clause-order
+unbind-requires-clause-order c = c.requires.order
+
+pub frame-requires : goal.frame-requires
+frame-requires c = c.requires.lives
+
+pub frame-requires-in-Close : goal.frame-requires-in-Close
+frame-requires-in-Close c = c.requires.lives
+
+pub frame-requires-in-Ret : goal.frame-requires-in-Ret
+frame-requires-in-Ret c = c.requires.lives
+
+pub frame-requires-in-Fail : goal.frame-requires-in-Fail
+frame-requires-in-Fail c = c.requires.lives
+
+pub end-requires : goal.end-requires
+end-requires c = c.requires.lives
+
+pub end-requires-in-Fail : goal.end-requires-in-Fail
+end-requires-in-Fail c = c.requires.lives
+
+pub open-requires-clause-entries : goal.open-requires-clause-entries
+open-requires-clause-entries c = search rules
+
+pub open-requires-clause-room : goal.open-requires-clause-room
+open-requires-clause-room c = search rules
+
+pub open-requires-clause-born : goal.open-requires-clause-born
+open-requires-clause-born c = search rules
+
+pub fork-requires-clause-stands : goal.fork-requires-clause-stands
+fork-requires-clause-stands c = search rules
+
+pub fork-requires-clause-enough : goal.fork-requires-clause-enough
+fork-requires-clause-enough c = search rules
+
+pub fork-requires-clause-task_room : goal.fork-requires-clause-task_room
+fork-requires-clause-task_room c = search rules
+
+pub fork-requires-clause-frame_room : goal.fork-requires-clause-frame_room
+fork-requires-clause-frame_room c = search rules
+
+pub fork-requires-clause-born : goal.fork-requires-clause-born
+fork-requires-clause-born c = search rules
+
+pub close-requires-clause-entry : goal.close-requires-clause-entry
+close-requires-clause-entry c = search rules
+
+pub bind-requires-clause-entries : goal.bind-requires-clause-entries
+bind-requires-clause-entries c = search rules
+
+pub bind-requires-clause-room : goal.bind-requires-clause-room
+bind-requires-clause-room c = search rules
+
+pub unbind-requires-clause-bound : goal.unbind-requires-clause-bound
+unbind-requires-clause-bound c = search rules
+
+pub quiet-requires : goal.quiet-requires
+quiet-requires c = search rules
+
+pub returns-in-Ret-clause-live : goal.returns-in-Ret-clause-live
+returns-in-Ret-clause-live c = search rules
+
+pub returns-in-Fail-clause-live : goal.returns-in-Fail-clause-live
+returns-in-Fail-clause-live c = search rules
+
+pub returns-in_default-clause-ended : goal.returns-in_default-clause-ended
+returns-in_default-clause-ended c = search rules
+
+pub returns-in-Bind-clause-rest : goal.returns-in-Bind-clause-rest
+returns-in-Bind-clause-rest c =
+    let m = c.args.store.now in
+    let v = live_of m in
+    let t = c.args.t in
+    let room = subst (HasRoomLeft (unseen_of m) (frame_of m t)) c.in-Bind.is c.requires.room in
+    as_are v _ _ (unseen_of m) _ _ t c.bind.ensures.live c.bind.ensures.unseen
+    (binds v t (living v t c.requires.lives) (unseen_of m) c.in-Bind.k room)
+
+pub returns-in-Bind-clause-stays : goal.returns-in-Bind-clause-stays
+returns-in-Bind-clause-stays c = λ e.
+    let m = c.args.store.now in
+    ap (λ (x : Live). lives_in x c.args.t) c.bind.ensures.live
+    ∙ binder_lives (live_of m) c.args.t (frame_of m c.args.t) c.in-Bind.k c.requires.lives
+
+pub returns-in-Unbind-clause-stays : goal.returns-in-Unbind-clause-stays
+returns-in-Unbind-clause-stays c = λ e.
+    let m = c.args.store.now in
+    ap (λ (x : Live). lives_in x c.args.t) c.unbind.ensures.live
+    ∙ unbinder_lives (live_of m) c.args.t (frame_of m c.args.t) c.requires.lives

@@ -1,4 +1,4 @@
-use Rattle.std.proofs.Common.{◌<◌, length, take, sym, ◌∙◌, subst}
+use Rattle.std.proofs.Common.{◌<◌, length, take, sym, ◌∙◌, subst, rules}
 use Rattle.std.proofs.lemmas.List.{take_more}
 use Rattle.laws_live.specs.Seen.{StandsAt}
 use Rattle.sts_machine.proofs.Turning.{runs_well}
@@ -19,3 +19,18 @@ loop-event-preserved c =
       subst (λ xs. StandsAt c.turn.new.self.program xs c.turn.new.self.live c.turn.new.self.steps) (sym (take_more es i _ here))
           (c.turn.ensures.stands (take i es) c.loop-event.invariant.1),
     )
+
+pub returns-in_err-machine-clause-program : goal.returns-in_err-machine-clause-program
+returns-in_err-machine-clause-program c = search rules
+
+pub returns-in_err-machine-clause-stands : goal.returns-in_err-machine-clause-stands
+returns-in_err-machine-clause-stands c = search rules
+
+pub loop-event-init : goal.loop-event-init
+loop-event-init c = search rules
+
+pub offset_bounds-events-event-index : goal.offset_bounds-events-event-index
+offset_bounds-events-event-index c = search rules
+
+pub returns-clause-program : goal.returns-clause-program
+returns-clause-program c = search rules
