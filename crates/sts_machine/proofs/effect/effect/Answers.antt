@@ -260,54 +260,6 @@ end-requires c = c.requires.lives
 pub end-requires-in-Fail : goal.end-requires-in-Fail
 end-requires-in-Fail c = c.requires.lives
 
-pub open-requires-clause-entries : goal.open-requires-clause-entries
-open-requires-clause-entries c = search rules
-
-pub open-requires-clause-room : goal.open-requires-clause-room
-open-requires-clause-room c = search rules
-
-pub open-requires-clause-born : goal.open-requires-clause-born
-open-requires-clause-born c = search rules
-
-pub fork-requires-clause-stands : goal.fork-requires-clause-stands
-fork-requires-clause-stands c = search rules
-
-pub fork-requires-clause-enough : goal.fork-requires-clause-enough
-fork-requires-clause-enough c = search rules
-
-pub fork-requires-clause-task_room : goal.fork-requires-clause-task_room
-fork-requires-clause-task_room c = search rules
-
-pub fork-requires-clause-frame_room : goal.fork-requires-clause-frame_room
-fork-requires-clause-frame_room c = search rules
-
-pub fork-requires-clause-born : goal.fork-requires-clause-born
-fork-requires-clause-born c = search rules
-
-pub close-requires-clause-entry : goal.close-requires-clause-entry
-close-requires-clause-entry c = search rules
-
-pub bind-requires-clause-entries : goal.bind-requires-clause-entries
-bind-requires-clause-entries c = search rules
-
-pub bind-requires-clause-room : goal.bind-requires-clause-room
-bind-requires-clause-room c = search rules
-
-pub unbind-requires-clause-bound : goal.unbind-requires-clause-bound
-unbind-requires-clause-bound c = search rules
-
-pub quiet-requires : goal.quiet-requires
-quiet-requires c = search rules
-
-pub returns-in-Ret-clause-live : goal.returns-in-Ret-clause-live
-returns-in-Ret-clause-live c = search rules
-
-pub returns-in-Fail-clause-live : goal.returns-in-Fail-clause-live
-returns-in-Fail-clause-live c = search rules
-
-pub returns-in_default-clause-ended : goal.returns-in_default-clause-ended
-returns-in_default-clause-ended c = search rules
-
 pub returns-in-Bind-clause-rest : goal.returns-in-Bind-clause-rest
 returns-in-Bind-clause-rest c =
     let m = c.args.store.now in

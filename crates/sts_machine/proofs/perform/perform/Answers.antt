@@ -1,4 +1,4 @@
-use Rattle.std.proofs.Common.{sym, ◌∙◌, subst, rules}
+use Rattle.std.proofs.Common.{sym, ◌∙◌, subst}
 use Rattle.std.proofs.lemmas.Option.{slice_get_within}
 use Rattle.sts_store.specs.Parts.{live_of, unseen_of}
 use Rattle.laws_live.specs.Order.{InOrder}
@@ -39,69 +39,3 @@ say_stand-requires-clause-free c = λ e.
 
 pub returns-clause-room : goal.returns-clause-room
 returns-clause-room c = λ b h. c.say_stand.ensures.room b (room_kept _ _ _ _ _ b c.effect.ensures.rest h)
-
-pub perform_local-requires-clause-lives : goal.perform_local-requires-clause-lives
-perform_local-requires-clause-lives c = search rules
-
-pub perform_local-requires-clause-own_code : goal.perform_local-requires-clause-own_code
-perform_local-requires-clause-own_code c = search rules
-
-pub perform_local-requires-clause-short : goal.perform_local-requires-clause-short
-perform_local-requires-clause-short c = search rules
-
-pub perform_local-requires-clause-at : goal.perform_local-requires-clause-at
-perform_local-requires-clause-at c = search rules
-
-pub perform_local-requires-clause-fine : goal.perform_local-requires-clause-fine
-perform_local-requires-clause-fine c = search rules
-
-pub perform_local-requires-clause-order : goal.perform_local-requires-clause-order
-perform_local-requires-clause-order c = search rules
-
-pub perform_local-requires-clause-after : goal.perform_local-requires-clause-after
-perform_local-requires-clause-after c = search rules
-
-pub perform_local-requires-clause-standing : goal.perform_local-requires-clause-standing
-perform_local-requires-clause-standing c = search rules
-
-pub perform_local-requires-clause-is_local : goal.perform_local-requires-clause-is_local
-perform_local-requires-clause-is_local c = search rules
-
-pub returns-then-is_local-clause-live : goal.returns-then-is_local-clause-live
-returns-then-is_local-clause-live c = search rules
-
-pub returns-then-is_local-clause-standing : goal.returns-then-is_local-clause-standing
-returns-then-is_local-clause-standing c = search rules
-
-pub returns-then-is_local-clause-room : goal.returns-then-is_local-clause-room
-returns-then-is_local-clause-room c = search rules
-
-pub effect-requires-clause-lives : goal.effect-requires-clause-lives
-effect-requires-clause-lives c = search rules
-
-pub effect-requires-clause-own_code : goal.effect-requires-clause-own_code
-effect-requires-clause-own_code c = search rules
-
-pub effect-requires-clause-short : goal.effect-requires-clause-short
-effect-requires-clause-short c = search rules
-
-pub effect-requires-clause-fine : goal.effect-requires-clause-fine
-effect-requires-clause-fine c = search rules
-
-pub effect-requires-clause-room : goal.effect-requires-clause-room
-effect-requires-clause-room c = search rules
-
-pub effect-requires-clause-order : goal.effect-requires-clause-order
-effect-requires-clause-order c = search rules
-
-pub effect-requires-clause-other : goal.effect-requires-clause-other
-effect-requires-clause-other c = search rules
-
-pub returns-then-ends_task-clause-live : goal.returns-then-ends_task-clause-live
-returns-then-ends_task-clause-live c = search rules
-
-pub returns-clause-live : goal.returns-clause-live
-returns-clause-live c = search rules
-
-pub returns-clause-standing : goal.returns-clause-standing
-returns-clause-standing c = search rules

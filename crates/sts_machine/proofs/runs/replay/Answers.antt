@@ -1,5 +1,5 @@
-use Rattle.std.proofs.Common.{◌<◌, length, take, sym, ◌∙◌, subst, rules}
-use Rattle.std.proofs.lemmas.List.{take_more}
+use Rattle.std.proofs.Common.{◌<◌, length, take, sym, ◌∙◌, subst, arith}
+use Rattle.std.proofs.lemmas.List.{take_all, take_more}
 use Rattle.laws_live.specs.Seen.{StandsAt}
 use Rattle.sts_machine.proofs.Turning.{runs_well}
 use Rattle.sts_machine.proofs.runs.replay.Goals as goal
@@ -20,17 +20,8 @@ loop-event-preserved c =
           (c.turn.ensures.stands (take i es) c.loop-event.invariant.1),
     )
 
-pub returns-in_err-machine-clause-program : goal.returns-in_err-machine-clause-program
-returns-in_err-machine-clause-program c = search rules
-
-pub returns-in_err-machine-clause-stands : goal.returns-in_err-machine-clause-stands
-returns-in_err-machine-clause-stands c = search rules
-
-pub loop-event-init : goal.loop-event-init
-loop-event-init c = search rules
-
-pub offset_bounds-events-event-index : goal.offset_bounds-events-event-index
-offset_bounds-events-event-index c = search rules
-
-pub returns-clause-program : goal.returns-clause-program
-returns-clause-program c = search rules
+pub returns-clause-stands : goal.returns-clause-stands
+returns-clause-stands c =
+    let m = c.loop-event.machine in
+    let all = take_all c.loop-event.event-index c.args.events.now (omega (arith, c.loop-event-test.false)) in
+    subst (λ xs. StandsAt m.program xs m.live m.steps) all c.loop-event.invariant.1

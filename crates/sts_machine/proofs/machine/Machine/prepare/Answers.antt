@@ -1,4 +1,4 @@
-use Rattle.std.proofs.Common.{◌≡◌, ◌-◌, [], length, ◌∙◌, ap, rules}
+use Rattle.std.proofs.Common.{◌≡◌, ◌-◌, [], length, ◌∙◌, ap}
 use Rattle.sts_code.specs.Program.{Program}
 use Rattle.sts_model.specs.World.{entry_frame}
 use Rattle.sts_model.specs.declared.record.Slot.TheVariants.{Empty}
@@ -22,33 +22,3 @@ returns-clause-stands c =
     let view : live_of c.in_ok-store.store ≡ live_opening p =
     c.in_ok-store.ensures.live ∙ ap root_alone (c.main_frame.ensures ∙ ap (λ (q : Program). entry_frame (length q.routines - 1) [] Empty) c.program.ensures.value) in
     stands_begun p (live_of c.in_ok-store.store) c.run_is_seen.ensures view
-
-pub with_room-requires-clause-some : goal.with_room-requires-clause-some
-with_room-requires-clause-some c = search rules
-
-pub with_room-requires-clause-few : goal.with_room-requires-clause-few
-with_room-requires-clause-few c = search rules
-
-pub with_room-requires-clause-fresh : goal.with_room-requires-clause-fresh
-with_room-requires-clause-fresh c = search rules
-
-pub returns-in_err-store-clause-program : goal.returns-in_err-store-clause-program
-returns-in_err-store-clause-program c = search rules
-
-pub returns-in_err-store-clause-live : goal.returns-in_err-store-clause-live
-returns-in_err-store-clause-live c = search rules
-
-pub returns-in_err-store-clause-steps : goal.returns-in_err-store-clause-steps
-returns-in_err-store-clause-steps c = search rules
-
-pub returns-in_err-store-clause-stands : goal.returns-in_err-store-clause-stands
-returns-in_err-store-clause-stands c = search rules
-
-pub returns-clause-program : goal.returns-clause-program
-returns-clause-program c = search rules
-
-pub returns-clause-live : goal.returns-clause-live
-returns-clause-live c = search rules
-
-pub returns-clause-steps : goal.returns-clause-steps
-returns-clause-steps c = search rules

@@ -1,4 +1,4 @@
-use Rattle.std.proofs.Common.{◌++◌, refl, sym, ◌∙◌, arith, rules}
+use Rattle.std.proofs.Common.{◌++◌, refl, sym, ◌∙◌, arith}
 use Rattle.sts_machine.specs.Slice.{steps_of}
 use Rattle.sts_machine.proofs.Putting.{same_view, puts, in_order, others_there, put_back, stands_there}
 use Rattle.sts_machine.proofs.Turning.{runs_well}
@@ -48,33 +48,3 @@ returns-clause-stands c =
 pub returns-clause-runs_well : goal.returns-clause-runs_well
 returns-clause-runs_well c =
     λ events b h is. runs_well c.args.self.now.program c.laws.ensures b is (events ++ steps_of c.args.slice.now.count c.args.slice.now.task)
-
-pub returns-then-count-eq0-clause-program : goal.returns-then-count-eq0-clause-program
-returns-then-count-eq0-clause-program c = search rules
-
-pub returns-then-count-eq0-clause-unseen : goal.returns-then-count-eq0-clause-unseen
-returns-then-count-eq0-clause-unseen c = search rules
-
-pub returns-then-count-eq0-clause-steps : goal.returns-then-count-eq0-clause-steps
-returns-then-count-eq0-clause-steps c = search rules
-
-pub returns-then-count-eq0-clause-stands : goal.returns-then-count-eq0-clause-stands
-returns-then-count-eq0-clause-stands c = search rules
-
-pub put_frame-requires-clause-lives : goal.put_frame-requires-clause-lives
-put_frame-requires-clause-lives c = search rules
-
-pub say_stand-requires-clause-free : goal.say_stand-requires-clause-free
-say_stand-requires-clause-free c = search rules
-
-pub returns-clause-program : goal.returns-clause-program
-returns-clause-program c = search rules
-
-pub returns-clause-live : goal.returns-clause-live
-returns-clause-live c = search rules
-
-pub returns-clause-unseen : goal.returns-clause-unseen
-returns-clause-unseen c = search rules
-
-pub returns-clause-steps : goal.returns-clause-steps
-returns-clause-steps c = search rules

@@ -1,4 +1,4 @@
-use Rattle.std.proofs.Common.{◌≡◌, ◌++◌, true, refl, sym, ◌∙◌, ap, subst, arith, rules}
+use Rattle.std.proofs.Common.{◌≡◌, ◌++◌, true, refl, sym, ◌∙◌, ap, subst, arith}
 use Rattle.sts_model.specs.World.{code}
 use Rattle.sts_frames.specs.Locals.{AreSafe, locals}
 use Rattle.laws_live.specs.Waiting.{live_can_step}
@@ -92,30 +92,3 @@ returns-clause-stands c =
 pub returns-clause-runs_well : goal.returns-clause-runs_well
 returns-clause-runs_well c =
     λ events b h is. runs_well c.args.self.now.program c.laws.ensures b is (events ++ steps_of c.run_local-done.result c.args.task)
-
-pub frame-requires : goal.frame-requires
-frame-requires c = search rules
-
-pub run_local-done-requires-clause-lives : goal.run_local-done-requires-clause-lives
-run_local-done-requires-clause-lives c = search rules
-
-pub run_local-done-requires-clause-short : goal.run_local-done-requires-clause-short
-run_local-done-requires-clause-short c = search rules
-
-pub say_stand-requires-clause-free : goal.say_stand-requires-clause-free
-say_stand-requires-clause-free c = search rules
-
-pub returns-clause-program : goal.returns-clause-program
-returns-clause-program c = search rules
-
-pub returns-clause-live : goal.returns-clause-live
-returns-clause-live c = search rules
-
-pub returns-clause-most : goal.returns-clause-most
-returns-clause-most c = search rules
-
-pub returns-clause-unseen : goal.returns-clause-unseen
-returns-clause-unseen c = search rules
-
-pub returns-clause-steps : goal.returns-clause-steps
-returns-clause-steps c = search rules

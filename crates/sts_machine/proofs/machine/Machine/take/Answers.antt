@@ -1,4 +1,4 @@
-use Rattle.std.proofs.Common.{◌≡◌, ◌+◌, true, sym, ◌∙◌, ap, subst, arith, pos, rules}
+use Rattle.std.proofs.Common.{◌≡◌, ◌+◌, true, sym, ◌∙◌, ap, subst, arith, pos}
 use Rattle.sts_code.specs.declared.instr.Instr.TheVariants.{Push}
 use Rattle.sts_model.specs.declared.event.Event.TheVariants as event
 use Rattle.sts_model.specs.World.{code, instr_at}
@@ -114,54 +114,3 @@ returns-in-Step-clause-live c =
     (rw same at c.perform.ensures.live) ∙ sym (stepped p (live_of m) t _ can at)
     ∙ ap (λ (s : Seen). live_apply s.program s.live (event.Step t)) c.self.view_is
     ∙ ap (live_apply now.program now.live) (sym c.in-Step.is)
-
-pub frame-frame-requires : goal.frame-frame-requires
-frame-frame-requires c = search rules
-
-pub offset_bounds-code-frame : goal.offset_bounds-code-frame
-offset_bounds-code-frame c = search rules
-
-pub perform-requires-clause-lives : goal.perform-requires-clause-lives
-perform-requires-clause-lives c = search rules
-
-pub perform-requires-clause-short : goal.perform-requires-clause-short
-perform-requires-clause-short c = search rules
-
-pub perform-requires-clause-standing : goal.perform-requires-clause-standing
-perform-requires-clause-standing c = search rules
-
-pub interrupt-requires-clause-lives : goal.interrupt-requires-clause-lives
-interrupt-requires-clause-lives c = search rules
-
-pub interrupt-requires-clause-standing : goal.interrupt-requires-clause-standing
-interrupt-requires-clause-standing c = search rules
-
-pub expire-requires-clause-can : goal.expire-requires-clause-can
-expire-requires-clause-can c = search rules
-
-pub expire-requires-clause-standing : goal.expire-requires-clause-standing
-expire-requires-clause-standing c = search rules
-
-pub returns-in-Step-clause-program : goal.returns-in-Step-clause-program
-returns-in-Step-clause-program c = search rules
-
-pub returns-in-Step-clause-steps : goal.returns-in-Step-clause-steps
-returns-in-Step-clause-steps c = search rules
-
-pub returns-in-Interrupt-clause-program : goal.returns-in-Interrupt-clause-program
-returns-in-Interrupt-clause-program c = search rules
-
-pub returns-in-Interrupt-clause-live : goal.returns-in-Interrupt-clause-live
-returns-in-Interrupt-clause-live c = search rules
-
-pub returns-in-Interrupt-clause-steps : goal.returns-in-Interrupt-clause-steps
-returns-in-Interrupt-clause-steps c = search rules
-
-pub returns-in-Expire-clause-program : goal.returns-in-Expire-clause-program
-returns-in-Expire-clause-program c = search rules
-
-pub returns-in-Expire-clause-live : goal.returns-in-Expire-clause-live
-returns-in-Expire-clause-live c = search rules
-
-pub returns-in-Expire-clause-steps : goal.returns-in-Expire-clause-steps
-returns-in-Expire-clause-steps c = search rules

@@ -1,4 +1,4 @@
-use Rattle.std.proofs.Common.{◌≡◌, ◌++◌, ◌∷◌, [], true, false, refl, sym, ◌∙◌, ap, arith, rules}
+use Rattle.std.proofs.Common.{◌≡◌, ◌++◌, ◌∷◌, [], true, false, refl, sym, ◌∙◌, ap, arith}
 use Rattle.laws_live.specs.Run.{live_counts}
 use Rattle.sts_machine.specs.Turned.{turned}
 use Rattle.sts_machine.proofs.Turning.{idle_view, idle_steps, stands_after, counts_there, runs_well}
@@ -35,36 +35,3 @@ returns-clause-counted c =
 pub returns-clause-runs_well : goal.returns-clause-runs_well
 returns-clause-runs_well c =
     λ events b h is. runs_well c.args.self.now.program c.laws.ensures b is (events ++ c.args.event ∷ [])
-
-pub returns-then-not-counts-clause-program : goal.returns-then-not-counts-clause-program
-returns-then-not-counts-clause-program c = search rules
-
-pub returns-then-not-counts-clause-live : goal.returns-then-not-counts-clause-live
-returns-then-not-counts-clause-live c = search rules
-
-pub returns-then-not-counts-clause-steps : goal.returns-then-not-counts-clause-steps
-returns-then-not-counts-clause-steps c = search rules
-
-pub returns-then-not-counts-clause-answer : goal.returns-then-not-counts-clause-answer
-returns-then-not-counts-clause-answer c = search rules
-
-pub returns-then-not-counts-clause-idle : goal.returns-then-not-counts-clause-idle
-returns-then-not-counts-clause-idle c = search rules
-
-pub take-requires : goal.take-requires
-take-requires c = search rules
-
-pub returns-clause-program : goal.returns-clause-program
-returns-clause-program c = search rules
-
-pub returns-clause-live : goal.returns-clause-live
-returns-clause-live c = search rules
-
-pub returns-clause-steps : goal.returns-clause-steps
-returns-clause-steps c = search rules
-
-pub returns-clause-answer : goal.returns-clause-answer
-returns-clause-answer c = search rules
-
-pub returns-clause-idle : goal.returns-clause-idle
-returns-clause-idle c = search rules
