@@ -1,4 +1,4 @@
-use Rattle.std.proofs.Common.{◌≡◌, sym, subst, arith, rules}
+use Rattle.std.proofs.Common.{◌≡◌, sym, subst, arith}
 use Rattle.std.proofs.lemmas.Bool.Decides.{nat_tests}
 use Rattle.laws_live.specs.Order.{IsOwned}
 use Rattle.sts_store.specs.Parts.{live_of}
@@ -10,12 +10,3 @@ stand-requires-clause-owned c r at =
     let same : c.args.s ≡ r = grind (arith, nat_tests) in
     let v = live_of c.args.self.now in
     subst (λ w. IsOwned w c.args.t r) (sym c.cancel.ensures.live) (own_cancelled v c.args.t c.args.s r (subst (IsOwned v c.args.t) same c.requires.owned))
-
-pub cancel-requires : goal.cancel-requires
-cancel-requires c = search rules
-
-pub returns-clause-live : goal.returns-clause-live
-returns-clause-live c = search rules
-
-pub returns-clause-unseen : goal.returns-clause-unseen
-returns-clause-unseen c = search rules

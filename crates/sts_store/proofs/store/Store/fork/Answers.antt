@@ -1,4 +1,4 @@
-use Rattle.std.proofs.Common.{◌≡◌, ◌<◌, ◌≤◌, ◌+◌, ◌-◌, ◌^◌, [], ◌∷◌, ◌++◌, Bool, true, false, Some, refl, sym, ◌∙◌, ap, subst, length, not, arith, cond, take, rules}
+use Rattle.std.proofs.Common.{◌≡◌, ◌<◌, ◌≤◌, ◌+◌, ◌-◌, ◌^◌, [], ◌∷◌, ◌++◌, Bool, true, false, Some, refl, sym, ◌∙◌, ap, subst, length, not, arith, cond, take}
 use Rattle.std.specs.Prelude.{reverse, is_some}
 use Rattle.sts_code.specs.Program.{routine}
 use Rattle.sts_model.specs.Effect.{forked}
@@ -150,21 +150,6 @@ returns-clause-unseen c =
           ∙ ap (λ n. record (unseen_of m) { stands = (unseen_of m).stands ++ Some Free ∷ []; task_keys = m.tree.task_keys ++ key ∷ []; task_room = m.tree.task_room - 1; frame_room = n }) room
           ∙ ap (λ (n : Parts). record (unseen_of n) { stands = (unseen_of n).stands ++ Some Free ∷ []; task_keys = n.tree.task_keys ++ key ∷ []; task_room = n.tree.task_room - 1; frame_room = cond (live_scope_at (live_of n) s).cancelled n.frames.room (n.frames.room - 1) }) c.self.view_is,
     )
-
-pub args-args-requires : goal.args-args-requires
-args-args-requires c = search rules
-
-pub entry_frame-frame-requires-clause-few : goal.entry_frame-frame-requires-clause-few
-entry_frame-frame-requires-clause-few c = search rules
-
-pub add_subtask-child-requires-clause-room : goal.add_subtask-child-requires-clause-room
-add_subtask-child-requires-clause-room c = search rules
-
-pub place-requires-clause-room : goal.place-requires-clause-room
-place-requires-clause-room c = search rules
-
-pub overflow_cast-args : goal.overflow_cast-args
-overflow_cast-args c = search rules
 
 pub env-env-requires : goal.env-env-requires
 env-env-requires c = λ none.

@@ -1,4 +1,4 @@
-use Rattle.std.proofs.Common.{◌≡◌, ◌<◌, ◌+◌, ◌-◌, ◌^◌, None, sym, ◌∙◌, ap, subst, get_or, length, rules}
+use Rattle.std.proofs.Common.{◌≡◌, ◌<◌, ◌+◌, ◌-◌, ◌^◌, None, sym, ◌∙◌, ap, subst, get_or, length}
 use Rattle.sts_tree.specs.Forest.{Forest}
 use Rattle.sts_env.specs.declared.env.Env.{Env}
 use Rattle.sts_model.specs.declared.record.Frame.{Frame}
@@ -52,9 +52,3 @@ returns-clause-live c =
     ∙ ap (λ (tree : Forest Env). live_of (with_running (record m { tree = tree }) t (record r { frame = entered r.frame c.args.slot (length m.tree.scopes) }) m.chains)) c.open_scope-s.ensures.opened
     ∙ open_live m t c.args.slot c.args.joiner c.args.timed c.open_scope-s.new.self.scope_keys (m.tree.scope_room - 1) l
     ∙ ap (λ n. live_open (live_of n) t (frame_of n t) c.args.slot c.args.joiner c.args.timed) c.self.view_is
-
-pub open_scope-s-requires-clause-room : goal.open_scope-s-requires-clause-room
-open_scope-s-requires-clause-room c = search rules
-
-pub returns-clause-unseen : goal.returns-clause-unseen
-returns-clause-unseen c = search rules
