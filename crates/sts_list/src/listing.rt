@@ -41,7 +41,7 @@ fn write_needs(out: &mut String, needs: &[bool; 16]) -> Result<(), AllocError>
     ensures keys { length needs.now ≡ 16 }
 {
     if needs_any(needs) {
-        write!(out, " needs")?;
+        out.push_str(" needs")?;
         write_keys(out, needs)?;
     }
     Ok(())
@@ -54,7 +54,7 @@ fn write_header(out: &mut String, function: &Function) -> Result<(), AllocError>
 {
     write!(out, "func {} {}", function.name.as_str(), function.args)?;
     write_needs(out, &function.needs)?;
-    writeln!(out)
+    out.push_str("\n")
 }
 
 fn write_label(out: &mut String, is_target: bool, pc: usize) -> Result<(), AllocError>
@@ -74,7 +74,7 @@ fn write_line(out: &mut String, instr: Instr, program: &Program) -> Result<(), A
 {
     out.push_str("  ")?;
     write_instr(out, instr, program)?;
-    writeln!(out)
+    out.push_str("\n")
 }
 
 fn write_code(
@@ -107,7 +107,7 @@ fn write_function(
 {
     write_header(out, function)?;
     write_code(alloc, out, function.code.as_slice(), program)?;
-    writeln!(out, "end")
+    out.push_str("end\n")
 }
 
 fn write_profile(out: &mut String, profile: Profile) -> Result<(), AllocError>
@@ -115,7 +115,7 @@ fn write_profile(out: &mut String, profile: Profile) -> Result<(), AllocError>
 {
     match profile {
         Profile::One => Ok(()),
-        Profile::Two => writeln!(out, "profile 2"),
+        Profile::Two => out.push_str("profile 2\n"),
     }
 }
 

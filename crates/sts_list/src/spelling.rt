@@ -51,13 +51,27 @@ fn keyword(instr: &Instr) -> &'static str
     }
 }
 
+/// Writes a space and the slot.
+fn write_slot(out: &mut String, slot: u8) -> Result<(), AllocError>
+    ensures { OnOk result (string_bytes out.new ≡ string_bytes out.old ++ (32 ∷ def.slot slot)) }
+{
+    write!(out, " s{slot}")
+}
+
+/// Writes a space and the label of the instruction.
+fn write_label(out: &mut String, pc: u32) -> Result<(), AllocError>
+    ensures { OnOk result (string_bytes out.new ≡ string_bytes out.old ++ (32 ∷ def.label pc)) }
+{
+    write!(out, " L{pc}")
+}
+
 fn write_maybe_label(out: &mut String, to: Option<u32>) -> Result<(), AllocError>
     ensures { OnOk result (string_bytes out.new ≡
         string_bytes out.old ++ (32 ∷ def.maybe_label to)) }
 {
     match to {
-        None => write!(out, " -"),
-        Some(pc) => write!(out, " L{pc}"),
+        None => out.push_str(" -"),
+        Some(pc) => write_label(out, pc),
     }
 }
 
@@ -66,8 +80,8 @@ fn write_handle(out: &mut String, handle: Option<u8>) -> Result<(), AllocError>
         string_bytes out.old ++ (32 ∷ def.handle handle)) }
 {
     match handle {
-        None => write!(out, " _"),
-        Some(slot) => write!(out, " s{slot}"),
+        None => out.push_str(" _"),
+        Some(slot) => write_slot(out, slot),
     }
 }
 
@@ -76,9 +90,9 @@ fn write_kind(out: &mut String, kind: Kind) -> Result<(), AllocError>
         string_bytes out.old ++ (32 ∷ def.kind_word kind)) }
 {
     match kind {
-        Kind::S => write!(out, " S"),
-        Kind::F => write!(out, " F"),
-        Kind::U => write!(out, " U"),
+        Kind::S => out.push_str(" S"),
+        Kind::F => out.push_str(" F"),
+        Kind::U => out.push_str(" U"),
     }
 }
 
@@ -92,10 +106,10 @@ pub fn write_joiner(out: &mut String, joiner: Joiner) -> Result<(), AllocError>
         string_bytes out.old ++ after_spaces (def.joiner_words joiner)) }
 {
     match joiner {
-        Joiner::AllSucceed => write!(out, " all"),
-        Joiner::AnySucceeds => write!(out, " any"),
-        Joiner::AwaitOk => write!(out, " awaitok"),
-        Joiner::AwaitAll => write!(out, " awaitall"),
+        Joiner::AllSucceed => out.push_str(" all"),
+        Joiner::AnySucceeds => out.push_str(" any"),
+        Joiner::AwaitOk => out.push_str(" awaitok"),
+        Joiner::AwaitAll => out.push_str(" awaitall"),
         Joiner::Until(Pred::Failed(n)) => write!(out, " until failed {n}"),
         Joiner::Until(Pred::Success(n)) => write!(out, " until success {n}"),
         Joiner::Until(Pred::AtLeast(v)) => write!(out, " until atleast {v}"),
@@ -106,7 +120,11 @@ fn write_timed(out: &mut String, timed: bool) -> Result<(), AllocError>
     ensures { OnOk result (string_bytes out.new ≡
         string_bytes out.old ++ after_spaces (def.timed_words timed)) }
 {
-    if timed { write!(out, " timed") } else { Ok(()) }
+    if timed {
+        out.push_str(" timed")
+    } else {
+        Ok(())
+    }
 }
 
 fn name_of(program: &Program, function: u32) -> &str
@@ -123,7 +141,7 @@ fn write_open(out: &mut String, slot: u8, joiner: Joiner, timed: bool) -> Result
         string_bytes out.old ++ ((32 ∷ def.slot slot) ++
         (after_spaces (def.joiner_words joiner) ++ after_spaces (def.timed_words timed)))) }
 {
-    write!(out, " s{slot}")?;
+    write_slot(out, slot)?;
     write_joiner(out, joiner)?;
     write_timed(out, timed)
 }
@@ -148,10 +166,10 @@ fn write_join(
         string_bytes out.old ++ after_spaces (def.slot slot ∷ def.maybe_label failed ∷
         def.maybe_label timeout ∷ def.label interrupted ∷ [])) }
 {
-    write!(out, " s{slot}")?;
+    write_slot(out, slot)?;
     write_maybe_label(out, failed)?;
     write_maybe_label(out, timeout)?;
-    write!(out, " L{interrupted}")
+    write_label(out, interrupted)
 }
 
 fn write_operands(out: &mut String, instr: Instr, program: &Program) -> Result<(), AllocError>
@@ -167,13 +185,13 @@ fn write_operands(out: &mut String, instr: Instr, program: &Program) -> Result<(
         | Instr::Bound(x)
         | Instr::OrElse(x) => write!(out, " {x}"),
         Instr::Times(bound) => write!(out, " {bound}"),
-        Instr::Div(to) | Instr::Jmp(to) | Instr::Jz(to) => write!(out, " L{to}"),
+        Instr::Div(to) | Instr::Jmp(to) | Instr::Jz(to) => write_label(out, to),
         Instr::Close(slot)
         | Instr::Cancelled(slot)
         | Instr::Get(slot)
         | Instr::Except(slot)
         | Instr::Total(slot)
-        | Instr::Forget(slot) => write!(out, " s{slot}"),
+        | Instr::Forget(slot) => write_slot(out, slot),
         Instr::Open {
             slot,
             joiner,
@@ -196,7 +214,7 @@ fn write_operands(out: &mut String, instr: Instr, program: &Program) -> Result<(
             failed,
         } => write!(out, " s{handle} L{success} L{failed}"),
         Instr::Tally(slot, kind) => {
-            write!(out, " s{slot}")?;
+            write_slot(out, slot)?;
             write_kind(out, kind)
         }
         _ => Ok(()),
