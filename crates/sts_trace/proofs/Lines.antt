@@ -1,6 +1,6 @@
 -- Reading line by line: the effect of one line on the result.
 use Rattle.std.proofs.Common.{◌≡◌, ℕ, ◌+◌, ◌<◌, true, false, cond, List, [], ◌∷◌, ◌++◌, length}
-use Rattle.std.proofs.Common.{arith, refl, sym, ap, append_assoc, append-nil}
+use Rattle.std.proofs.Common.{arith, refl, sym, ap, ◌∙◌, append_assoc, append-nil}
 use Rattle.std.proofs.lemmas.Bool.Decides.{nat_tests}
 use Rattle.std.specs.Prelude.{◌==◌, Result, Ok, Err}
 use Rattle.sts_text.specs.Words.{is_newline, lines, is_filled}
@@ -52,6 +52,20 @@ ends_well {A} said front at text e z = let t : (length text == 0) ≡ true = gri
 
 pub ends_badly : {A : Type 0} (said : ℕ → List ℕ → Result A TraceError) (front : List A) (at : ℕ) (text : List ℕ) → lines text ≡ text ∷ [] → 0 < length text → with_front front (lines_read said at (lines text)) ≡ Err NoNewline
 ends_badly said front at text e z = let t : (length text == 0) ≡ false = grind (arith, nat_tests) in rw (last said at text e, t) refl
+
+zero_length : (n : ℕ) → true ≡ (n == 0) → n ≡ 0
+zero_length n e = grind (arith, nat_tests)
+
+some_length : (n : ℕ) → false ≡ (n == 0) → 0 < n
+some_length n e = grind (arith, nat_tests)
+
+-- the reading of the whole text, where nothing is left after the last newline
+pub whole_read : {A : Type 0} (said : ℕ → List ℕ → Result A TraceError) (front : List A) (at : ℕ) (text : List ℕ) (whole : Result (List A) TraceError) → with_front front (lines_read said at (lines text)) ≡ whole → lines text ≡ text ∷ [] → true ≡ (length text == 0) → whole ≡ Ok front
+whole_read said front at text whole before e empty = sym before ∙ ends_well said front at text e (zero_length (length text) empty)
+
+-- and where something is left
+pub rest_left : {A : Type 0} (said : ℕ → List ℕ → Result A TraceError) (front : List A) (at : ℕ) (text : List ℕ) (whole : Result (List A) TraceError) → with_front front (lines_read said at (lines text)) ≡ whole → lines text ≡ text ∷ [] → false ≡ (length text == 0) → whole ≡ Err NoNewline
+rest_left said front at text whole before e filled = sym before ∙ ends_badly said front at text e (some_length (length text) filled)
 
 pub no_front : {A : Type 0} (r : Result (List A) TraceError) → with_front [] r ≡ r
 no_front (Ok xs) = refl
