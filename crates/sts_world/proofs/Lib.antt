@@ -4,6 +4,7 @@ pub mod Ends
 pub mod Environments
 pub mod Finds
 pub mod Keeping
+pub mod Outcomes
 pub mod Raising
 pub mod Resting
 pub mod Same

@@ -221,5 +221,11 @@ less_again false n = omega arith
 pub taken_back : (f : Family) (t : ℕ) (b : Bool) → record { births = take (length (with_child f t b).births - 1) (with_child f t b).births; living = (with_child f t b).living - cond b 1 0 } ≡ f
 taken_back f t b = rw (all_but_last f.births t, less_again b f.living) refl
 
+pub child_some : (f g : Family) (t : ℕ) (b : Bool) → g ≡ with_child f t b → 0 < length g.births
+child_some f g t b e = omega (arith, ap (λ (x : Family). length x.births) e, length-append f.births (t ∷ []))
+
+pub child_fits : (f g : Family) (t : ℕ) (b : Bool) → g ≡ with_child f t b → f.living ≤ length f.births → g.living - cond b 1 0 ≤ length g.births - 1
+child_fits f g t b e few = omega (arith, ap (λ (x : Family). length x.births) e, ap (λ (x : Family). x.living) e, length-append f.births (t ∷ []))
+
 pub kept_back : (l : Lines) (fs : List Family) (ts : List Tallied) (n m s : ℕ) (x g d : Family) → g ≡ get_or fs s d → IsKept l fs ts n m → IsKept l (set (set fs s x) s g) ts n m
 kept_back l fs ts n m s x g d e k = rw (e, set_back fs s x d) k

@@ -1,13 +1,15 @@
-use Rattle.std.proofs.Common.{◌≡◌, not, ◌<◌, ◌∙◌, ap, sym, length, false, arith, slice_index_or}
+use Rattle.std.proofs.Common.{◌≡◌, not, ◌<◌, ◌≤◌, ◌∙◌, ap, sym, length, false, arith, slice_index_or}
 use Rattle.std.proofs.lemmas.List.{get_or_default, length-map, get_or-set_same}
 use Rattle.sts_code.specs.declared.limits.TheConstants.{MAX_STANDING}
+use Rattle.sts_model.specs.Effect.{fork_task}
+use Rattle.sts_model.specs.Living.{lives}
 use Rattle.sts_model.specs.Standing as standing
 use Rattle.sts_model.specs.World.{World, task_at, scope_at}
 use Rattle.sts_world.specs.Kept.{no_family, with_child}
 use Rattle.sts_world.specs.Lines.{is_shut}
 use Rattle.sts_world.proofs.Ends.{ends_fork}
 use Rattle.sts_world.proofs.Finds.{finds_tasks}
-use Rattle.sts_world.proofs.Worlds.{kept_child, kept_back, taken_back, born_open}
+use Rattle.sts_world.proofs.Worlds.{kept_child, kept_back, taken_back, born_open, child_some, child_fits}
 use Rattle.sts_world.proofs.world.World.fork_task.Goals as goal
 
 pub invariant_of-self-2 : goal.invariant_of-self-2
@@ -37,3 +39,38 @@ invariant_of-self-in-Err c =
       rw c.in-Err.ensures.err (kept_back _ _ _ _ _ c.args.s c.add.new.self c.take_back.new.self c.index_mut.result.now (back ∙ c.index_mut.ensures.value) c.self.invariant.0),
       rw (c.in-Err.ensures.err, c.reserve.ensures.items) c.self.invariant.1,
     )
+
+pub index_mut-requires : goal.index_mut-requires
+index_mut-requires c =
+    let w : World = c.self.inside.records in
+    let born : c.args.s < length w.scopes = born_open w c.args.s (rw c.self.view_is c.requires.opened) in
+    omega (arith, born, c.self.invariant.0.as_many, length-map w.scopes is_shut)
+
+pub index_mut-requires-in-Err : goal.index_mut-requires-in-Err
+index_mut-requires-in-Err c =
+    let w : World = c.self.inside.records in
+    let born : c.args.s < length w.scopes = born_open w c.args.s (rw c.self.view_is c.requires.opened) in
+    omega (arith, born, c.self.invariant.0.as_many, length-map w.scopes is_shut)
+
+pub take_back-requires-clause-some : goal.take_back-requires-clause-some
+take_back-requires-clause-some c =
+    let w : World = c.self.inside.records in
+    let born : c.args.s < length w.scopes = born_open w c.args.s (rw c.self.view_is c.requires.opened) in
+    let bound : c.args.s < length c.self.inside.families.items = omega (arith, born, c.self.invariant.0.as_many, length-map w.scopes is_shut) in
+    child_some c.index_mut.result.now _ c.tasks_born-child.result (not c.is_cancelled-started.result) (c.index_mut-in-Err.ensures.value ∙ get_or-set_same c.self.inside.families.items c.args.s c.add.new.self _ bound ∙ c.in_ok-add.ensures.ok)
+
+pub take_back-requires-clause-fits : goal.take_back-requires-clause-fits
+take_back-requires-clause-fits c =
+    let w : World = c.self.inside.records in
+    let born : c.args.s < length w.scopes = born_open w c.args.s (rw c.self.view_is c.requires.opened) in
+    let bound : c.args.s < length c.self.inside.families.items = omega (arith, born, c.self.invariant.0.as_many, length-map w.scopes is_shut) in
+    child_fits c.index_mut.result.now _ c.tasks_born-child.result (not c.is_cancelled-started.result) (c.index_mut-in-Err.ensures.value ∙ get_or-set_same c.self.inside.families.items c.args.s c.add.new.self _ bound ∙ c.in_ok-add.ensures.ok) c.add.ensures.bound
+
+pub returns-in-Err-clause-err : goal.returns-in-Err-clause-err
+returns-in-Err-clause-err c = c.in-Err.ensures.err ∙ c.self.view_is
+
+pub returns-clause-ok : goal.returns-clause-ok
+returns-clause-ok c = c.in_default.ensures.ok ∙ ap (λ (v : World). fork_task c.args.program.now v c.args.t (task_at v c.args.t).frame c.args.s c.args.function c.args.handle) c.self.view_is
+
+pub fork_task-requires-clause-lives : goal.fork_task-requires-clause-lives
+fork_task-requires-clause-lives c = ap (λ (v : World). lives (task_at v c.args.t)) c.self.view_is ∙ c.requires.lives
