@@ -1,4 +1,4 @@
-use Rattle.std.proofs.Common.{◌≡◌, not, ◌<◌, ◌≤◌, ◌∙◌, ap, sym, length, false, arith, slice_index_or}
+use Rattle.std.proofs.Common.{◌≡◌, not, ◌<◌, ◌∙◌, ap, sym, length, false, arith, slice_index_or}
 use Rattle.std.proofs.lemmas.List.{get_or_default, length-map, get_or-set_same}
 use Rattle.sts_code.specs.declared.limits.TheConstants.{MAX_STANDING}
 use Rattle.sts_model.specs.Effect.{fork_task}
