@@ -23,9 +23,9 @@ returns-in-Ok-None c =
     let running : false ≡ (scope_at w c.args.s).expired = cc in
     let same : (scope_at c.self.inside.records c.args.s).cancelled ≡ (scope_at w c.args.s).cancelled = ap (λ (v : World). (scope_at v c.args.s).cancelled) c.self.view_is in
     let decides : c.if-is_cancelled.value ≡ ((scope_at w c.args.s).cancelled || not (any_lives w c.args.s)) = elim c.if-is_cancelled.branch [
-        then-is_cancelled b ↦ first_holds c.if-is_cancelled.value _ _ (b.value-is ∙ b.if-is_cancelled.true) (b.if-is_cancelled.ensures ∙ same)
+      | then-is_cancelled b ↦ first_holds c.if-is_cancelled.value _ _ (b.value-is ∙ b.if-is_cancelled.true) (b.if-is_cancelled.ensures ∙ same)
       | else-is_cancelled b ↦ second_decides c.if-is_cancelled.value _ _ (b.value-is ∙ ap not b.any_lives.ensures) (b.if-is_cancelled.ensures ∙ same)
-      ] in
+    ] in
     join_decides w c.joined-in-Ok-None.new.self c.args.t c.args.s c.args.failed c.args.timeout c.args.interrupted (task_at c.args.self.now c.args.t).frame (verdict.Ok None) running (sym c.if-not-any_lives.true ∙ decides) (ap (λ (o : Option ℤ). verdict.Ok o) (sym c.in-Ok-None.field-0-is) ∙ c.in-Ok-None.ensures) (c.joined-in-Ok-None.ensures ∙ ap (λ (g : Frame). joined w c.args.t c.args.s (goes (task_at w c.args.t).frame (g.pc + 1) 0 [])) (c.frame.ensures ∙ ap (λ (v : World). (task_at v c.args.t).frame) c.self.view_is))
 
 pub returns-in-Ok-Some : goal.returns-in-Ok-Some
@@ -34,9 +34,9 @@ returns-in-Ok-Some c =
     let running : false ≡ (scope_at w c.args.s).expired = cc in
     let same : (scope_at c.self.inside.records c.args.s).cancelled ≡ (scope_at w c.args.s).cancelled = ap (λ (v : World). (scope_at v c.args.s).cancelled) c.self.view_is in
     let decides : c.if-is_cancelled.value ≡ ((scope_at w c.args.s).cancelled || not (any_lives w c.args.s)) = elim c.if-is_cancelled.branch [
-        then-is_cancelled b ↦ first_holds c.if-is_cancelled.value _ _ (b.value-is ∙ b.if-is_cancelled.true) (b.if-is_cancelled.ensures ∙ same)
+      | then-is_cancelled b ↦ first_holds c.if-is_cancelled.value _ _ (b.value-is ∙ b.if-is_cancelled.true) (b.if-is_cancelled.ensures ∙ same)
       | else-is_cancelled b ↦ second_decides c.if-is_cancelled.value _ _ (b.value-is ∙ ap not b.any_lives.ensures) (b.if-is_cancelled.ensures ∙ same)
-      ] in
+    ] in
     join_decides w c.joined_with.new.self c.args.t c.args.s c.args.failed c.args.timeout c.args.interrupted (task_at c.args.self.now c.args.t).frame (verdict.Ok (Some c.in-Ok-Some.value)) running (sym c.if-not-any_lives.true ∙ decides) (ap (λ (o : Option ℤ). verdict.Ok o) (sym c.in-Ok-Some.field-0-is) ∙ c.in-Ok-Some.ensures) (search rules)
 
 pub returns-in-Failed : goal.returns-in-Failed
@@ -45,9 +45,9 @@ returns-in-Failed c =
     let running : false ≡ (scope_at w c.args.s).expired = cc in
     let same : (scope_at c.self.inside.records c.args.s).cancelled ≡ (scope_at w c.args.s).cancelled = ap (λ (v : World). (scope_at v c.args.s).cancelled) c.self.view_is in
     let decides : c.if-is_cancelled.value ≡ ((scope_at w c.args.s).cancelled || not (any_lives w c.args.s)) = elim c.if-is_cancelled.branch [
-        then-is_cancelled b ↦ first_holds c.if-is_cancelled.value _ _ (b.value-is ∙ b.if-is_cancelled.true) (b.if-is_cancelled.ensures ∙ same)
+      | then-is_cancelled b ↦ first_holds c.if-is_cancelled.value _ _ (b.value-is ∙ b.if-is_cancelled.true) (b.if-is_cancelled.ensures ∙ same)
       | else-is_cancelled b ↦ second_decides c.if-is_cancelled.value _ _ (b.value-is ∙ ap not b.any_lives.ensures) (b.if-is_cancelled.ensures ∙ same)
-      ] in
+    ] in
     join_decides w c.joined_with-in-Failed.new.self c.args.t c.args.s c.args.failed c.args.timeout c.args.interrupted (task_at c.args.self.now c.args.t).frame (verdict.Failed c.in-Failed.code) running (sym c.if-not-any_lives.true ∙ decides) c.in-Failed.ensures (search rules)
 
 pub returns-else-not-any_lives : goal.returns-else-not-any_lives
@@ -56,9 +56,9 @@ returns-else-not-any_lives c =
     let running : false ≡ (scope_at w c.args.s).expired = cc in
     let same : (scope_at c.self.inside.records c.args.s).cancelled ≡ (scope_at w c.args.s).cancelled = ap (λ (v : World). (scope_at v c.args.s).cancelled) c.self.view_is in
     let decides : c.if-is_cancelled.value ≡ ((scope_at w c.args.s).cancelled || not (any_lives w c.args.s)) = elim c.if-is_cancelled.branch [
-        then-is_cancelled b ↦ first_holds c.if-is_cancelled.value _ _ (b.value-is ∙ b.if-is_cancelled.true) (b.if-is_cancelled.ensures ∙ same)
+      | then-is_cancelled b ↦ first_holds c.if-is_cancelled.value _ _ (b.value-is ∙ b.if-is_cancelled.true) (b.if-is_cancelled.ensures ∙ same)
       | else-is_cancelled b ↦ second_decides c.if-is_cancelled.value _ _ (b.value-is ∙ ap not b.any_lives.ensures) (b.if-is_cancelled.ensures ∙ same)
-      ] in
+    ] in
     join_waits w c.attempted.new.self c.args.t c.args.s c.args.failed c.args.timeout c.args.interrupted (task_at c.args.self.now c.args.t).frame running (sym c.if-not-any_lives.false ∙ decides) c.attempted.ensures
 
 pub joined_with-requires-clause-room : goal.joined_with-requires-clause-room
