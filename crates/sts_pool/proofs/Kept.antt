@@ -277,9 +277,14 @@ ends m j n out k end o is ended some events may =
     let book : IsBook m events out = record { stands = may.stands; counted = omega (arith, counted, from); most = omega (arith, most, entries, from); apart = is.book.apart; living = is.book.living } in
     (reports m events out end o book is.room.main (ended events may.stands) some, steps_counted m events out book)
 
--- and the journal that led there, if it is written
-pub reported : (m : Seen) (j : Journal) (n : ℕ) (out : List ℕ) (k : ℕ) (end : Option End) (o : End) (entries : List Event) → IsKept m j n out k → ((events : List Event) → Stands m events → In (λ w. end ≡ (task_at w 0).outcome) (after m.program events)) → end ≡ Some o → written j ≡ Some entries
-    → IsReport m.program entries o × (m.steps ≡ count_by is_step entries)
-reported m j n out k end o entries is ended some e =
-    subst (λ es. IsReport m.program es o × (m.steps ≡ count_by is_step es)) (same_events j is.events entries is.journal_room is.holds e)
-    (reports m is.events out end o is.book is.room.main (ended is.events is.book.stands) some, steps_counted m is.events out is.book)
+-- the written entries may be the journal's
+kept_may : (m : Seen) (j : Journal) (n : ℕ) (out : List ℕ) (k : ℕ) (entries : List Event) → IsKept m j n out k → written j ≡ Some entries → MayBe (book_of m (written j) n out) entries
+kept_may m j n out k entries is e =
+    let all : length is.events ≡ m.steps + outside_entries is.events = is.book.counted in
+    let from : outside_entries is.events ≡ n = is.entries in
+    let may : MayBe (book_of m (written j) n out) is.events = record { stands = is.book.stands; outside = from; counted = omega (arith, all, from) } in
+    subst (MayBe (book_of m (written j) n out)) (same_events j is.events entries is.journal_room is.holds e) may
+
+pub taken_may : {V : Type 0} (items : V → List Event) (m : Seen) (j : Journal) (n : ℕ) (out : List ℕ) (k : ℕ) (taken : Option V) → IsKept m j n out k → option_map items taken ≡ written j → IfSome taken (λ v. MayBe (book_of m (written j) n out) (items v))
+taken_may items m j n out k (Some v) is e = kept_may m j n out k (items v) is (sym e)
+taken_may items m j n out k None is e = tt

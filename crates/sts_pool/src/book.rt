@@ -3,7 +3,7 @@
 ghost use Rattle.std.specs.Prelude.{◌≡◌, ◌≢◌, ◌<◌, ◌≤◌, ℕ, ◌+◌, ◌++◌, ◌∷◌, [], ◌↔◌, List, IfOk, OnOk, IfErr};
 ghost use Rattle.std.specs.Prelude.{OnErr, IfSome, IfNone, IsErr, IsOk, IsTrue, true, false};
 ghost use Rattle.std.specs.Prelude.{filter, not, ◌==◌, MatchBool, count_by, None, Some};
-ghost use Rattle.std.specs.Prelude.{vec_capacity};
+ghost use Rattle.std.specs.Prelude.{vec_capacity, option_map};
 ghost use Rattle.std.specs.List.{list_any};
 ghost use Rattle.sts_frames.specs.Locals.{local_at};
 ghost use Rattle.sts_machine.specs.Slice.{code_at, frame_at, steps_of};
@@ -360,26 +360,27 @@ impl<'p> Book<'p> {
         ensures steps { IfOk result (λ r. r.steps ≡ count_by is_step r.journal.items) }
         ensures workers { IfOk result (λ r. r.workers ≡ workers) }
     {
-        let Some(end) = self.machine.root_end() else {
-            return Err(PoolError::Unfinished);
-        };
-        let steps = self.machine.steps();
-        let Book {
-            machine: _,
-            journal,
-            outside: _,
-            out: _,
-        } = self;
-        let Journal::Written(journal) = journal else {
+        let ending = self.ending(workers, counted);
+        let entries = self.into_entries();
+        let ending = ending?;
+        let Some(journal) = entries else {
             return Err(PoolError::Unfinished);
         };
         Ok(Report {
-            end,
+            end: ending.end,
             journal,
-            steps,
-            workers,
-            counted,
+            steps: ending.steps,
+            workers: ending.workers,
+            counted: ending.counted,
         })
+    }
+
+    /// The entries of the journal, if they are written.
+    fn into_entries(self) -> Option<Vec<Event>>
+        ensures entries { option_map (λ v. v.items) result ≡ self.entry.journal }
+        ensures may { IfSome result (λ v. MayBe self.entry v.items) }
+    {
+        self.journal.into_entries()
     }
 
     /// Is there a task that can step and isn't out?
