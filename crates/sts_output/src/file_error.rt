@@ -1,11 +1,10 @@
 //! Why a file that a command line names was not read or written.
 
-ghost use Rattle.std.specs.Prelude.{◌≡◌, ◌++◌, IfOk, OnOk};
+ghost use Rattle.std.specs.Prelude.{◌≡◌, ◌++◌, IfOk, codes};
 ghost use Rattle.std.specs.IoError.{error_kind};
 ghost use Rattle.sts_output.specs.Reasons as def;
 ghost use Rattle.sts_output.specs.declared.file_error.FileError.TheVariants as file_error;
 
-use crate::reasons::say;
 use crate::taking::TakeError;
 use std::alloc::{AllocError, Global};
 use std::io;
@@ -63,7 +62,9 @@ impl<'a> FileError<'a> {
         ensures { IfOk result (λ line. line.items ≡ def.file_line program.now self.entry) }
     {
         match self {
-            FileError::Unread { path, kind } => unread_line(alloc, program, path, kind),
+            FileError::Unread { path, kind } => {
+                unread_line(alloc, program, path, kind_words(kind), input_words(path))
+            }
             FileError::Unwritten { path, kind } => {
                 unwritten_line(alloc, program, path, kind_words(kind))
             }
@@ -74,42 +75,33 @@ impl<'a> FileError<'a> {
     }
 }
 
-fn unread_line(
+/// Returns the line about a file that was not read: what failed, and a hint.
+fn unread_line<'a>(
     alloc: Global,
-    program: &str,
-    path: &str,
-    kind: ErrorKind,
+    program: &'a str,
+    path: &'a str,
+    words: &'a str,
+    hint: &'a str,
 ) -> Result<Vec<u8>, AllocError>
-    ensures { IfOk result (λ line. line.items ≡ def.unread_line program.now path.now kind) }
+    ensures { IfOk result (λ line. line.items ≡ program.now ++ codes ": cannot read " ++ path.now
+        ++ codes ": " ++ words.now ++ hint.now ++ codes "\n") }
 {
-    let mut line = Vec::new(alloc);
-    say(&mut line, program)?;
-    say(&mut line, ": cannot read ")?;
-    say(&mut line, path)?;
-    say(&mut line, ": ")?;
-    say(&mut line, kind_words(kind))?;
-    say(&mut line, input_words(path))?;
-    say(&mut line, "\n")?;
-    Ok(line)
+    let parts = [program, ": cannot read ", path, ": ", words, hint, "\n"];
+    Ok(parts.concat(alloc)?.into_bytes())
 }
 
-fn unwritten_line(
+/// Returns the line about a file that was not written: what failed.
+fn unwritten_line<'a>(
     alloc: Global,
-    program: &str,
-    path: &str,
-    words: &str,
+    program: &'a str,
+    path: &'a str,
+    words: &'a str,
 ) -> Result<Vec<u8>, AllocError>
     ensures { IfOk result (λ line. line.items
         ≡ def.unwritten_line program.now path.now words.now) }
 {
-    let mut line = Vec::new(alloc);
-    say(&mut line, program)?;
-    say(&mut line, ": cannot write ")?;
-    say(&mut line, path)?;
-    say(&mut line, ": ")?;
-    say(&mut line, words)?;
-    say(&mut line, "\n")?;
-    Ok(line)
+    let parts = [program, ": cannot write ", path, ": ", words, "\n"];
+    Ok(parts.concat(alloc)?.into_bytes())
 }
 
 /// Returns what failed, in words.
