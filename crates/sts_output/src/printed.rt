@@ -201,19 +201,23 @@ pub fn refused_line(
     Ok(())
 }
 
+/// The line of one budget of a function. The word has a space before it and after it.
+fn budget_line(out: &mut String, name: &str, word: &str, budget: u32) -> Result<(), AllocError>
+    ensures { OnOk result (string_bytes out.new
+        ≡ string_bytes out.old ++ def.budget_line name.now word.now budget) }
+{
+    writeln!(out, "{name}{word}{budget}")
+}
+
 /// The four lines of a function's budgets.
 fn budget_lines(out: &mut String, name: &str, budgets: Budgets) -> Result<(), AllocError>
     ensures { OnOk result (string_bytes out.new
         ≡ string_bytes out.old ++ def.budget_lines name.now budgets) }
 {
-    let steps = budgets.steps;
-    let tasks = budgets.tasks;
-    let scopes = budgets.scopes;
-    let binds = budgets.binds;
-    writeln!(out, "{name} steps {steps}")?;
-    writeln!(out, "{name} tasks {tasks}")?;
-    writeln!(out, "{name} scopes {scopes}")?;
-    writeln!(out, "{name} binds {binds}")
+    budget_line(out, name, " steps ", budgets.steps)?;
+    budget_line(out, name, " tasks ", budgets.tasks)?;
+    budget_line(out, name, " scopes ", budgets.scopes)?;
+    budget_line(out, name, " binds ", budgets.binds)
 }
 
 /// The lines of the budgets of all functions.

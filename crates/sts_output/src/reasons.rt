@@ -1,7 +1,7 @@
 //! Lines for standard error that say where a text has its fault.
 
 ghost use Rattle.std.specs.Prelude.{◌≡◌, ◌++◌, ◌-◌, IfOk, OnOk, Some, None, map, take, option_map};
-ghost use Rattle.std.specs.Prelude.{Result, slice_get};
+ghost use Rattle.std.specs.Prelude.{Ok, Result, slice_get};
 ghost use Rattle.sts_code.specs.Program.{Program as AnyProgram};
 ghost use Rattle.sts_asm.specs.Fault.{FailsAt};
 ghost use Rattle.sts_asm.specs.declared.fault.AsmError.{AsmError};
@@ -13,7 +13,7 @@ ghost use Rattle.sts_trace.specs.Reading.{outside_read, trace_read};
 ghost use Rattle.sts_output.specs.Reasons as def;
 
 use std::alloc::{AllocError, Global};
-use sts_asm::{AsmError, AsmKind, assemble, outlined};
+use sts_asm::{AsmError, AsmKind, Outline, assemble, outlined};
 use sts_code::CodeError;
 use sts_trace::{TraceError, read_outside, read_trace};
 
@@ -92,15 +92,22 @@ fn say_place(alloc: Global, out: &mut Vec<u8>, text: &[u8], number: u64) -> Resu
     say(out, "\"")
 }
 
+/// Returns the number of the line of an instruction of an outline, or 0 if there is none.
+fn line_in(outline: &Outline, code: CodeError) -> u32
+    ensures { result ≡ def.code_line (Ok outline.now) code }
+{
+    match outline.sentence(code.function, code.pc) {
+        Some(sentence) => sentence.line(),
+        None => 0,
+    }
+}
+
 /// Returns the number of the line of an instruction, or 0 if there is none.
 fn code_line(alloc: Global, text: &[u8], code: CodeError) -> Result<u32, AllocError>
     ensures { IfOk result (λ n. n ≡ def.code_line (outlined_of text.now) code) }
 {
     match outlined(alloc, text) {
-        Ok(outline) => match outline.sentence(code.function, code.pc) {
-            Some(sentence) => Ok(sentence.line()),
-            None => Ok(0),
-        },
+        Ok(outline) => Ok(line_in(&outline, code)),
         Err(error) => {
             if matches!(error.kind, AsmKind::Memory) {
                 return Err(AllocError);
