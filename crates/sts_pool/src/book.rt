@@ -102,10 +102,10 @@ impl<'p> Book<'p> {
         turns_are_seen(verified);
         views_are_within(verified);
         let budget = every_run(verified);
-        let machine = Machine::prepare(alloc, verified)?;
         let entries = budget.steps as usize + MAX_OUTSIDE as usize;
         let journal = Journal::start(alloc, is_written, entries)?;
         let out = Vec::with_capacity(alloc, budget.tasks as usize)?;
+        let machine = Machine::prepare(alloc, verified)?;
         Ok(Book {
             machine,
             journal,

@@ -325,6 +325,14 @@ impl<'p, O: Outside, B: Runs<O>> Pool<'p, O, B> {
     }
 }
 
+impl<'p, O: Outside + Drop, B: Runs<O>> Pool<'p, O, B> {
+    /// The book with its outside, and how many workers have reached the lock.
+    fn into_asked(self) -> (Asked<'p, O, B>, u32) {
+        let Shared { asked, came, .. } = self.shared.into_inner();
+        (asked, came)
+    }
+}
+
 /// Runs a program with 1 to 16 workers: how its root ended, and the journal that led there. The
 /// interrupts and expiries of the journal are those that `outside` gave, each at the length that
 /// the journal had then.
@@ -350,10 +358,10 @@ pub fn run<R: Threads + Wait + Sync, G: Gate + Sync, O: Outside + Send + Drop>(
     ensures workers { IfOk result (λ r. r.workers ≡ workers) }
 {
     let stacks = &[STACK; 16][..workers as usize];
-    let Ok(book) = Book::start(alloc, verified) else {
+    let Ok(counted) = Vec::with_capacity(alloc, MAX_OUTSIDE as usize) else {
         return Err(PoolError::Memory);
     };
-    let Ok(counted) = Vec::with_capacity(alloc, MAX_OUTSIDE as usize) else {
+    let Ok(book) = Book::start(alloc, verified) else {
         return Err(PoolError::Memory);
     };
     let left = run_on::<Brand, R, G, O>(rt, book, counted, stacks, gate, outside)?;
@@ -384,10 +392,10 @@ pub fn run_unwritten<R: Threads + Wait + Sync, G: Gate + Sync, O: Outside + Send
     ensures workers { IfOk result (λ r. r.workers ≡ workers) }
 {
     let stacks = &[STACK; 16][..workers as usize];
-    let Ok(book) = Book::with_journal(alloc, verified, false) else {
+    let Ok(counted) = Vec::with_capacity(alloc, MAX_OUTSIDE as usize) else {
         return Err(PoolError::Memory);
     };
-    let Ok(counted) = Vec::with_capacity(alloc, MAX_OUTSIDE as usize) else {
+    let Ok(book) = Book::with_journal(alloc, verified, false) else {
         return Err(PoolError::Memory);
     };
     let left = run_on::<Brand, R, G, O>(rt, book, counted, stacks, gate, outside)?;
@@ -448,18 +456,9 @@ pub(crate) fn run_on<
         }),
         woken: Condvar::new(),
     };
-    if !work_all(rt, &pool, gate, stacks) {
-        return Err(PoolError::SpawnRefused);
-    }
-    let Pool { shared, woken: _ } = pool;
-    let Shared {
-        asked,
-        stop: _,
-        came,
-        waits: _,
-        next: _,
-    } = shared.into_inner();
-    if came != workers {
+    let have_started = work_all(rt, &pool, gate, stacks);
+    let (asked, came) = pool.into_asked();
+    if !have_started || came != workers {
         return Err(PoolError::SpawnRefused);
     }
     let (book, counted) = asked.close()?;
