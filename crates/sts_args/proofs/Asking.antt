@@ -34,7 +34,7 @@ run_given (Ok l) name rows file same h files given =
     of_name (λ n. IsGiven (n, rows) l) name (codes "run") same record { files = files ∙ rw h refl; options = given }
 run_given (Err e) name rows file same h files given = tt
 
--- what is refused for one reason is refused for each that follows
+-- a refusal for one reason is also one for each reason that follows from it
 blames_more : (whole more : Bool) (e : LineError) → (whole ≡ false → more ≡ false) → BlamesUnless whole e → BlamesUnless more e
 blames_more whole more error.Memory f h = tt
 blames_more whole more (error.Help text) f h = h

@@ -56,7 +56,7 @@ marks_hold kept added now marks place after is held h =
 pub within_marks : (kept : List TypeState) (marks : List (Arrival Mark)) (table : List (Arrival TypeState)) (place : ℕ) → map (arrival_of kept) marks ≡ table → place < length table → place < length marks
 within_marks kept marks table place view lt = omega (arith, lt, ap length view, length-map marks (arrival_of kept))
 
--- what the table has at a place, read off the mark there
+-- the table's entry at a place, read off the mark there
 pub read_at : (kept : List TypeState) (marks : List (Arrival Mark)) (table : List (Arrival TypeState)) (place : ℕ) (here : Arrival Mark) → map (arrival_of kept) marks ≡ table → place < length table → here ≡ get_or marks place here → get_or table place Nothing ≡ arrival_of kept here
 read_at kept marks table place here view lt reads =
     ap (λ l. get_or l place Nothing) (sym view)

@@ -122,6 +122,7 @@ fn keeps_turn(instr: Instr, arrivals: &Arrivals) -> bool
 
 /// Goes on from a place by all tests of a cause. The current typestate is the only one that arrived
 /// there.
+#[inline(always)]
 fn visit_in_full(
     program: &Program,
     function: u32,
@@ -162,6 +163,7 @@ fn visit_in_full(
 }
 
 /// Goes on from a place, unless a cause holds there. Most instructions take a short way.
+#[inline(always)]
 fn visit(
     program: &Program,
     function: u32,

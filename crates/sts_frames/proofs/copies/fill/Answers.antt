@@ -12,15 +12,17 @@ pub overflow_sub-len-in-loop-i : goal.overflow_sub-len-in-loop-i
 overflow_sub-len-in-loop-i g c = omega (arith, c.loop-i-test.true)
 
 pub push-requires : goal.push-requires
-push-requires g c =
-    (search rules, has_room_for_one c.args.from.now c.loop-i.stack _ _ c.loop-i.i
-        c.len-len.ensures.len c.len-len.ensures.bound c.loop-i-test.true c.loop-i.invariant)
+push-requires g c = (
+  search rules,
+  has_room_for_one c.args.from.now c.loop-i.stack _ _ c.loop-i.i
+      c.len-len.ensures.len c.len-len.ensures.bound c.loop-i-test.true c.loop-i.invariant,
+)
 
 pub loop-i-preserved : goal.loop-i-preserved
 loop-i-preserved g c =
     c.push.ensures
     ∙ one_more c.args.from.now c.loop-i.stack _ c.loop-i.i _ _
-        c.len-len.ensures.len c.loop-i-test.true c.loop-i.invariant c.get_or.ensures
+    c.len-len.ensures.len c.loop-i-test.true c.loop-i.invariant c.get_or.ensures
 
 pub returns : goal.returns
 returns g c =

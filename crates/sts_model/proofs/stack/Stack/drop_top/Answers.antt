@@ -8,7 +8,7 @@ returns-in-0-clause-rest g c = ap (λ k. drop k c.args.self.now) (sym c.in-0.is)
 pub returns-in-0-clause-bound : goal.returns-in-0-clause-bound
 returns-in-0-clause-bound g c =
     rw (sym (length_reversed c.self.inside.values.items _ _ c.self.view_is c.len.ensures.value))
-        c.len.ensures.fits
+    c.len.ensures.fits
 
 pub returns-in-1-clause-rest : goal.returns-in-1-clause-rest
 returns-in-1-clause-rest g c = c.drop_one.ensures ∙ ap (λ k. drop k c.args.self.now) (sym c.in-1.is)
@@ -16,7 +16,7 @@ returns-in-1-clause-rest g c = c.drop_one.ensures ∙ ap (λ k. drop k c.args.se
 pub returns-in-1-clause-bound : goal.returns-in-1-clause-bound
 returns-in-1-clause-bound g c =
     rw (sym (length_reversed c.self.inside.values.items _ _ c.self.view_is c.len.ensures.value))
-        c.len.ensures.fits
+    c.len.ensures.fits
 
 pub returns-in-2-clause-rest : goal.returns-in-2-clause-rest
 returns-in-2-clause-rest g c =
@@ -28,7 +28,7 @@ returns-in-2-clause-rest g c =
 pub returns-in-2-clause-bound : goal.returns-in-2-clause-bound
 returns-in-2-clause-bound g c =
     rw (sym (length_reversed c.self.inside.values.items _ _ c.self.view_is c.len.ensures.value))
-        c.len.ensures.fits
+    c.len.ensures.fits
 
 pub returns-in_default-clause-rest : goal.returns-in_default-clause-rest
 returns-in_default-clause-rest g c = c.drop_each.ensures
@@ -36,4 +36,4 @@ returns-in_default-clause-rest g c = c.drop_each.ensures
 pub returns-in_default-clause-bound : goal.returns-in_default-clause-bound
 returns-in_default-clause-bound g c =
     rw (sym (length_reversed c.self.inside.values.items _ _ c.self.view_is c.len.ensures.value))
-        c.len.ensures.fits
+    c.len.ensures.fits

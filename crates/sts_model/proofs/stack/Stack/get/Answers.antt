@@ -18,9 +18,9 @@ bounds-deref-len g c =
 pub returns-then-n-len : goal.returns-then-n-len
 returns-then-n-len g c =
     sym (read_reverse c.self.inside.values.items _ _ _ c.args.n _ c.self.view_is c.deref.ensures.0
-        c.len-len.ensures.value c.if-n-len.true c.index-deref-len.is)
+    c.len-len.ensures.value c.if-n-len.true c.index-deref-len.is)
 
 pub returns-else-n-len : goal.returns-else-n-len
 returns-else-n-len g c =
     sym (past_reverse c.self.inside.values.items _ _ c.args.n c.self.view_is
-        c.len-len.ensures.value c.if-n-len.false)
+    c.len-len.ensures.value c.if-n-len.false)

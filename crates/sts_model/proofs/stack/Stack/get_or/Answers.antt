@@ -19,11 +19,11 @@ bounds-deref-len g c =
 pub returns-then-n-len : goal.returns-then-n-len
 returns-then-n-len g c =
     sym (get_or_from_slice_get c.args.self.now c.args.n _ c.args.default
-        (read_reverse c.self.inside.values.items _ _ _ c.args.n _ c.self.view_is c.deref.ensures.0
-        c.len-len.ensures.value c.if-n-len.true c.index-deref-len.is))
+    (read_reverse c.self.inside.values.items _ _ _ c.args.n _ c.self.view_is c.deref.ensures.0
+    c.len-len.ensures.value c.if-n-len.true c.index-deref-len.is))
 
 pub returns-else-n-len : goal.returns-else-n-len
 returns-else-n-len g c =
     let none = past_reverse c.self.inside.values.items _ _ c.args.n c.self.view_is
-        c.len-len.ensures.value c.if-n-len.false in
+    c.len-len.ensures.value c.if-n-len.false in
     sym (ap (λ o. unwrap_or o c.args.default) none) ∙ unwrap_or-slice_get c.args.self.now c.args.n c.args.default
