@@ -319,16 +319,24 @@ fn no_tops(alloc: Global, places: usize) -> Result<Tops, AllocError>
     })
 }
 
+/// The budget of a resource that has this greatest sum.
+fn budget_from(resource: Resource, top: &Top) -> u32
+    requires { top.now.greatest ≤ most resource }
+    ensures { result ≡ own_of resource + top.now.greatest }
+{
+    own_of(resource) + top.greatest as u32
+}
+
 /// The budgets that have these greatest sums.
 fn budgets_of(tops: &Tops) -> Budgets
     requires { (k : Resource) → (top_of tops.now k).greatest ≤ most k }
     ensures { (k : Resource) → budget_of result k ≡ own_of k + (top_of tops.now k).greatest }
 {
     Budgets {
-        steps: own_of(Resource::Steps) + tops.steps.greatest as u32,
-        tasks: own_of(Resource::Tasks) + tops.tasks.greatest as u32,
-        scopes: own_of(Resource::Scopes) + tops.scopes.greatest as u32,
-        binds: own_of(Resource::Binds) + tops.binds.greatest as u32,
+        steps: budget_from(Resource::Steps, &tops.steps),
+        tasks: budget_from(Resource::Tasks, &tops.tasks),
+        scopes: budget_from(Resource::Scopes, &tops.scopes),
+        binds: budget_from(Resource::Binds, &tops.binds),
     }
 }
 

@@ -23,14 +23,6 @@ other : {A : Type 0} (b : Bool) (x y : A) → false ≡ b → y ≡ (if b then x
 other true x y e = cc
 other false x y e = refl
 
-pub first_holds : (v a b : Bool) → v ≡ true → true ≡ a → v ≡ (a || b)
-first_holds v true b e h = e
-first_holds v false b e h = cc
-
-pub second_decides : (v a b : Bool) → v ≡ b → false ≡ a → v ≡ (a || b)
-second_decides v true b e h = cc
-second_decides v false b e h = e
-
 -- there is room for one operand more, if the joiner pushes
 pub room_left : (n m : ℕ) (a : Bool) → (nat_le m n && not a) ≡ false → a ≡ false → n < m
 room_left n m a e h = grind (arith, nat_tests)

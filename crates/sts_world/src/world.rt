@@ -2,7 +2,7 @@
 
 ghost use Rattle.std.specs.Prelude.{◌≡◌, ◌<◌, ◌≤◌, ◌+◌, ◌-◌, ◌^◌, ◌&&◌, [], ◌∷◌};
 ghost use Rattle.std.specs.Prelude.{if◌then◌else◌, OnOk, OnErr, IfOk, Some, None, true, false};
-ghost use Rattle.std.specs.Prelude.{length, slice_index_or, nat_lt, nat_le, not, pos, count_by};
+ghost use Rattle.std.specs.Prelude.{length, slice_index_or, nat_lt, nat_le, not, ◌||◌, pos, count_by};
 ghost use Rattle.sts_code.specs.Facts as facts;
 ghost use Rattle.sts_code.specs.Program.{routine};
 ghost use Rattle.sts_code.specs.declared.limits.TheConstants.{MAX_BIRTHS, MAX_ENTRIES};
@@ -486,6 +486,14 @@ impl World {
         self.records.task(t).leave_join(to);
     }
 
+    /// Has the joiner its result: is the scope cancelled, or does none of its subtasks live?
+    fn has_result(&self, s: u32) -> bool
+        ensures { result ≡ ((def.scope_at self.now s).cancelled
+            || not (living.any_lives self.now s)) }
+    {
+        self.records.is_cancelled(s) || !self.any_lives(s)
+    }
+
     /// The answer of `join` once there is one.
     #[tactic(auto, using(crate::proofs::Verdicts::pushes), unfolding(sts_model::specs::Effect::join_scope))]
     pub fn join(&mut self, t: u32, s: u32, failed: u32, timeout: u32, interrupted: u32)
@@ -499,7 +507,7 @@ impl World {
     {
         if self.records.is_expired(s) {
             self.joined(t, s, timeout);
-        } else if self.records.is_cancelled(s) || !self.any_lives(s) {
+        } else if self.has_result(s) {
             match self.verdict(s) {
                 Verdict::Ok(None) => {
                     let next = self.records.frame(t).pc + 1;
