@@ -37,12 +37,16 @@ class Side:
         self.signal(signal.SIGSTOP)
 
     def processes(self):
-        """Returns the numbers of the command's processes."""
-        found = set()
-        for number in filter(str.isdigit, os.listdir("/proc")):
-            with contextlib.suppress(OSError), open(f"/proc/{number}/environ", "rb") as it:
+        """Returns the numbers of the command's processes: those with the mark in their environment, and all that these
+        have started, since the prover clears the environment of the compiler that it starts."""
+        found, parents = set(), {}
+        for number in map(int, filter(str.isdigit, os.listdir("/proc"))):
+            with contextlib.suppress(OSError), open(f"/proc/{number}/environ", "rb") as it, open(f"/proc/{number}/stat") as stat:
+                parents[number] = int(stat.read().rsplit(")", 1)[1].split()[1])
                 if self.mark in it.read().split(b"\0"):
-                    found.add(int(number))
+                    found.add(number)
+        while new := {number for number, parent in parents.items() if parent in found} - found:
+            found |= new
         return found
 
     def signal(self, which):

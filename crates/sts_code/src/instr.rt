@@ -34,7 +34,7 @@ pub enum Kind {
 ///
 /// A target is the number of an instruction in the same function, a function its index in the
 /// program. Slots, locals and keys are below 16 in a program that passed its checks.
-#[derive(Clone, Copy, Debug, PartialEq, Eq)]
+#[derive(Clone, Copy, PartialEq, Eq)]
 pub enum Instr {
     Push(i64),
     Pop,

@@ -39,6 +39,13 @@ pub fn replay<'p>(
     Ok(machine)
 }
 
+/// How the root of a machine that is no longer needed ended, if it did.
+fn end_of(machine: Machine<'_>) -> Option<End>
+    ensures { result ≡ machine.entry.live.root_end }
+{
+    machine.root_end()
+}
+
 /// Steps tasks that can step until the root has ended. Answers how it ended.
 ///
 /// # Errors
@@ -53,5 +60,5 @@ pub fn run_alone(alloc: Global, verified: &Verified) -> Result<End, AllocError>
     while let Some(task) = machine.ready() {
         machine.turn(Event::Step(task));
     }
-    Ok(machine.root_end().unwrap())
+    Ok(end_of(machine).unwrap())
 }

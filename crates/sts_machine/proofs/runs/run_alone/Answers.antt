@@ -34,7 +34,7 @@ unwrap-requires c =
     let is = c.loop-task.invariant in
     let none = none_picked (live_can_step m.program m.live) c.ready.result c.ready.ensures.seen c.in_default.not-Some in
     let end = root_has_ended m.program (subst HasLaws (sym is.0) c.laws.ensures.laws) c.nothing_is_lost.ensures is.1.0 m.live m.steps is.1.1.1 none in
-    rw (c.root_end.ensures.seen ∙ end.1) refl
+    rw (c.end_of.ensures ∙ end.1) refl
 
 pub returns : goal.returns
 returns c =
@@ -42,4 +42,4 @@ returns c =
     let is = c.loop-task.invariant in
     runs_to c.args.verified.now is.1.0 m.live m.steps c.unwrap.result is.1.1.0
     (subst (λ q. StandsAt q is.1.0 m.live m.steps) is.0 is.1.1.1)
-    (sym c.root_end.ensures.seen ∙ c.unwrap.ensures)
+    (sym c.end_of.ensures ∙ c.unwrap.ensures)
