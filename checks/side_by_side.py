@@ -21,7 +21,7 @@ import time
 
 TURN = 20.0  # seconds
 LOOK = 0.05  # seconds between two looks at whether the command has ended
-MARK = "STS_SIDE"  # a variable in the environment of a command and of all that it starts
+MARK = "STS_SIDE"  # a variable in the environment of a command; most of what it starts has it, too
 
 
 class Side:

@@ -1,8 +1,7 @@
 #!/usr/bin/env python3
 """Runs the gate, `rt ci`, and then prints the processor seconds of each crate: its proofs, its tests' proofs, its must-fail edits.
 
-The output of the gate goes to standard output as it comes, and the table follows it. The status is the gate's. The prover
-gets its memory in large pages, as in a first build.
+The output of the gate goes to standard output as it comes, and the table follows it. The status is the gate's.
 The figures are read off /proc twice a second, so a process that ends between two readings loses half a second at most.
 """
 import collections
@@ -11,8 +10,6 @@ import subprocess
 import sys
 import threading
 import time
-
-import build
 
 TICK = os.sysconf("SC_CLK_TCK")
 KINDS = ["proofs", "tests", "edits"]
@@ -59,9 +56,7 @@ def main():
     seen, ended, since = {}, threading.Event(), time.time()
     looking = threading.Thread(target=watch, args=(seen, ended))
     looking.start()
-    environment = {"GLIBC_TUNABLES": build.LARGE_PAGES, **os.environ}
-    how = {"cwd": root, "stdin": subprocess.DEVNULL, "env": environment}
-    status = subprocess.run(sys.argv[1:] or ["rt", "ci"], **how).returncode
+    status = subprocess.run(sys.argv[1:] or ["rt", "ci"], cwd=root, stdin=subprocess.DEVNULL).returncode
     ended.set()
     looking.join()
     print(f"\nprocessor seconds, of {time.time() - since:.0f} seconds by the clock")

@@ -39,7 +39,7 @@ pub fn replay<'p>(
     Ok(machine)
 }
 
-/// How the root of a machine that is no longer needed ended, if it did.
+/// Drops a machine, and returns how its root ended, if it did.
 fn end_of(machine: Machine<'_>) -> Option<End>
     ensures { result ≡ machine.entry.live.root_end }
 {
