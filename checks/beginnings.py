@@ -1,5 +1,5 @@
 #!/usr/bin/env python3
-"""Gives the program every beginning of the texts and traces in examples/.  usage: beginnings.py [PROGRAM]
+"""Gives the program every beginning of the texts and traces in examples/.  usage: beginnings.py [PROGRAM|--unproved]
 
 A text is whole once the `end` of its last function is there. Every shorter beginning is a fault of a text, status 3.
 A beginning of a trace is a trace if and only if it is empty or ends with a newline. Otherwise the answer is `error T3`.
@@ -11,8 +11,9 @@ import subprocess
 import sys
 import tempfile
 
+import tested
+
 ROOT = os.path.dirname(os.path.dirname(os.path.realpath(__file__)))
-PROGRAM = os.path.join(ROOT, "crates", "sts", "out", "sts")
 
 
 def said(program, mode, *paths):
@@ -55,10 +56,7 @@ def traces(program, path, beginning):
 
 
 def main():
-    program = os.path.realpath(sys.argv[1] if len(sys.argv) > 1 else PROGRAM)
-    if not os.access(program, os.X_OK):
-        print(f"beginnings.py: no program at {program}: ./sts builds it", file=sys.stderr)
-        return 2
+    [program], _ = tested.taken(sys.argv[1:], "sts")
     passed = failed = 0
     with tempfile.TemporaryDirectory() as folder:
         for kind, suffix in ((texts, "sts"), (traces, "trace")):

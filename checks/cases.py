@@ -1,10 +1,11 @@
 #!/usr/bin/env python3
-"""Asks `look cases` for the answers to all cases of vectors/.  usage: cases.py [LOOK]
+"""Asks `look cases` for the answers to all cases of vectors/.  usage: cases.py [LOOK|--unproved]
 
-Each member that is expected of a case is the same in its answer, which is in order and has the number of its line. Then it
-tries lines that are no case, an empty line, standard input, and a file that is missing (status 6). The expected answers of
-the vectors come from the worked rows. The last line but one says how many cases were answered in a second, all processes
-included. The last line is `N passed, M failed`, of cases.
+Each member that is expected of a case is the same in its answer, which is in order and has the number of its line. A short
+text or trace is written in full first, and a text that has its trace is parted. A case that expects a listing is a program.
+Outside texts aren't asked. Then it tries lines that are no case, an empty line, standard input, and a file that is missing
+(status 6). The expected answers come from the worked rows. The last line but one says how many cases were answered in a
+second, all processes included. The last line is `N passed, M failed`, of cases.
 """
 import glob
 import json
@@ -14,8 +15,10 @@ import sys
 import tempfile
 import time
 
+import tested
+from write_trace import trace
+
 ROOT = os.path.dirname(os.path.dirname(os.path.realpath(__file__)))
-LOOK = os.path.join(ROOT, "crates", "look", "out", "look")
 SEVEN = {"text": "func main 0\npush 7\nret\nend\n", "trace": "step 0\nstep 0\n"}
 # Worked out by hand: `main` has two steps, and ends with 7.
 OF_SEVEN = {
@@ -41,16 +44,36 @@ def agrees(answer, expected):
     return type(answer) is type(expected) and answer == expected
 
 
+def in_full(case):
+    """Returns a case as `look cases` reads it: its text, and its trace if a run is asked for."""
+    said = {name: case[name] for name in ("text", "trace") if name in case}
+    for name in ("text", "trace"):
+        if f"{name}_parts" in case:
+            said[name] = "".join(lines * count for count, lines in case[f"{name}_parts"])
+    if "short" in case:
+        said["trace"] = trace(case["short"])
+    if "joined" in case:
+        text, mark, events = f"\n{case['joined']}\n".partition("\n%\n")
+        said = {"text": f"{text}\n"[1:] if mark else case["joined"], "trace": events[:-1] if mark else ""}
+    return said
+
+
+def wanted(case, number):
+    """Returns what the answer to a case has to have. `look cases` prints no listing: its text is a program."""
+    expected = case["expected"]
+    return {"case": number, "version": 1, **({"verdict": {}} if "listing" in expected else expected)}
+
+
 def vectors(look):
     """Yields each case of vectors/, its answer, and whether that is right."""
     for path in sorted(glob.glob(f"{ROOT}/vectors/*.jsonl")):
         with open(path) as file:
-            cases = [json.loads(it) for it in file]
-        status, printed = asks(look, [path])
+            cases = [it for it in map(json.loads, file) if "outside" not in it]
+        status, printed = asks(look, ["-"], "".join(f"{json.dumps(in_full(it))}\n" for it in cases).encode())
         answers = [json.loads(it) for it in printed.decode().splitlines()]
         yield os.path.basename(path), (status, len(answers)), (status, len(answers)) == (0, len(cases))
         for number, (case, answer) in enumerate(zip(cases, answers), 1):
-            yield case["name"], answer, agrees(answer, {"case": number, "version": 1, **case["expected"]})
+            yield case["name"], answer, agrees(answer, wanted(case, number))
 
 
 def edges(look):
@@ -76,10 +99,7 @@ def edges(look):
 
 
 def main():
-    look = os.path.realpath(sys.argv[1] if sys.argv[1:] else LOOK)
-    if not os.access(look, os.X_OK):
-        print(f"cases.py: no program at {look}: ./look builds it", file=sys.stderr)
-        return 2
+    [look], _ = tested.taken(sys.argv[1:], "look")
     passed = failed = 0
     for tried in (vectors, edges):
         for name, answer, right in tried(look):

@@ -22,22 +22,22 @@ import subprocess
 import sys
 import tempfile
 
-import build
+import kit
+import sources
 
 ROWS = 30
 MODULE = re.compile(r"/Rattle-(\w+)-(?:specs|proofs)\.(.+)\.oantt$")
-PROVED = re.compile(r"(?:fn|struct|enum|impl|trait|const|type) .*: proved|statements |logic /|by-macro")
 PARTS = ("Lts", "Tie", "Goals", "Answers", "Proof")
 
 
-def check(rtlib, crate, functions, kept):
+def check(crate, functions, kept):
     """Checks the crate, or these functions, and returns the prover's status."""
     only = [word for it in functions for word in ("--only", it)]
     with open(os.devnull, "w", encoding="utf-8") as crate.out:
-        words = [*crate.words(["--jobs", "1"], keeps=False), *only, "--incremental", kept]
+        words = kit.checking(crate, [*only, "--incremental", kept])
     how = {"cwd": crate.folder, "stdin": subprocess.DEVNULL, "stdout": subprocess.PIPE, "stderr": subprocess.STDOUT}
-    ran = subprocess.run([*rtlib.guarded(), rtlib.RATTLE, "check", *words], text=True, errors="replace", **how)
-    print(*(it[:1000] for it in ran.stdout.splitlines() if not PROVED.match(it)), sep="\n")
+    ran = subprocess.run(words, text=True, errors="replace", **how)
+    print(*(it[:1000] for it in ran.stdout.splitlines() if not kit.OF_A_PROOF.match(it)), sep="\n")
     return ran.returncode
 
 
@@ -65,17 +65,16 @@ def main():
         print(__doc__)
         return 0 if sys.argv[1:] else 2
     name, *functions = sys.argv[1:]
-    if name not in build.sources.crates():
+    if name not in sources.crates():
         print(f"checks/dear.py: crates.txt has no crate {name}", file=sys.stderr)
         return 2
-    rtlib = build.kit()
-    crate = rtlib.Crate(f"{build.ROOT}/crates/{name}", build.ROOT, {})
+    crate = kit.crate(sources.ROOT, name, {})
     unbuilt = [it.name for it in crate.below() if not it.is_built()]
     if unbuilt:
         print(f"checks/dear.py: these crates aren't built: {', '.join(unbuilt)}; ./sts or ./look builds them", file=sys.stderr)
         return 2
     with tempfile.TemporaryDirectory(prefix="sts-dear-") as kept:
-        status = check(rtlib, crate, functions, kept)
+        status = check(crate, functions, kept)
         report(seconds(crate, kept))
     return status
 

@@ -1,8 +1,8 @@
 #!/usr/bin/env python3
 """Shows one text for each cause, fault and check to `look`, and each example, and keeps what the documents show of them.
 
-    checks/each_cause.py [LOOK [STS]]          compares; the last line is `N passed, M failed`
-    checks/each_cause.py write [LOOK [STS]]    writes these parts of the documents
+    checks/each_cause.py [LOOK [STS]|--unproved]          compares; the last line is `N passed, M failed`
+    checks/each_cause.py write [LOOK [STS]|--unproved]    writes these parts of the documents
 
 For each text, `explain` names the code that `sts` prints, with its status. `view` begins with what `sts plain` prints, with
 its status. `draw` is a well-formed picture, or says about the fault what `view` says. For each cause V1 to V20, `view` and
@@ -26,7 +26,8 @@ import look_rows
 import relied
 from causes import PAGES, pairs
 from documents import STATUS, read, shown_commands
-from looks import LOOK, STS, place_words
+import tested
+from looks import place_words
 from write_trace import trace
 
 SECONDS = 600
@@ -275,11 +276,7 @@ def compared(look, sts, folder):
 def main():
     words = sys.argv[1:]
     is_writing = words[:1] == ["write"]
-    look, sts = (words[is_writing:] + [LOOK, STS][len(words[is_writing:]):])[:2]
-    for program in (look, sts):
-        if not os.access(program, os.X_OK):
-            print(f"each_cause.py: no program at {program}: ./sts and ./look build them", file=sys.stderr)
-            return 2
+    (look, sts), _ = tested.taken(words[is_writing:], "look", "sts")
     with tempfile.TemporaryDirectory() as folder:
         pages, right = pages_of(look, folder)
         for path, page in pages.items():

@@ -1,5 +1,5 @@
 #!/usr/bin/env python3
-"""Gives the programs words and files at their edges.  usage: edges.py [PROGRAM [LOOK [PART ..]]]
+"""Gives the programs words and files at their edges.  usage: edges.py [PROGRAM [LOOK]|--unproved] [PART ..]
 
 PROGRAM is `sts`, LOOK is `look`; each of their commands is tried if it applies. A PART is a function below, such as
 `dues_of_sts`; all are tried if none is named.
@@ -14,20 +14,16 @@ PROGRAM is `sts`, LOOK is `look`; each of their commands is tried if it applies.
 - Outside texts: the first fault is reported, and there are at most 4,096 lines.
 - Budgets: a run that reaches all four, and for each budget a text with no run that reaches it.
 - Large runs: 65,535 subtasks, and a text of 1,048,576 bytes, by 4 workers.
-- The launchers ./sts and ./look: a call for help starts no proof, and neither does a word that is no command, if there is
-  no program yet. Nor does a call with no FILE, with one that isn't there, or with `--unproved` behind its first word. Any
-  other call starts one if there is no program or a source is newer.
 Expected answers were worked out by hand from the rules.  The last line is `N passed, M failed`, of runs.
 """
 import os
-import shutil
 import subprocess
 import sys
 import tempfile
-import time
+
+import tested
 
 ROOT = os.path.dirname(os.path.dirname(os.path.realpath(__file__)))
-PROGRAM, LOOK = (os.path.join(ROOT, "crates", name, "out", name) for name in ("sts", "look"))
 SECONDS, LARGE = 60, 600  # how long a run may take, and a large one
 MOST = 1_048_576  # The bytes that a text may have.
 
@@ -234,85 +230,6 @@ def helped(program, commands, is_printed=False):
         yield f"help of {command}", (status, other, names), (0, "", True)
 
 
-def put(path, content, seconds):
-    """Makes a file that may be executed, dated by its age in seconds."""
-    os.makedirs(os.path.dirname(path), exist_ok=True)
-    with open(path, "w") as file:
-        file.write(content)
-    os.chmod(path, 0o755)
-    os.utime(path, (time.time() - seconds,) * 2)
-
-
-def launchers(sts, look):
-    """Tries ./sts and ./look where a script that prints `builds` is in place of the one that proves and builds."""
-    for program, name, commands in (sts, "sts", OF_PROGRAM[1:6]), (look, "look", COMMANDS_OF_LOOK):
-        with tempfile.TemporaryDirectory() as top:
-            for it in (name, "checks/launch.sh", "checks/sources.py", "VERSION"):
-                put(f"{top}/{it}", of_repository(it), 300)
-            shutil.copytree(f"{ROOT}/checks/help", f"{top}/checks/help")
-            put(f"{top}/checks/build.py", "import sys\nprint('builds', *sys.argv[2:])\n", 300)
-            put(f"{top}/checks/unproved.py", "import sys\nprint('builds', *sys.argv[3:])\n", 300)
-            for it in ("text", "checks/text"):
-                put(f"{top}/{it}", SEVEN, 300)
-            yield from launched(Folder(f"{top}/{name}", top), program, name, commands)
-            yield from launched_fast(top, name)
-
-
-def launched(launcher, program, name, commands):
-    """Tries a launcher before there is a program, with one that is older than a source, and with one that isn't."""
-    helps = [["-h"], ["--help"], ["help"], *(["help", it] for it in [*commands, "help"])]
-    helps += [[command, it] for command in commands for it in ("-h", "--help")]
-    for words in helps:
-        yield f"./{name} {words} with no program", launcher.says(*words), program.says(*words)
-    for words in (["frobnicate"], ["help", "frobnicate"], ["frobnicate", "text"], ["frobnicate", "-h"]):
-        refused = 2, "", f"{name}: no command frobnicate; ./{name} --help has the commands\n"
-        yield f"./{name} {words} with no program", launcher.says(*words), refused
-    asked = [[], [commands[0], "text"], [commands[0], "text", "--help"]]
-    for words in asked:
-        yield f"./{name} {words} with no program", launcher.says(*words), (0, f"{' '.join(['builds', *words])}\n", "")
-    yield from launched_in_vain(launcher, program, name, commands)
-    yield f"./{name} --version", launcher.says("--version"), (0, f"{name} {of_repository('VERSION')}", "")
-    put(f"{launcher.path}/crates/{name}/out/{name}", "#!/bin/sh\necho runs $@\n", 200)
-    for says, source in ("builds", 100), ("runs", 290):
-        put(f"{launcher.path}/crates/{name}/src/lib.rt", "", source)
-        put(f"{launcher.path}/crates.txt", "", 290)
-        os.utime(f"{launcher.path}/crates/{name}/src", (time.time() - 290,) * 2)
-        for words in [*asked, ["frobnicate"]]:
-            yield f"./{name} {words}, a source of {source}", launcher.says(*words), (0, f"{' '.join([says, *words])}\n", "")
-        for words in helps:
-            yield f"./{name} {words}, a source of {source}", launcher.says(*words), (0, f"{' '.join(['runs', *words])}\n", "")
-
-
-def launched_in_vain(launcher, program, name, commands):
-    """Tries calls that no build helps, where there is no program: the launcher answers them with the program's status."""
-    for before in ([], ["--unproved"]):
-        for command in commands:
-            way = f"./{name} {before} {command}"
-            misplaced = launcher.says(*before, command, "--unproved", "text")
-            yield f"{way} --unproved", (misplaced[:2], "first word" in misplaced[2]), (program.says(command, "--unproved", "text")[:2], True)
-            yield f"{way} with no FILE", launcher.says(*before, command)[:2], program.says(command)[:2]
-            yield f"{way} none", launcher.says(*before, command, "none"), NO_FILE
-            for words in ([command, "text"], [command, "--", "--unproved"], [command, "-"], [command, "none", "-h"]):
-                yield f"{way} {words[1:]}", launcher.says(*before, *words), (0, f"{' '.join(['builds', *words])}\n", "")
-
-
-def launched_fast(top, name):
-    """Tries a launcher that knows by a file which sources its program is built of, from two folders and by a link."""
-    os.symlink(f"{top}/{name}", f"{top}/checks/link")
-    ways = [(f"./{name}", top), (f"../{name}", f"{top}/checks"), (f"{top}/{name}", f"{top}/checks"), ("./link", f"{top}/checks")]
-    put(f"{top}/crates.txt", f"{name}:\nother:\n", 290)
-    put(f"{top}/crates/{name}/src/lib.rt", "", 290)
-    put(f"{top}/crates/other/src/lib.rt", "", 100)
-    write = f"import sources; sources.write('{top}/crates/{name}/out/{name}', '{name}')"
-    subprocess.run([sys.executable, "-c", write], cwd=f"{top}/checks", check=True)
-    for changed in (None, f"crates/{name}/src/lib.rt", f"crates/{name}/src", "crates.txt"):
-        for it in (f"crates/{name}/src/lib.rt", f"crates/{name}/src", "crates.txt"):
-            os.utime(f"{top}/{it}", (time.time() - (100 if it == changed else 290),) * 2)
-        for path, folder in ways:
-            said = Folder(path, folder).says("list", "text")
-            yield f"{path}, {changed} is newer", said, (0, f"{'builds' if changed else 'runs'} list text\n", "")
-
-
 def files(program, name, texts, traces):
     """Tries files that are missing, and a text that is too long."""
     for words in [*texts, *traces]:
@@ -453,6 +370,9 @@ DUES = [
         {1: NOT_ALIVE.format(5), 2: NOT_ALIVE.format(6)},
     ),
     ("at 11 interrupt 5 / at 0 interrupt 0", 0, "s s s s s s s s s s", {1: NOT_DUE.format(10), 2: HELD.format(1)}),
+    # the line behind it is held back also if it is due just at the end
+    ("at 11 interrupt 5 / at 10 interrupt 0", 0, "s s s s s s s s s s", {1: NOT_DUE.format(10), 2: HELD.format(1)}),
+    ("at 11 interrupt 5 / at 11 interrupt 0", 0, "s s s s s s s s s s", {1: NOT_DUE.format(10), 2: NOT_DUE.format(10)}),
     ("at 0 interrupt 5 / at 12 interrupt 0 / at 13 interrupt 0", 0, "5 s s s s s s s s s s",
         {1: NOT_ALIVE.format(5), 2: NOT_DUE.format(11), 3: NOT_DUE.format(11)}),
 ]
@@ -480,6 +400,13 @@ def dues_of_sts(sts):
         yield f"{short!r} with a journal", sts.says(*words, "--trace", "journal"), right
         events = "".join("step 0\n" if it == "s" else f"interrupt {it}\n" for it in journal.split())
         yield f"the journal of {short!r}", sts.read("journal"), events
+    # a root that fails: events that come before its end, at its end, and never
+    outside = "at 0 interrupt 5\nat 3 interrupt 0\nat 9 interrupt 0\n"
+    reasons = {1: NOT_ALIVE.format(5), 2: NOT_ALIVE.format(0), 3: NOT_DUE.format(4)}
+    right = 1, f"{BUDGETS}failed 8\nsteps 2\n", no_effect(outside, reasons)
+    for more in ([], ["--trace", "journal"]):
+        sts.has(text=FAILS, due=outside)
+        yield f"events of a root that fails: {more}", sts.says("run", "text", "--workers", "1", "--outside", "due", *more), right
     for entries, value in LATE_DUES:
         sts.has(text=LATE, due=f"at {entries} interrupt 0\n")
         right = 0, f"{BUDGETS.replace('2', '70025')}success {value}\nsteps 70025\n", ""
@@ -610,31 +537,27 @@ def files_of_look(look):
 
 OF_STS = [words_of_sts, names_of_sts, outputs_of_sts, dues_of_sts, outside_texts_of_sts, large_runs_of_sts, files_of_sts]
 OF_LOOK = [words_of_look, names_of_look, outputs_of_look, files_of_look]
-OF_BOTH = [dashed_names, costs_of_runs, launchers]
+OF_BOTH = [dashed_names, costs_of_runs]
 PARTS = [it.__name__ for it in (*OF_STS, *OF_LOOK, *OF_BOTH)]
 
 
 def tried(sts, look, parts):
-    for programs, tries in ([sts], OF_STS), ([look], OF_LOOK), ([sts, look], OF_BOTH):
+    for given, tries in ([sts], OF_STS), ([look], OF_LOOK), ([sts, look], OF_BOTH):
         for it in tries:
             if it.__name__ in parts:
-                yield from it(*programs)
+                yield from it(*given)
 
 
 def main():
-    programs = [os.path.realpath(it) for it in [*sys.argv[1:3], *(PROGRAM, LOOK)[len(sys.argv[:3]) - 1 :]]]
-    parts = sys.argv[3:] or PARTS
+    both, parts = tested.taken(sys.argv[1:], "sts", "look")
+    parts = parts or PARTS
     unknown = [it for it in parts if it not in PARTS]
     if unknown:
         print(f"edges.py: no part {unknown[0]}: there are {', '.join(PARTS)}", file=sys.stderr)
         return 2
-    for program in programs:
-        if not os.access(program, os.X_OK):
-            print(f"edges.py: no program at {program}: ./sts and ./look build them", file=sys.stderr)
-            return 2
     passed = failed = 0
     with tempfile.TemporaryDirectory() as folder:
-        for what, said, right in tried(*(Folder(it, folder) for it in programs), parts):
+        for what, said, right in tried(*(Folder(it, folder) for it in both), parts):
             passed, failed = passed + (said == right), failed + (said != right)
             if said != right:
                 print(f"{what}: {said}, and not {right}", file=sys.stderr)

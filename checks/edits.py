@@ -32,6 +32,7 @@ import tempfile
 import time
 
 import build
+import kit
 
 ROOT = os.path.dirname(os.path.dirname(os.path.realpath(__file__)))
 EDITS = f"{ROOT}/checks/edits"
@@ -147,15 +148,14 @@ def told_of(lines, edits, texts):
     return said
 
 
-def checked(rtlib, crate, room, edits):
+def checked(crate, room, edits):
     """Checks the functions of these edits in a copy of the crate, and returns what the prover prints, as lines."""
     only = [word for it in edits for word in ("--only", it.function)]
-    words = [*rtlib.guarded(), rtlib.RATTLE, "check", *crate.words(["--jobs", "1", *only], keeps=False)]
     how = {"cwd": room, "stdin": subprocess.DEVNULL, "stdout": subprocess.PIPE, "stderr": subprocess.STDOUT}
-    return subprocess.run(words, text=True, errors="replace", **how).stdout.splitlines()
+    return subprocess.run(kit.checking(crate, only), text=True, errors="replace", **how).stdout.splitlines()
 
 
-def together(rtlib, crate, edits):
+def together(crate, edits):
     """Makes edits of a crate in one copy and checks their functions. Returns what came of each, as far as the prover says it."""
     with tempfile.TemporaryDirectory(prefix="sts-together-") as room:
         for part in PARTS:
@@ -166,11 +166,11 @@ def together(rtlib, crate, edits):
             text = texts(edit.file)
             with open(f"{room}/{edit.file}", "w", encoding="utf-8") as file:
                 file.write(text.replace(edit.old, edit.new))
-        lines = checked(rtlib, crate, room, edits)
+        lines = checked(crate, room, edits)
         while edits and lines and (match := NO_NAME.search(lines[-1])):
             # (a name that the prover has otherwise, or twice)
             edits = [it for it in edits if it.function != match[1]]
-            lines = checked(rtlib, crate, room, edits) if edits else []
+            lines = checked(crate, room, edits) if edits else []
         if not lines or not ENDED.match(lines[-1]) or any(ERROR.search(it) for it in lines):
             print(f"{crate.name}: not tried together: {lines[-1][:160] if lines else 'no function was found'}", flush=True)
             return {}
@@ -193,23 +193,23 @@ def one_by_one(crate, names, to):
     return {it[2]: "by a name" if BY_NAME in it[0] else it[3] for it in TRIED.finditer(said)}
 
 
-def tried(rtlib, crate, to):
+def tried(crate, to, is_alone):
     """Tries a crate's edits, and returns the result of each and the seconds."""
     since, found = time.time(), {}
-    if rtlib:
+    if not is_alone:
         for edits in rounds([it for it in (read(crate.name, name) for name in names_of(crate.name)) if it]):
-            found.update(together(rtlib, crate, edits))
+            found.update(together(crate, edits))
     left = [it for it in names_of(crate.name) if it not in found]
     if left:
         found.update(one_by_one(crate.name, left, to))
     return found, time.time() - since
 
 
-def build_below(rtlib, crates, jobs):
+def build_below(crates, jobs):
     """Builds the libraries that these crates need, and returns whether all were built."""
     needed = {below.name: below for it in crates for below in it.below()}
     with contextlib.redirect_stdout(io.StringIO()):
-        return build.prove_all(rtlib, sorted(needed.values(), key=lambda it: len(it.below())), jobs)
+        return build.prove_all(sorted(needed.values(), key=lambda it: len(it.below())), jobs)
 
 
 def options(known):
@@ -229,12 +229,12 @@ def main():
     words, names = options(sorted(os.listdir(EDITS)))
     with tempfile.TemporaryDirectory(prefix="sts-edits-") as to, concurrent.futures.ThreadPoolExecutor(words.jobs) as pool:
         copy(to)
-        rtlib, known = build.kit(), {}
+        known = {}
         os.chdir(to)
-        crates = [rtlib.Crate(f"{to}/crates/{it}", to, known) for it in names]
-        if not build_below(rtlib, crates, words.jobs):
+        crates = [kit.crate(to, it, known) for it in names]
+        if not build_below(crates, words.jobs):
             sys.exit("edits.py: a library that the crates need isn't proved")
-        results = list(pool.map(lambda it: tried(None if words.alone else rtlib, it, to), crates))
+        results = list(pool.map(lambda it: tried(it, to, words.alone), crates))
     passed = failed = 0
     for name, (found, seconds) in zip(names, results):
         came = [found.get(it, "nothing was said of this edit") for it in names_of(name)]

@@ -1,5 +1,5 @@
 #!/usr/bin/env python3
-"""Compares `look ends` with a search in Python.  usage: ends.py [LOOK [STS]] [--count N] [--seed S]
+"""Compares `look ends` with a search in Python.  usage: ends.py [LOOK [STS]|--unproved] [PART ..] [--count N] [--seed S]
 
 The programs are the examples, those of docs/PATTERNS.md, and drawn ones: races with several ends, nested scopes, and
 scopes that are misused. Each is asked with expiries and without, and with an interrupt.
@@ -7,7 +7,8 @@ scopes that are misused. Each is asked with expiries and without, and with an in
 - `look ends` prints each end that all_ends.py finds, once, and no other: with the function and the line of a fault, and
   with the status 0. What all_ends.py searches is the machine of plain_machine.py, which shares no code with the crates.
 - It says how many states it kept: as many as a search in Python in the same order.
-- It says `refused, but no run faults` of just those texts that `sts verify` refuses and that have no fault among their ends.
+- It says `refused, but no run .. faults` of just those texts that `sts verify` refuses and that have no fault among their ends.
+  The words between name the events that may come.
 - The trace of each end, as `--trace` writes it, has as many events as its line says, and `sts` comes to that end by it:
   in mode `replay`, or in mode `plain` if the text is refused.
 - `--sample` finds no other end, and `--most` stops with status 5.
@@ -15,11 +16,16 @@ scopes that are misused. Each is asked with expiries and without, and with an in
   of races, or those that a run by workers may come to. docs/BEHAVIOUR.md shows those of programs whose end depends on the
   order of events.
 - The sets of ends.rows, worked out by hand, are those that `look ends` prints, as two compilers build it.
-A program with more than MOST_STATES states is left out. The last line is `N passed, M failed`, of comparisons.
+- Random schedules find each end of some races, and of the programs in checks/sampled, which have deadlines. Another seed gives
+  another listing, and the same seed the same one. A schedule may have 100,000 events, and no more (`schedules_of_look`).
+- Searches of some larger programs keep as many states as are counted by hand or by all_ends.py (`searches_of_look`).
+A program with more than MOST_STATES states is left out. With a PART, which is `schedules_of_look` or `searches_of_look`, only
+that is tried. The last line is `N passed, M failed`, of comparisons.
 """
 import argparse
 import concurrent.futures
 import glob
+import math
 import os
 import random
 import re
@@ -32,9 +38,9 @@ sys.path.insert(0, os.path.join(ROOT, "jdk"))
 import all_ends  # noqa: E402
 import documents  # noqa: E402
 import drawn  # noqa: E402
+import tested  # noqa: E402
 import stack_code  # noqa: E402
 from looks import place_words  # noqa: E402
-LOOK, STS = (os.path.join(ROOT, "crates", name, "out", name) for name in ("look", "sts"))
 MOST_STATES = 1500  # of a search in Python
 REFUSED = 4
 LINE = re.compile(r"(\d+) after (\d+) events: (.*)")
@@ -48,6 +54,14 @@ def says(*words):
     return done.returncode, done.stdout.splitlines()
 
 
+def says_in_time(*words):
+    """Returns the same, but no status if the program doesn't end."""
+    try:
+        return says(*words)
+    except subprocess.TimeoutExpired:
+        return None, []
+
+
 def by_line(source, end):
     """Returns an end in the words of `look ends`."""
     fault = re.fullmatch(r"fault (\w+) task (\d+) in (\S+) at (\d+)", end)
@@ -59,6 +73,11 @@ def by_line(source, end):
 
 def options(expiries, interrupts):
     return [*([] if expiries else ["--no-expiries"]), "--interrupts", str(interrupts)]
+
+
+def no_fault_line(expiries, interrupts):
+    most = {0: "without interrupts", 1: "with at most 1 interrupt"}.get(interrupts, f"with at most {interrupts} interrupts")
+    return f"refused, but no run {most}{'' if expiries else ' and without expiries'} faults"
 
 
 def traced(asked, text, folder, is_refused, words, found):
@@ -103,7 +122,7 @@ def wrong_of(asked, text, source, folder, expiries, interrupts):
     if status != 0 or len(found) != len(ends) or {it[2] for it in found} != ends:
         wrong.append(f"status {status}, {printed}, and the ends are {sorted(ends)}")
     may_say = is_refused and not any(it.startswith("fault") for it in ends)
-    if ("refused, but no run faults" in printed) != may_say:
+    if [it for it in printed if it.startswith("refused")] != ([no_fault_line(expiries, interrupts)] if may_say else []):
         wrong.append(f"whether it is refused without a fault: {printed}")
     states = all_ends.kept(program, expiries, interrupts)
     if printed[-1] != f"{states} states, all schedules":
@@ -209,6 +228,110 @@ def shown(asked):
             yield f"docs/PATTERNS.md, {name}", sorted(found) == sorted(re.findall(r"`([^`]+)`", ends))
 
 
+def lines_of(short):
+    return "".join(f"{it}\n" for it in short.split(" / "))
+
+
+def race(count, before=""):
+    """Returns a program whose subtasks race under `any`: it ends with the value of any of them, from 1 to `count`."""
+    forks = "".join(f"push {value} / fork s0 kid _ / " for value in range(1, count + 1))
+    return lines_of(f"func kid 1 / {before}load 0 / ret / end / func main 0 / open s0 any / {forks}join s0 bad - intr / close s0 / ret / "
+                    "bad: / close s0 / fail / intr: / push 0 / close s0 / fail / end")
+
+
+def turns(count, more=""):
+    """Returns a program of one task. It takes 4 steps, 13 for each turn of its loop, and those of `more`."""
+    turn = "push 0 / pop / " * 6 + "next / "
+    return lines_of(f"func main 0 / push {count} / times {count} / {turn}{more}push 7 / ret / end")
+
+
+# A flag that is read three times, and each time gives a digit.
+DIGITS = "func main 0 / interrupted / push 10 / mul / interrupted / add / push 10 / mul / interrupted / add / ret / end"
+SAMPLED = {  # the ends of the programs in checks/sampled: all_ends.py finds those of the first two
+    "best_price": ["success 9999000", "success 300001", "success 250001", "success 250002"],
+    "nested_deadlines": ["failed 504", "success 90", "success 51"],
+    # (each round of ten gives 1000, or 1 if its time was up)
+    "bulkhead": ["success 3000", "success 2001", "success 1002", "success 3"],
+}
+
+
+def schedules_of_look(look, folder):
+    """Yields what random schedules show, and whether it is so."""
+    text = os.path.join(folder, "schedules")
+
+    def sample(source, *words):
+        with open(text, "w") as file:
+            file.write(source)
+        status, printed = says_in_time(look, "ends", text, "--sample", *words)
+        shares = {end: int(times) for _, _, times, _, end in (it.groups() for it in map(SHARE.fullmatch, printed) if it)}
+        return status, shares, printed[:-1]
+
+    asked = [("a race of 2 ends", race(2), ["200"], [f"success {it}" for it in (1, 2)])]
+    asked += [("a race of 5 ends", race(5), ["500"], [f"success {it}" for it in range(1, 6)])]
+    asked += [("a flag", lines_of(DIGITS), ["300", "--interrupts", "1"], [f"success {it}" for it in (0, 1, 10, 100)])]
+    for name, ends in SAMPLED.items():
+        with open(os.path.join(ROOT, "checks", "sampled", f"{name}.sts")) as file:
+            asked.append((name, file.read(), ["300"], ends))
+    for name, source, words, ends in asked:
+        status, shares, _ = sample(source, *words)
+        yield f"{name}: {shares}", (status, set(shares), sum(shares.values())) == (5, set(ends), int(words[0]))
+    # Five subtasks of 104 steps each. The first one is forked first, and no one wins nearly always or never.
+    shares = sample(race(5, "push 100 / times 100 / next / "), "500")[1]
+    yield f"an even race: {shares}", len(shares) == 5 and all(15 <= it <= 300 for it in shares.values())
+    listings = {seed: sample(race(5), "100", "--seed", str(seed))[2] for seed in (1, 2, 7, 65_536 + 7)}
+    yield "each seed gives a listing of its own", len(set(map(tuple, listings.values()))) == len(listings)
+    yield "a seed gives the same listing again", sample(race(5), "100", "--seed", "7")[2] == listings[7]
+    for events, source in ((40_005, turns(3_077)), (100_000, turns(7_692))):
+        listing = [f"1 after {events} events, in 1 of 1 schedules: success 7"]
+        yield f"a schedule of {events} events", sample(source, "1") == (5, {"success 7": 1}, listing)
+    for events, source in ((100_001, turns(7_692, "jmp on / on: / ")), (119_994, turns(9_230))):
+        yield f"a schedule of {events} events", sample(source, "1") == (5, {}, ["1 schedules were cut off"])
+
+
+# Two groups open two scopes each, one after the other, and fork a subtask into each.
+GROUPS = "func leaf 0 / push 1 / ret / end / func mid 0 / open s1 awaitall / fork s1 leaf{} / join s1 - - intr / close s1 / " \
+    "open s2 awaitall / fork s2 leaf{} / join s2 - - late / close s2 / push 1 / ret / intr: / push 0 / close s1 / ret / " \
+    "late: / push 0 / close s2 / ret / end / func main 0 / open s0 awaitall / fork s0 mid _ / fork s0 mid _ / " \
+    "join s0 - - intr / close s0 / push 7 / ret / intr: / push 0 / close s0 / ret / end"
+READERS = "func kid 0 / interrupted / orelse 0 / ret / end / func main 0 / open s0 all / {}join s0 bad - intr / pop / total s0 / " \
+    "close s0 / ret / bad: / close s0 / fail / intr: / push 0 / close s0 / fail / end"
+
+
+def states_of_readers(count):
+    """Returns how many states the program READERS with this number of subtasks has, if own steps come first.
+
+    A subtask is at `interrupted`, at `orelse`, at `ret`, or at its end, and the order of the ends matters. `orelse` is an own step,
+    so one subtask at most is there. `main` has forked j subtasks, or it is behind its `join`, once all have ended in some order:
+    in five states, from `pop` to the end.
+    """
+    found = 1  # before `open`
+    for forked in range(count + 1):
+        for ended in range(forked + 1):
+            others = forked - ended
+            at_own = others * 2 ** (others - 1) if others else 0
+            found += math.comb(forked, ended) * math.factorial(ended) * (2**others + at_own)
+    return found + 5 * math.factorial(count)
+
+
+def searches_of_look(look, folder):
+    """Yields each search of a larger program, and whether it keeps as many states as it has to."""
+    text = os.path.join(folder, "searches")
+    # (all_ends.py counts the states of the groups)
+    for name, source, end, states in (
+        ("groups", GROUPS.format(" _", " _"), "success 7", 242),
+        ("groups with handles", GROUPS.format(" s3", " s4"), "success 7", 242),
+        ("seven readers", READERS.format("fork s0 kid _ / " * 7), "success 0", states_of_readers(7)),
+    ):
+        with open(text, "w") as file:
+            file.write(lines_of(source))
+        status, printed = says_in_time(look, "ends", text)
+        found = [it[3] for it in map(LINE.fullmatch, printed) if it]
+        yield f"{name}: {printed}", (status, found, printed[-1:]) == (0, [end], [f"{states} states, all schedules"])
+
+
+PARTS = {it.__name__: it for it in (schedules_of_look, searches_of_look)}
+
+
 def rows():
     """Yields each question of ends.rows: its line, the text, the options and the ends that were worked out by hand."""
     defined, lines, is_asked, question = {}, [], False, None
@@ -249,22 +372,29 @@ def by_compilers(look):
     """Returns the program, and the same program as Rattle's own compiler built it. Only `rt ci` builds the second one, so it may
     be missing beside a program that isn't that of the gate."""
     other = f"{look}.by-rattle"
-    return [look, other] if look == os.path.realpath(LOOK) or os.path.exists(other) else [look]
+    return [look, other] if look == os.path.realpath(tested.proved("look")) or os.path.exists(other) else [look]
 
 
 def main():
     reads = argparse.ArgumentParser(description="Compares `look ends` with a search in Python.")
-    reads.add_argument("look", nargs="?", default=LOOK)
-    reads.add_argument("sts", nargs="?", default=STS)
+    reads.add_argument("parts", nargs="*", metavar="PART", help=f"tries only {' or '.join(PARTS)}")
     reads.add_argument("--count", type=int, default=30, help="so many times two drawn programs (30)")
     reads.add_argument("--seed", default="1")
-    asked = reads.parse_args()
-    asked.look, asked.sts = map(os.path.realpath, (asked.look, asked.sts))
-    for program in asked.look, asked.sts:
-        if not os.path.exists(program):
-            print(f"ends.py: no program at {program}: ./sts and ./look build them", file=sys.stderr)
-            return 1
+    count = next((k for k, it in enumerate(sys.argv[1:3]) if it.startswith("-") and it != tested.UNPROVED), 2)
+    asked = reads.parse_args(sys.argv[1 + count :])
+    (asked.look, asked.sts), rest = tested.taken(sys.argv[1 : 1 + count], "look", "sts")
+    asked.parts = [*rest, *asked.parts]
+    if set(asked.parts) - set(PARTS):
+        reads.error(f"there is no part {asked.parts}")
     passed, failed, left_out = 0, 0, 0
+    with tempfile.TemporaryDirectory() as folder:
+        for part in asked.parts or PARTS:
+            for name, is_so in PARTS[part](asked.look, folder):
+                passed, failed = passed + is_so, failed + (not is_so)
+                print("" if is_so else f"{part}: {name}: not what is expected\n", end="")
+    if asked.parts:
+        print(f"{passed} passed, {failed} failed")
+        return 1 if failed else 0
     with concurrent.futures.ProcessPoolExecutor() as pool:
         work = [pool.submit(compare, asked, name, source) for name, source in texts(asked)]
         for it in work:

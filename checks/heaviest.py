@@ -19,7 +19,8 @@ import subprocess
 import sys
 from dataclasses import dataclass
 
-ROOT = os.path.dirname(os.path.dirname(os.path.realpath(__file__)))
+import tested
+
 RELIES = re.compile(r"JDK 25 throws \w+ at [^:]+: in \w+, line (\d+): (.*)")
 LIMITS = {"steps": 1_000_000, "tasks": 65_536, "scopes": 65_536, "binds": 65_536}
 PEAKS = ("tasks", "scopes", "binds")
@@ -242,16 +243,14 @@ def adds_up(text, lines, weight, own):
 
 def main():
     reads = argparse.ArgumentParser(description=__doc__, formatter_class=argparse.RawDescriptionHelpFormatter)
-    built = f"{ROOT}/crates/look/out/look"
-    reads.add_argument("--program", default=built, help="the built program (crates/look/out/look)")
+    reads.add_argument("--program", help="the program (crates/look/out/look)")
+    reads.add_argument("--unproved", action="store_true", help="takes the program without proofs, and builds it if need be")
     reads.add_argument("--seed", type=int, default=1, help="what the programs are drawn from (1)")
     reads.add_argument("--cases", type=int, default=1000, help="how many programs (1000)")
     reads.add_argument("--first", type=int, default=0, help="the number of the first one (0)")
     reads.add_argument("--failed", default="heaviest_failed", help="the folder for programs that fail (heaviest_failed)")
     asked = reads.parse_args()
-    if not os.access(asked.program, os.X_OK):
-        print(f"heaviest.py: no program at {asked.program}: ./look builds it", file=sys.stderr)
-        return 2
+    [asked.program], _ = tested.taken(tested.words_of(asked), "look")
     passed = failed = 0
     for number in range(asked.first, asked.first + asked.cases):
         functions = Drawing(random.Random(f"{asked.seed} {number}")).program()

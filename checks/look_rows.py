@@ -1,5 +1,5 @@
 #!/usr/bin/env python3
-"""Asks `look` for the answers of the rows in checks/look_rows, which were worked out by hand.  usage: look_rows.py [LOOK]
+"""Asks `look` for the answers of the rows in checks/look_rows, which were worked out by hand.  usage: look_rows.py [LOOK|--unproved]
 
 The files `.rows` have the notation of the tables in crates/tests_rows/data, with these questions:
 - `? explain` asks for the explanation of the text above; `? explain TRACE` for that of its run;
@@ -23,10 +23,10 @@ import subprocess
 import sys
 import tempfile
 
+import tested
 import rows
 
 HERE = os.path.dirname(os.path.realpath(__file__))
-LOOK = os.path.join(os.path.dirname(HERE), "crates", "look", "out", "look")
 SHAPES = {
     "ready": "h24",
     "waits": "h24",
@@ -141,10 +141,7 @@ def tried(look):
 
 
 def main():
-    look = os.path.realpath(sys.argv[1] if sys.argv[1:] else LOOK)
-    if not os.access(look, os.X_OK):
-        print(f"look_rows.py: no program at {look}: ./look builds it", file=sys.stderr)
-        return 2
+    [look], _ = tested.taken(sys.argv[1:], "look")
     passed = failed = 0
     for what, said, right in tried(look):
         passed, failed = passed + (said == right), failed + (said != right)

@@ -1,5 +1,5 @@
 #!/usr/bin/env python3
-"""Runs the built program `look` over the examples.  usage: looks.py [LOOK [STS]]
+"""Runs the built program `look` over the examples.  usage: looks.py [LOOK [STS]|--unproved] [PART]
 
 - docs/LOOK.md shows what `view` or `explain` prints for a beginning of a trace, what `explain` prints for a text or an
   example, and the title of a window that `draw` shows;
@@ -15,8 +15,10 @@
   `plain`, a lane for each task, and a column for each event that `view --each` shows;
 - `draw --events` of the first half of an example's events is `draw` of these events, but says which others there are. Of
   the other half it has the columns that the whole picture has;
-- the stored pictures are what `draw` prints.
-The last line is `N passed, M failed`, of comparisons.
+- the stored pictures are what `draw` prints;
+- `view`, `explain` and `draw` of a run of 65,536 tasks are right, and so is `explain` of the largest text that is accepted and
+  of one with 64 functions that is refused for its budget (`large_of_look`).
+With a PART, which is `large_of_look`, only that is tried. The last line is `N passed, M failed`, of comparisons.
 """
 import glob
 import os
@@ -26,13 +28,14 @@ import sys
 import tempfile
 from xml.etree import ElementTree
 
+import tested
 import relied
 from documents import read
+from edges import WIDE
 
 ROOT = os.path.dirname(os.path.dirname(os.path.realpath(__file__)))
 sys.path.insert(0, os.path.join(ROOT, "docs", "pictures"))
 import drawn  # noqa: E402
-LOOK, STS = (os.path.join(ROOT, "crates", name, "out", name) for name in ("look", "sts"))
 SHOWN = re.compile(r"After the first (\d+) events of \[(\w+)\]\S*?(?:, `(--\w+)` .*?)?:\n\n((?:    .*\n)+)")
 TOLD = re.compile(r"This is printed after the first (\d+) events of \[(\w+)\].*?:\n\n((?:    .*\n)+)")
 TITLED = re.compile(r"For the (\d+) events of \[(\w+)\]\S*, `--events (\S+)` gives this title:\n\n((?:    .*\n)+)")
@@ -242,6 +245,48 @@ def explained(look, folder):
         yield f"{os.path.basename(text)} explained", says(look, "explain", text) == relied.accepted(os.path.basename(text)[:-4])
 
 
+def wide_trace():
+    """Returns the events of a run of WIDE: `main` forks all subtasks, then each takes its steps, then `main` goes on."""
+    return "step 0\n" * 131_118 + "".join(f"step {task}\n" * 2 for task in range(1, 65_536)) + "step 0\n" * 3
+
+
+def large_of_look(look, folder):
+    """Yields whether `look` is right about large runs and texts."""
+    text, trace = (os.path.join(folder, it) for it in ("text", "trace"))
+
+    def write(path, content):
+        with open(path, "w") as file:
+            file.write(content)
+
+    write(text, WIDE)
+    write(trace, wide_trace())
+    subtasks = "".join(f"task {it} under 0 in kid at 2 success 0\n" for it in range(1, 65_536))
+    viewed = f"success 65535\nsteps 262191\ntask 0 under - in main at 11 success 65535\n{subtasks}scope 0 of 0 all closed cancelled\n"
+    yield "the view of 65,536 tasks", says(look, "view", text, trace) == (0, viewed)
+    yield "65,536 tasks explained", says(look, "explain", text, trace) == (0, "success 65535\n")
+    status, printed = says(look, "draw", text, trace)
+    title = "success 65535\n steps 262191\n (events 1 to 260191 left out)\n"
+    yield "65,536 tasks drawn", status == 0 and f"<title>{title}</title>" in printed and f"<desc>{viewed}</desc>" in printed
+    yield "65,536 lanes", len(re.findall(r"<text class='name'", printed)) == 65_536
+    yield "2,000 columns", re.findall(r"<text class='number'[^>]*>.*?</title>(\d+)<", printed) == [*map(str, range(260_192, 262_192))]
+    # 64 functions of 4,096 instructions, and a comment up to the last byte that a text may have
+    body = "push 0\n" + "dup\neq\n" * 2_047 + "ret\nend\n"
+    largest = "".join(f"func {name} 0\n{body}" for name in [*(f"f{it}" for it in range(63)), "main"])
+    write(text, largest + ";" * (1_048_575 - len(largest)) + "\n")
+    yield "the largest text", says(look, "explain", text) == (0, "accepted\n")
+    # 300 functions of four lines each
+    many = "".join(f"func f{it} 0\npush 0\nret\nend\n" for it in range(300))
+    write(text, many)
+    explained_so = "error A9 C1 in f64, line 257: func f64 0\nthere are more than 64 functions\n"
+    yield "300 functions", says(look, "explain", text) == (3, explained_so)
+    # the text of V17 in docs/VERIFIER.md, after 63 functions of four lines each
+    few = "".join(f"func f{it} 0\npush 0\nret\nend\n" for it in range(63))
+    write(text, f"{few}func main 0\npush 757\ntimes 757\npush 1318\ntimes 1318\nnext\nnext\npush 0\nret\nend\n")
+    page = re.search(r"^    refused V17 in main, at its end\n(    .*\n)+", read("docs/VERIFIER.md"), re.M)[0]
+    right = re.sub(r"line (\d+)", lambda it: f"line {int(it[1]) + 4 * 63}", dedented(page))
+    yield "the budget of the last of 64 functions", says(look, "explain", text) == (4, right)
+
+
 def tried(look, sts):
     with tempfile.TemporaryDirectory() as folder:
         yield from shown(look, folder)
@@ -250,17 +295,22 @@ def tried(look, sts):
         for text in sorted(glob.glob(os.path.join(ROOT, "examples", "*.sts"))):
             yield from example(look, sts, folder, text)
             yield from drawing(look, sts, folder, text)
+        yield from large_of_look(look, folder)
     yield "the stored pictures", list(drawn.stale(look)) == []
 
 
+def large(look):
+    with tempfile.TemporaryDirectory() as folder:
+        yield from large_of_look(look, folder)
+
+
 def main():
-    look, sts = (sys.argv[1:] + [LOOK, STS][len(sys.argv) - 1:])[:2]
-    for program in (look, sts):
-        if not os.access(program, os.X_OK):
-            print(f"looks.py: no program at {program}: ./sts and ./look build them", file=sys.stderr)
-            return 2
+    (look, sts), parts = tested.taken(sys.argv[1:], "look", "sts")
+    if parts not in ([], ["large_of_look"]):
+        print(f"looks.py: no part {parts[0]}: there is large_of_look", file=sys.stderr)
+        return 2
     passed = failed = 0
-    for what, right in tried(look, sts):
+    for what, right in large(look) if parts else tried(look, sts):
         passed, failed = passed + right, failed + (not right)
         if not right:
             print(f"{what}: not what is expected", file=sys.stderr)

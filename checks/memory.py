@@ -1,5 +1,5 @@
 #!/usr/bin/env python3
-"""Refuses the requests that the programs make to the system, one at a time.  usage: memory.py [PROGRAM [LOOK [PART ..]]]
+"""Refuses the requests that the programs make to the system, one at a time.  usage: memory.py [PROGRAM [LOOK]|--unproved] [PART ..]
 
 PROGRAM is `sts`, LOOK is `look`. A PART is a function below, such as `threads_of_sts`; all are tried if none is named.
 Each case is a command of one of them, with the answer that its rules give.
@@ -17,15 +17,15 @@ In `threads_of_sts` the start of each worker is refused in turn. Then a run by w
 this if the refused memory was for such a start, and never otherwise. It starts as many workers as it is asked for, with a
 journal and without. Where one isn't started, the others stop: in a program of 480,052 steps this takes less than half the
 processor time of a whole run.
-In `single_calls`, calls are tried with refused memory, by the part `calls` of the program `tests_rows`, which prints what each
-answers:
+In `single_calls`, calls are tried with refused memory, by the parts `calls` and `workers` of the program `tests_rows`, which
+prints what each answers:
 - each call that leads to the one that is tried, and this one, finds no memory in turn; otherwise the answer is right;
 - `verify` gives a program back if memory runs out, and a machine is as it was before such an event. The same program, or
   the same event, then gives the right answer;
 - between `prepare`, or the start of a book, and the end of a whole run there is no request for memory.
 refuse.c makes the refusals. A C compiler makes a library of it, which is loaded before the program as it was built. If
-there is no compiler, or the library can't be loaded, the script says that, and the status is 1. It refuses no memory to a
-program that was built without proofs, since AddressSanitizer replaces the requests: there only `threads_of_sts` works.
+there is no compiler, or the library can't be loaded, the script says that, and the status is 1. It refuses no memory to the
+slow program that `rt try` builds, since AddressSanitizer replaces the requests: there only `threads_of_sts` works.
 The last line is `N passed, M failed`, of runs.
 """
 import collections
@@ -38,9 +38,9 @@ import sys
 import tempfile
 import threading
 
+import tested
+
 HERE = os.path.dirname(os.path.realpath(__file__))
-BUILT = os.path.join(os.path.dirname(HERE), "crates")
-PROGRAM, CALLS, LOOK = (os.path.join(BUILT, name, "out", name) for name in ("sts", "tests_rows", "look"))
 SECONDS, NO_END = 120, "no end"  # how long a run may take, and the status of one that takes longer: it is never right
 NO_MEMORY, NO_FILE, NO_THREADS = (b"error memory\n", 6), (b"error file\n", 6), (b"error threads\n", 6)
 
@@ -68,6 +68,7 @@ def events(short):
     return "".join(f"{it}\n" for it in told).encode()
 
 
+SEVEN = "func main 0 / push 7 / ret / end"
 FAILS = "bad: / close s0 / fail / intr: / push 0 / close s0 / fail / end"
 WORK = (
     "func work 1 / load 0 / push 2 / mul / ret / end / func main 0 / open s0 all / push 20 / fork s0 work s1 / push 1 / fork s0 work s2 / "
@@ -92,6 +93,7 @@ BOUND = (
     "unbind / ret / bad: / close s0 / unbind / fail / intr: / push 0 / close s0 / unbind / fail / end"
 )
 RUNS = [
+    ("a constant", SEVEN, "0*2", "success 7 / steps 2", 0),
     ("two subtasks", WORK, "0*5 1*4 2*4 0*7", "success 42 / steps 20", 0),
     ("a timeout", TIMED, "0*2 1*2 x0 0*4", "success 2 / steps 8", 0),
     ("a failure", MIDDLE, "0*3 1*3 2*2 3*1 1*3 3*3 1*2 0*3", "failed 8 / steps 19", 1),
@@ -104,6 +106,7 @@ REFUSED_TEXTS = [
 ]
 # for each function its name, and the most steps, tasks, scopes and bindings; and how the root ends with no event from outside
 ROWS = {
+    "a constant": ("main 2 1 0 0", "success 7"),
     "two subtasks": ("work 4 1 0 0 / main 21 3 1 0", "success 42"),
     "a timeout": ("kid 2 1 0 0 / main 9 2 1 0", "success 1"),
     "a failure": ("leaf 5 1 0 0 / boom 2 1 0 0 / mid 12 2 1 0 / main 22 4 2 0", "failed 8"),
@@ -115,6 +118,7 @@ DUES = "at 0 interrupt 7777 / at 3 expire 7777"
 # How a run by workers ends, and its steps. Their number is the same in any order of the tasks, except for "a failure". There `main`
 # takes 5 steps and 1 or 2 of its `close`, `boom` 2, `mid` 5 and 1 or 2 of its `close`, and the leaf 4 or 5.
 ENDS = {
+    "a constant": ("success 7", [2]),
     "two subtasks": ("success 42", [20]),
     "a timeout": ("success 1", [8]),
     "a failure": ("failed 8", range(18, 22)),
@@ -176,7 +180,6 @@ EXPLAINED = [
     ),
 ]
 # `look ends` of a text with one end, and `look cases` of one case
-SEVEN = "func main 0 / push 7 / ret / end"
 ENDS_OF_SEVEN = "1 after 2 events: success 7 / 3 states, all schedules"
 CASE = '{"text": "func main 0\\npush 7\\nret\\nend\\n", "trace": "step 0\\nstep 0\\n"}'
 ANSWER = (
@@ -283,12 +286,19 @@ def listed(text):
     return told.encode()
 
 
+def spelled(text):
+    """The words of each instruction, as the listing has them."""
+    told = [it.strip() for it in listed(text).decode().splitlines() if it.startswith("  ")]
+    return lines(" / ".join(told))
+
+
+BY_WORKERS = ["workers"]  # the part of `tests_rows` that calls `play_run`, with two workers
 Call = collections.namedtuple("Call", "name case leads")
 
 
 def calls():
     """Each call on each row, with what it answers and the calls that lead to it and it itself."""
-    for name, text, trace, answer, _ in RUNS:
+    for name, text, trace, answer, status in RUNS:
         program, came = lines(text), events(trace)
         most, alone = ROWS[name]
         sizes = "".join(f"{head.split()[0]} has {len(code)} instructions\n" for head, code, _ in routines(text)).encode()
@@ -296,9 +306,11 @@ def calls():
             ("take", f"bytes {len(program)}\n".encode()),
             ("take assemble", sizes),
             ("take assemble list", listed(text)),
+            ("take assemble room spell", spelled(text)),
             ("take read_trace", b"events %d\n" % came.count(b"\n")),
             ("take read_outside", b"dues 2\n"),
             ("take assemble verify", lines(most)),
+            ("take assemble verify budget", lines(most)),
             ("take assemble start", b"running\n"),
             ("take assemble read_trace start apply", lines(answer)),
             ("take assemble verify prepare", FROM_HERE + TO_HERE + lines(alone)),
@@ -309,6 +321,12 @@ def calls():
             leads = ["words", *leads.split()]
             given = leads[-1].encode() + b"\n" + program + b"%\n" + came + b"%\n" + lines(DUES)
             yield Call(f"{leads[-1]}: {name}", Case(f"{leads[-1]}: {name}", ["calls"], None, given, said, 0), leads)
+        end, steps = ENDS[name]
+        whole, *others = [budgets(name) + lines(f"{end} / steps {it} / status {status}, entries {it + 2}") for it in steps]
+        given = b"\n" + program + b"%\n%\n" + lines(DUES)
+        yield Call(f"play_run: {name}", Case(f"play_run: {name}", BY_WORKERS, None, given, whole, 0, others), ["words", "take", "room", "play_run"])
+    for name, lead, said in (("tree", "tree", "room 1 65537"), ("line", "line", "run text 3 journal"), ("help", "line", "help"), ("mistake", "line", "a mistake")):
+        yield Call(name, Case(name, ["calls"], None, f"{name}\n".encode(), lines(said), 0), ["words", "take", lead])
 
 
 def compiler():
@@ -377,14 +395,15 @@ def told_of(what, told):
 
 def own_requests(refusing, case):
     """How many requests for memory belong to the start of a worker before its thread is started: those between two starts."""
-    _, told = refusing.run(case._replace(words=["run", "text", "--workers", "2"]), "count")
+    words = case.words if case.words == BY_WORKERS else ["run", "text", "--workers", "2"]
+    _, told = refusing.run(case._replace(words=words), "count")
     (_, after), (before, _) = told_of("thread", told)
     return before - after
 
 
 def starts(refusing, case):
     """The numbers of the requests for memory that belong to the starts of workers."""
-    if case.words[:1] != ["run"]:
+    if case.words[:1] != ["run"] and case.words != BY_WORKERS:
         return set()
     _, told = refusing.run(case, "count")
     threads = told_of("thread", told)
@@ -494,16 +513,16 @@ def without_memory(call, answer):
 
 def refused_in_turn(refusing, call, later):
     """Yields for each n whether the answer is right, and last whether each call that leads there was met, in this order."""
-    right, met = (call.case.answer, call.case.status), []
+    right, of_starts, met = right_answers(call.case), starts(refusing, call.case), []
     for n in itertools.count(1):
         answer, refused = refusing.run(call.case, f"memory:{n}{later}")
         if not refused or answer[1] == NO_END:
             break
-        lead = without_memory(call, answer)
+        lead = call.leads[-1] if n in of_starts and answer == NO_THREADS else without_memory(call, answer)
         met += [lead] if lead and [lead] != met[-1:] else []
         # a call may do without what was refused
-        yield lead is not None or answer == right, f"memory:{n}{later}", answer
-    yield answer == right, f"memory:{n}{later}", answer
+        yield lead is not None or answer in right, f"memory:{n}{later}", answer
+    yield answer in right, f"memory:{n}{later}", answer
     yield met == call.leads, f"memory:..{later}", met
 
 
@@ -550,8 +569,11 @@ def requests_of_look(sts, look):
 
 
 def single_calls(sts, look):
+    is_unproved = sys.argv[1:2] == [tested.UNPROVED]
+    program = tested.unproved("tests_rows") if is_unproved else tested.proved("tests_rows")
+    tested.needs(program)
     for it in calls():
-        yield Trial(CALLS, call_refused, it)
+        yield Trial(program, call_refused, it)
 
 
 PARTS = {it.__name__: it for it in (requests_of_sts, threads_of_sts, requests_of_look, single_calls)}
@@ -575,14 +597,11 @@ def answered(trials, library):
         yield from pool.map(outcome, trials)
 
 
-def fault(programs, parts):
-    """Returns why the parts can't be tried on the programs, and the status that says so."""
+def fault(parts):
+    """Returns why the parts can't be tried, and the status that says so."""
     unknown = [it for it in parts if it not in PARTS]
     if unknown:
         return f"no part {unknown[0]}: there are {', '.join(PARTS)}", 2
-    for program in [*programs, *[CALLS] * ("single_calls" in parts)]:
-        if not os.access(program, os.X_OK):
-            return f"no program at {program}: ./sts, ./look, and rt run in crates/tests_rows build them", 2
     if not compiler():
         return "FAILED, nothing was refused: there is no C compiler (cc, gcc or clang)", 1
     return None
@@ -595,9 +614,9 @@ def is_refused(kind, sts, library, folder):
 
 
 def main():
-    programs = [*sys.argv[1:3], *(PROGRAM, LOOK)[len(sys.argv[:3]) - 1 :]]
-    parts = sys.argv[3:] or list(PARTS)
-    why = fault(programs, parts)
+    both, parts = tested.taken(sys.argv[1:], "sts", "look")
+    parts = parts or list(PARTS)
+    why = fault(parts)
     if why:
         print(f"memory.py: {why[0]}", file=sys.stderr)
         return why[1]
@@ -605,10 +624,10 @@ def main():
     with tempfile.TemporaryDirectory() as folder:
         library = library_in(folder)
         for kind in {"thread" if it == "threads_of_sts" else "memory" for it in parts}:
-            if not is_refused(kind, programs[0], library, folder):
+            if not is_refused(kind, both[0], library, folder):
                 print(f"memory.py: FAILED, no {kind} was refused to the program here by refuse.so", file=sys.stderr)
                 return 1
-        trials = [trial for it in parts for trial in PARTS[it](*programs)]
+        trials = [trial for it in parts for trial in PARTS[it](*both)]
         for name, right, wrong in answered(trials, library):
             passed, failed = passed + right, failed + len(wrong)
             print(f"{name}: {right + len(wrong)} runs")

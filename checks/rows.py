@@ -1,5 +1,5 @@
 #!/usr/bin/env python3
-"""Asks any program that takes the words of `sts` for the answers of all rows: checks/rows.py PROGRAM [TABLE..]
+"""Asks any program that takes the words of `sts` for the answers of all rows: checks/rows.py PROGRAM|--unproved [TABLE..]
 
 It prints each answer that differs, with its file and line, and then how many answers it compared and how many are wrong;
 status 1 if one is. The first lines of crates/tests_rows/data/tables define the notation. This is a second reader of it,
@@ -10,6 +10,8 @@ import re
 import subprocess
 import sys
 import tempfile
+
+import tested
 
 DATA = os.path.join(os.path.dirname(os.path.dirname(os.path.realpath(__file__))), "crates/tests_rows/data")
 
@@ -23,14 +25,24 @@ def line_bytes(line):
     return coded.encode("latin-1") + (b"" if unended else b"\n")
 
 
-def meant(short, words):
-    """Returns the bytes of lines in the short notation."""
+def parts(short, words):
+    """Returns lines in the short notation as pairs: how often, and the bytes."""
     found = []
     for part in short.split(" / "):
         count, is_repeated, repeated = part.partition(" * ")
         lines = repeated.split(", ") if is_repeated else words.get(part, part).split(" / ")
-        found.append(b"".join(map(line_bytes, lines)) * (int(count) if is_repeated else 1))
-    return b"".join(found)
+        found.append((int(count) if is_repeated else 1, b"".join(map(line_bytes, lines))))
+    return found
+
+
+def whole(pairs):
+    """Returns the bytes that pairs stand for."""
+    return b"".join(lines * count for count, lines in pairs)
+
+
+def meant(short, words):
+    """Returns the bytes of lines in the short notation."""
+    return whole(parts(short, words))
 
 
 def trace(asked, words):
@@ -48,13 +60,14 @@ def trace(asked, words):
     return "".join(found).encode()
 
 
-def rows(table):
-    """Returns of each answer its line, the text, what is asked, the trace, the status and what is printed, if that counts."""
-    words, text, asked = {}, b"", ""
+def short_rows(table):
+    """Returns of each answer its line, the parts of the text, what is asked, the words of the table, the status, and what is
+    printed, if that counts."""
+    words, text, asked = {}, [], ""
     for number, line in enumerate(open(table, newline="\n").read().split("\n"), 1):
         kind, rest = line[:2], line[2:]
         if not line:
-            text = b""
+            text = []
         elif kind == "! ":
             word, lines = rest.split(" ", 1)
             words[word] = lines
@@ -62,11 +75,19 @@ def rows(table):
             asked = rest
         elif kind == "= ":
             status, is_printed, short = rest.partition(" ")
-            is_run = asked not in ("verify", "list", "joined")
-            events = trace(asked, words) if is_run else b""
-            yield number, text, asked if not is_run else "run", events, (int(status), meant(short, words) if is_printed else None)
+            yield number, text, asked, words, (int(status), meant(short, words) if is_printed else None)
         elif kind != "# ":
-            text += meant(line, words)
+            text = text + parts(line, words)
+
+
+def rows(table):
+    """Returns of each answer its line, the text, what is asked, the trace, the status and what is printed, if that counts."""
+    for number, text, asked, words, answer in short_rows(table):
+        if asked.startswith("outside "):
+            yield number, whole(text), "outside", meant(asked[len("outside "):], words), answer
+            continue
+        is_run = asked not in ("verify", "list", "joined")
+        yield number, whole(text), "run" if is_run else asked, trace(asked, words) if is_run else b"", answer
 
 
 class Program:
@@ -81,6 +102,7 @@ class Program:
         if mode != "joined":
             words += [mode, self.file("text", text)]
             words += [self.file("trace", events)] if mode in ("plain", "replay") else []
+            words = [self.path, "run", self.file("text", text), "--workers", "1", "--outside", self.file("outside", events)] if mode == "outside" else words
         ended = subprocess.run(words, capture_output=True, input=text if mode == "joined" else b"")
         return ended.returncode, ended.stdout
 
@@ -98,16 +120,17 @@ class Program:
             is_refused = verdict[0] == 4 and expected[0] != 3
             yield self.answer("replay", text, events), verdict if is_refused else expected
             return
-        yield self.answer(asked, text), expected
+        yield self.answer(asked, text, events), expected
         if asked == "list" and expected[0] == 0 and expected[1] is not None and len(expected[1]) <= MOST:
             yield self.answer("list", expected[1]), expected
 
 
 def main():
-    names = sys.argv[2:] or [f"{DATA}/{it}" for it in open(f"{DATA}/tables").read().split("\n") if it and not it.startswith("#")]
+    [path], names = tested.taken(sys.argv[1:], "sts")
+    names = names or [f"{DATA}/{it}" for it in open(f"{DATA}/tables").read().split("\n") if it and not it.startswith("#")]
     compared = wrong = 0
     with tempfile.TemporaryDirectory() as folder:
-        program = Program(os.path.realpath(sys.argv[1]), folder)
+        program = Program(path, folder)
         for name in names:
             for number, text, asked, events, expected in rows(name):
                 compared += 1

@@ -1,5 +1,5 @@
 #!/usr/bin/env python3
-"""Runs the commands with workers that the documents show, on the built program.  usage: runs.py [PROGRAM]
+"""Runs the commands with workers that the documents show, on the built program.  usage: runs.py [PROGRAM|--unproved]
 
 README.md: `run` of `sum` by 1 to 16 workers prints what `verify` prints, and then the end and the steps that README.md shows.
 `replay` of the journal prints these two again. examples/README.md: `deadline` with its outside events ends with
@@ -19,10 +19,10 @@ import sys
 import tempfile
 
 from documents import programs, read
+from tested import taken
 from write_trace import trace
 
 ROOT = os.path.dirname(os.path.dirname(os.path.realpath(__file__)))
-PROGRAM = os.path.join(ROOT, "crates", "sts", "out", "sts")
 SUM, DEADLINE, DUE = (os.path.join(ROOT, "examples", name) for name in ("sum.sts", "deadline.sts", "deadline.outside"))
 END = "success 50\nsteps 24\n"
 WORKERS = ("1", "2", "4", "16")
@@ -271,10 +271,7 @@ def tried(program, folder):
 
 
 def main():
-    program = sys.argv[1] if len(sys.argv) > 1 else PROGRAM
-    if not os.access(program, os.X_OK):
-        print(f"runs.py: no program at {program}: ./sts builds it", file=sys.stderr)
-        return 2
+    [program], _ = taken(sys.argv[1:], "sts")
     passed = failed = 0
     with tempfile.TemporaryDirectory() as folder:
         for what, right in tried(program, folder):

@@ -88,6 +88,8 @@ def of_rows(two):
             what = f"{name} line {number}"
             if asked == "joined":
                 two.asks(what, [], text)
+            elif asked == "outside":
+                continue  # It reads no text, and a run by workers has no fixed end.
             else:
                 two.case(what, text, events)
 

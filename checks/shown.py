@@ -1,13 +1,14 @@
 #!/usr/bin/env python3
 """Runs each command that README.md and docs/TUTORIAL.md show, and compares what it prints.
 
-    checks/shown.py [STS LOOK]          compares; status 1 if a command prints something else
-    checks/shown.py write [STS LOOK]    writes what each command prints now into the two pages
+    checks/shown.py [STS LOOK|--unproved]          compares; status 1 if a command prints something else
+    checks/shown.py write [STS LOOK|--unproved]    writes what each command prints now into the two pages
 
 STS and LOOK are the programs; without them it takes those that ./sts and ./look build. A block "```console" has commands,
 each after `$ `, and below each command what it prints on standard output. A block below a line that ends with "as `NAME`:"
-is the content of that file. The commands of a page run from top to bottom in one new folder, which has the repository's
-`examples` and `checks`. There `./sts` and `./look` start the two programs, also after the word `--unproved`.
+is the content of that file, and its folder is made. The commands of a page run from top to bottom in one new folder, which
+has the repository's `examples` and `checks`. There `./sts` and `./look` start the two programs, also after the word
+`--unproved`.
 The last line is `N passed, M failed`, of commands.
 """
 import os
@@ -16,12 +17,11 @@ import subprocess
 import sys
 import tempfile
 
-from looks import LOOK, STS
+import tested
 
 ROOT = os.path.dirname(os.path.dirname(os.path.realpath(__file__)))
 PAGES = ["README.md", "docs/TUTORIAL.md"]
-PROGRAMS = [STS, LOOK]
-BLOCK = re.compile(r"(?:as `([\w.]+)`:\n\n)?^```(\w*)\n(.*?)^```$", re.M | re.S)
+BLOCK = re.compile(r"(?:as `([\w./]+)`:\n\n)?^```(\w*)\n(.*?)^```$", re.M | re.S)
 COMMAND = re.compile(r"^\$ (.*)\n((?:(?!\$ ).*\n)*)", re.M)
 START = '#!/bin/sh\n[ "$1" != --unproved ] || shift\nexec {} "$@"\n'
 
@@ -52,6 +52,7 @@ def renewed(page, folder, tried):
     def block(found):
         name, kind, lines = found.groups()
         if name:
+            os.makedirs(os.path.dirname(f"{folder}/{name}"), exist_ok=True)
             with open(f"{folder}/{name}", "w") as file:
                 file.write(lines)
         return found[0].replace(lines, COMMAND.sub(command, lines)) if kind == "console" else found[0]
@@ -62,15 +63,12 @@ def renewed(page, folder, tried):
 def main():
     words = sys.argv[1:]
     writes = words[:1] == ["write"]
-    programs = words[writes:] or PROGRAMS
-    if len(programs) != 2 or not all(os.access(it, os.X_OK) for it in programs):
-        print("shown.py: no program at one of the two paths: ./sts and ./look build them", file=sys.stderr)
-        return 2
+    both, _ = tested.taken(words[writes:], "sts", "look")
     passed = failed = 0
     for path in PAGES:
         tried = []
         with open(f"{ROOT}/{path}") as file, tempfile.TemporaryDirectory() as folder:
-            furnish(folder, programs)
+            furnish(folder, both)
             page = renewed(file.read(), folder, tried)
         if writes:
             with open(f"{ROOT}/{path}", "w") as file:

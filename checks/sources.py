@@ -1,4 +1,5 @@
 """Which sources and definitions a program is built of, and a file by which the launcher finds a newer one quickly."""
+import contextlib
 import os
 import shlex
 
@@ -31,6 +32,14 @@ def paths(names):
             at = os.path.relpath(at, ROOT)
             found += [at, *(f"{at}/{it}" for it in sorted(files))]
     return found
+
+
+def is_current(program, crate):
+    """Returns whether the program of a crate is there and newer than all that it is built of."""
+    with contextlib.suppress(FileNotFoundError):
+        newest = max(os.path.getmtime(f"{ROOT}/{it}") for it in paths(needed(crates(), crate, [])))
+        return os.path.getmtime(program) > newest
+    return False
 
 
 def write(program, crate):

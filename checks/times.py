@@ -11,6 +11,8 @@ import sys
 import threading
 import time
 
+import kit
+
 TICK = os.sysconf("SC_CLK_TCK")
 KINDS = ["proofs", "tests", "edits"]
 
@@ -19,9 +21,9 @@ def looked_at(pid):
     """Returns the crate, the kind of work and the processor seconds of a process of the prover, or none."""
     try:
         words = open(f"/proc/{pid}/cmdline", "rb").read().decode(errors="replace").split("\0")
-        if not words[0].endswith("/rattle") or "--crate-name" not in words:
+        crate = kit.crate_of(words)
+        if not words[0].endswith("/rattle") or not crate:
             return None
-        crate = words[words.index("--crate-name") + 1]
         is_edit = "/rt-edit-" in os.readlink(f"/proc/{pid}/cwd")
         stat = open(f"/proc/{pid}/stat").read().rsplit(")", 1)[1].split()
     except (OSError, IndexError):

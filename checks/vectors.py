@@ -4,9 +4,10 @@
     checks/vectors.py          compares vectors/ with the tables of rows
     checks/vectors.py write    writes vectors/ from the tables; so does checks/documents.py write
 
-The tables are those of crates/tests_rows/data. A row becomes a case with a name, a text, a trace if it asks for a run,
-and what is expected. docs/IMPLEMENTERS.md has the form. A row has no case if it asks for a listing, or has its trace in
-the text, or if its text isn't UTF-8, or if its text and trace have more than 64 KiB together.
+The tables are those of crates/tests_rows/data. A row becomes a case with a name, what is given, and what is expected.
+docs/IMPLEMENTERS.md has the form. A text or a trace of more than 64 KiB stays short, in short.jsonl, and a text that has its
+trace is in joined.jsonl. Outside texts are in outside.jsonl. A row has no case if its text isn't UTF-8, if it has a listing of more than 64 KiB, or if it says
+nothing but the status of a run that has no end.
 """
 import collections
 import glob
@@ -19,7 +20,9 @@ import rows
 
 ROOT = os.path.dirname(os.path.dirname(os.path.realpath(__file__)))
 FOLDER = f"{ROOT}/vectors"
-LONGEST = 65536  # The bytes of a text and its trace that become a case.
+LONGEST = 65536  # The bytes of a text and its trace that a case has in full.
+ALONE = ("verify", "list", "joined", "outside ")  # What a row asks for if it doesn't ask for a run.
+OWN_FILES = ("joined", "outside")  # The questions whose cases have a file of their own.
 
 RUN_FAULT = re.compile(r"fault (\w+) task (\d+) in (\w+) at (\d+)$")
 REFUSED = re.compile(r"refused (V\d+) in (\w+) at (\d+): ")
@@ -67,42 +70,67 @@ def fault(line):
     return None
 
 
-def of_status(asked, status):
-    """Returns what a status alone says, or none."""
-    if asked == "verify" and status in (0, 4):
-        return {"verdict": {"accepted": status == 0}}
-    if asked == "verify" and status == 3:
-        return {"text_fault": {}}
-    outcomes = {0: "success", 1: "failed"}
-    return {"run": {"outcome": outcomes[status]}} if asked == "run" and status in outcomes else None
-
-
-def expected(asked, status, printed):
-    """Returns what is expected of the answer, or none if the row doesn't say it."""
-    if printed is None:
-        return of_status(asked, status)
+def expected(asked, printed):
+    """Returns what is expected of the answer."""
     lines = printed.decode().split("\n")[:-1]
-    if not lines:
-        return None
     if fault(lines[0]):
         return fault(lines[0])
     if asked == "verify":
         return {"verdict": verdict(lines)}
+    if asked == "list":
+        return {"listing": printed.decode()}
     return {"run": {**state(lines[0]), "steps": int(lines[1].split(" ")[1])}}
 
 
-def case(name, text, asked, events, answer):
-    """Returns the case of a row, or none."""
-    if asked not in ("run", "verify") or len(text) + len(events) > LONGEST:
-        return None
+def of_status(asked, status):
+    """Returns what a status alone says, or none. Each row with a fault has its line, too."""
+    if asked == "verify" and status in (0, 4):
+        return {"verdict": {"accepted": status == 0}}
+    if asked == "outside" and status == 0:
+        return {"outside": {}}
+    outcomes = {0: "success", 1: "failed"}
+    return {"run": {"outcome": outcomes[status]}} if asked == "run" and status in outcomes else None
+
+
+def pairs(parts):
+    """Returns parts of a text as a case has them."""
+    return [[count, lines.decode()] for count, lines in parts]
+
+
+def short_trace(asked, words):
+    """Returns the members of a long trace."""
+    if asked.startswith("trace "):
+        return {"trace_parts": pairs(rows.parts(asked[len("trace "):], words))}
+    return {"short": asked}
+
+
+def given(text, asked, words):
+    """Returns the members of a case that say what is asked, and whether they are short forms."""
+    whole = rows.whole(text)
+    if asked == "joined":
+        return {"joined": whole.decode()}, False
+    if asked.startswith("outside "):
+        return {"outside": rows.meant(asked[len("outside "):], words).decode()}, False
+    is_run = asked not in ("verify", "list")
+    events = rows.trace(asked, words) if is_run else b""
+    if len(whole) + len(events) <= LONGEST:
+        return {"text": whole.decode(), **({"trace": events.decode()} if is_run else {})}, False
+    said = {"text": whole.decode()} if len(whole) <= LONGEST else {"text_parts": pairs(text)}
+    return {**said, **(short_trace(asked, words) if is_run else {})}, True
+
+
+def case(name, text, asked, words, answer):
+    """Returns the case of a row, and the file that it belongs to if that isn't the file of its table; or none."""
     try:
-        said = {"name": name, "text": text.decode()}
-        if asked == "run":
-            said["trace"] = events.decode()
+        said, is_short = given(text, asked, words)
     except UnicodeDecodeError:
         return None
-    wanted = expected(asked, *answer)
-    return wanted and {**said, "expected": wanted}
+    status, printed = answer
+    kind = asked.split(" ")[0] if asked.startswith(ALONE) else "run"
+    wanted = expected(kind, printed) if printed else of_status(kind, status)
+    if not wanted or len(wanted.get("listing", "")) > LONGEST:
+        return None
+    return {"name": name, **said, "expected": wanted}, kind if kind in OWN_FILES else "short" if is_short else None
 
 
 def tables():
@@ -115,11 +143,12 @@ def files():
     """Returns for each file of vectors/ its text, and how many rows have no case."""
     found, left = collections.defaultdict(list), 0
     for table in tables():
-        for number, text, asked, events, answer in rows.rows(f"{rows.DATA}/{table}"):
-            made = case(f"{table[:-len('.rows')]} line {number}", text, asked, events, answer)
+        for number, text, asked, words, answer in rows.short_rows(f"{rows.DATA}/{table}"):
+            made = case(f"{table[:-len('.rows')]} line {number}", text, asked, words, answer)
             left += made is None
             if made:
-                found[f"{table.split('_')[0]}.jsonl"].append(json.dumps(made, ensure_ascii=False) + "\n")
+                said, form = made
+                found[f"{form or table.split('_')[0]}.jsonl"].append(json.dumps(said, ensure_ascii=False) + "\n")
     return {name: "".join(lines) for name, lines in found.items()}, left
 
 

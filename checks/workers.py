@@ -1,5 +1,5 @@
 #!/usr/bin/env python3
-"""Counts the threads of `run` on the built program, with a trace and with none.  usage: workers.py [PROGRAM]
+"""Counts the threads of `run` on the built program, with a trace and with none.  usage: workers.py [PROGRAM|--unproved]
 
 A program of 480,052 steps is run by 1, 3 and 16 workers. Meanwhile the process has a thread for each of them, and one
 that waits for them. The script looks at each run until it ends. It may look too late, so it tries up to five runs.
@@ -11,8 +11,8 @@ import sys
 import tempfile
 import time
 
-ROOT = os.path.dirname(os.path.dirname(os.path.realpath(__file__)))
-PROGRAM = os.path.join(ROOT, "crates", "sts", "out", "sts")
+import tested
+
 TEXT = "func main 0\npush 16\ntimes 16\npush 10000\ntimes 10000\ninterrupted\npop\nnext\nnext\npush 0\nret\nend\n"
 WAYS = {"no trace": [], "a trace": ["--trace", os.devnull]}
 RUNS = 5
@@ -34,7 +34,8 @@ def most_threads(words):
 
 
 def main():
-    program, counts = (sys.argv[1:] or [PROGRAM])[0], [0, 0]
+    [program], _ = tested.taken(sys.argv[1:], "sts")
+    counts = [0, 0]
     with tempfile.TemporaryDirectory() as folder:
         file = os.path.join(folder, "text")
         with open(file, "w") as text:

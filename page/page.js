@@ -260,6 +260,10 @@ function connect() {
 }
 
 async function begin() {
+  if (typeof MODULE === "undefined") {
+    element("verdict").textContent = "this page isn't built: run page/build.sh, and open page/out/index.html";
+    return;
+  }
   calls = await Calls.load(MODULE);
   connect();
   guarded(choose)();

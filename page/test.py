@@ -1,5 +1,5 @@
 #!/usr/bin/env python3
-"""Opens the built page in a headless Chromium and compares it with the programs.  usage: test.py [STS [LOOK]]
+"""Opens the built page in a headless Chromium and compares it with the programs.  usage: test.py [STS [LOOK]|--unproved]
 
 - each call answers what `sts` and `look` print, with their status: over every example and every beginning of its trace, and
   over texts and traces with faults, refused texts, and runs that fault;
@@ -34,11 +34,11 @@ import browser
 sys.path.append(os.path.join(os.path.dirname(os.path.dirname(os.path.realpath(__file__))), "checks"))
 import ends  # noqa: E402
 import look_rows  # noqa: E402
+import tested  # noqa: E402
 
 HERE = os.path.dirname(os.path.realpath(__file__))
 ROOT = os.path.dirname(HERE)
 PAGE = os.path.join(HERE, "out", "index.html")
-STS, LOOK = (os.path.join(ROOT, "crates", name, "out", name) for name in ("sts", "look"))
 EXAMPLES = sorted(glob.glob(os.path.join(ROOT, "examples", "*.sts")))
 NAMES = [os.path.basename(it) for it in EXAMPLES]
 LOOK_PAGE = os.path.join(ROOT, "docs", "LOOK.md")
@@ -617,11 +617,10 @@ def main():
         print("page/test.py: NOTHING WAS TESTED: there is none of", ", ".join(browser.NAMES), file=sys.stderr)
         print("page: skipped, no Chromium here")
         return 0
-    sts, look = (sys.argv[1:] + [STS, LOOK][len(sys.argv) - 1:])[:2]
-    for it in (sts, look, PAGE):
-        if not os.path.exists(it):
-            print(f"page/test.py: there is no {it}: ./sts, ./look and page/build.sh make them", file=sys.stderr)
-            return 2
+    (sts, look), _ = tested.taken(sys.argv[1:], "sts", "look")
+    if not os.path.exists(PAGE):
+        print(f"page/test.py: there is no {PAGE}: page/build.sh makes it", file=sys.stderr)
+        return 2
     passed = failed = 0
     with tempfile.TemporaryDirectory() as folder:
         for what, right in tried(path, Programs(sts, look, folder)):

@@ -12,5 +12,6 @@ pub mod names;
 pub mod own;
 pub mod reading;
 pub mod sample;
+pub mod schedule;
 pub mod shorter;
 pub mod walk;

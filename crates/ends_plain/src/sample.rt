@@ -1,17 +1,15 @@
 //! Random schedules: some of the ends, and how often each came. It says nothing of other ends.
 
 ghost use Rattle.std.specs.Prelude.{◌<◌, IfOk, IfSome, length};
-ghost use Rattle.std.specs.List.{Contains};
 ghost use Rattle.ends_plain.specs.Listed.{AreEnds, IsEndOf};
 
 use crate::config::{Config, Found, Setting};
 use crate::ends::is_end_at;
 use crate::moves::events_of;
-use rand::seq::IndexedRandom;
+use crate::schedule::Schedule;
 use rand_core::SeedableRng;
 use rand_xoshiro::Xoshiro256PlusPlus;
 use std::alloc::{AllocError, Global};
-use sts_model::Event;
 use sts_plain::PlainState;
 
 /// The ends that came, each once, with the trace of the first schedule that reached it.
@@ -32,32 +30,34 @@ pub struct Sampling {
     pub longest: usize,
 }
 
-/// Any of the events, each as likely as the others.
-fn chosen(rng: &mut Xoshiro256PlusPlus, events: &[Event]) -> Option<Event>
-    ensures { IfSome result (Contains events.now) }
-{
-    events.choose(rng).copied()
+/// The number of tasks that were born.
+fn born(config: &Config) -> usize {
+    match config.position.world() {
+        None => 0,
+        Some(world) => world.records().tasks_born(),
+    }
 }
 
-/// A schedule up to its end: at each place any event that can come is as likely as the others. It
-/// returns nothing if there is no end before `longest` events.
+/// Goes by a schedule up to its end. It returns nothing if there is no end within `longest` events.
 fn walk(
     alloc: Global,
     setting: &Setting,
     rng: &mut Xoshiro256PlusPlus,
+    schedule: &mut Schedule,
     longest: usize,
 ) -> Result<Option<Found>, AllocError>
     ensures { IfOk result (λ found. IfSome found (IsEndOf setting.now)) }
 {
     let mut config = Config::start(alloc, setting)?;
     let mut trace = Vec::new(alloc);
-    for _ in 0..longest {
+    for moment in 0..longest.saturating_add(1) {
         let end = config.position.state();
         if is_end_at(end) {
             return Ok(Some(Found { end, trace }));
         }
         let events = events_of(alloc, &config, setting)?;
-        let Some(event) = chosen(rng, events.as_slice()) else {
+        schedule.give_priorities(rng, born(&config))?;
+        let Some(event) = schedule.next(rng, events.as_slice(), moment) else {
             return Ok(None);
         };
         config.apply_event(alloc, setting, event)?;
@@ -100,6 +100,28 @@ fn counted(sample: Sample, one: Found) -> Result<Sample, AllocError>
     })
 }
 
+/// The number of events from which a schedule is drawn: that of the first end that was found.
+fn length_of(sample: &Sample, longest: usize) -> usize {
+    match sample.found.first() {
+        None => longest,
+        Some(one) => one.trace.len(),
+    }
+}
+
+/// The schedule of this number. The first one has steps alone, so it shows how long a run is.
+fn schedule_of(
+    alloc: Global,
+    rng: &mut Xoshiro256PlusPlus,
+    number: u64,
+    length: usize,
+) -> Result<Schedule, AllocError> {
+    if number == 0 {
+        Ok(Schedule::of_steps(alloc))
+    } else {
+        Schedule::drawn(alloc, rng, length)
+    }
+}
+
 /// Ends of random schedules; the same seed gives the same ones.
 ///
 /// # Errors
@@ -118,8 +140,10 @@ pub fn sample_ends(
         times: Vec::new(alloc),
         unfinished: 0,
     };
-    for _ in 0..sampling.schedules {
-        match walk(alloc, setting, &mut rng, sampling.longest)? {
+    for number in 0..sampling.schedules {
+        let length = length_of(&so_far, sampling.longest);
+        let mut schedule = schedule_of(alloc, &mut rng, number, length)?;
+        match walk(alloc, setting, &mut rng, &mut schedule, sampling.longest)? {
             Some(one) => so_far = counted(so_far, one)?,
             None => so_far.unfinished = so_far.unfinished.saturating_add(1),
         }

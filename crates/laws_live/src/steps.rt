@@ -21,12 +21,13 @@ pub fn expire_is_seen()
     ensures { ExpireIsSeen }
 {}
 
-/// Which tasks can step is seen.
+/// The view shows whether a task can step, if its next step is no misuse.
 pub fn can_step_is_seen()
     ensures { CanStepIsSeen }
 {}
 
-/// Which events count is seen.
+/// The view shows whether an event counts, unless it is a step of a task whose next step is a
+/// misuse.
 pub fn counts_is_seen()
     ensures { CountsIsSeen }
 {}

@@ -101,7 +101,8 @@ takes_one name = is_ends name || bytes_eq name (codes "cases")
 
 -- the files that a command may be given
 abbrev pub files_of : Text → List Text
-files_of name = if takes_one name then codes "FILE" ∷ [] else codes "FILE" ∷ codes "TRACE" ∷ []
+files_of name =
+    if takes_one name then codes "FILE" ∷ [] else codes "FILE" ∷ codes "TRACE" ∷ []
 
 -- the files that a command is given
 abbrev pub files_at : Text → List Row → List Text

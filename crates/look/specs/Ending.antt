@@ -1,11 +1,11 @@
 -- The output of `look`, and its status (this project's own).
-use Rattle.std.specs.Prelude.{◌≡◌, ℕ, Bool, true, false, List, Option, Some, None, Result, Ok, Err, map, option_map, ⊤}
+use Rattle.std.specs.Prelude.{◌≡◌, ◌⊎◌, ℕ, Bool, true, false, List, Option, Some, None, Result, Ok, Err, map, option_map, ⊤}
 use Rattle.std.specs.Prelude.{String, Vec}
 use Rattle.std.specs.Borrow.{Bor}
 use Rattle.std.specs.String.{string_bytes}
 use Rattle.std.specs.declared.alloc.Global.{Global}
 use Rattle.clap.specs.Words.{Text}
-use Rattle.sts_output.specs.Streams.{Differ, Files, Prints, SameFile, Streams, Tells}
+use Rattle.sts_output.specs.Streams.{Differ, Files, NoneIsYes, Prints, SameFile, Streams, Tells}
 use Rattle.sts_output.specs.Streams.{most_of_a_stream, most_of_a_text}
 use Rattle.sts_output.specs.Streams.{not_text_output}
 use Rattle.sts_output.specs.Output.{Output, failure_output, memory_output}
@@ -17,6 +17,7 @@ use Rattle.look_cases.specs.Lines.{IsRepliesTo}
 use Rattle.look_picture.specs.Picture.{IsPictureOf}
 use Rattle.look_refusal.specs.Output.{IsExplanation}
 use Rattle.look_run.specs.Output.{IsRunExplanation}
+use Rattle.look_traces.specs.Short.{full_trace}
 use Rattle.look_lines.specs.View.{IsViewOf}
 use Rattle.look_lines.specs.declared.view.ViewOptions.{ViewOptions}
 use Rattle.look_views.specs.Views.{AreViewsOf}
@@ -51,10 +52,11 @@ pub data IsOfTexts (Shows : List ℕ → List ℕ → Output → Type 0) (file t
       → IsOfTexts Shows file trace_file o
   failed : (e : TakeError) → o ≡ failure_output e → IsOfTexts Shows file trace_file o
 
--- the file of a trace that is kept, if one is, isn't known to be the text's
+-- The file of a trace that is kept, if one is, isn't known to be the text's, and no answer was that
+-- it is.
 abbrev pub Spares : SameFile → Text → Option Kept → Type 0
 Spares same file None = ⊤
-Spares same file (Some kept) = Differ (same kept.file.now file)
+Spares same file (Some kept) = NoneIsYes same × Differ (same.known kept.file.now file)
 
 -- what is printed of the ends of a text, or that memory or the trace's file failed
 pub data IsPrinted (ends : AskedEnds) (spares : Type 0) (text : List ℕ) (o : Output) : Type 0 where
@@ -78,18 +80,23 @@ Shows (showing.View view) = IsViewed view.json view.wanted
 Shows showing.Run = IsRunExplanation
 Shows (showing.Picture window) = IsPictureOf window
 
+-- what is shown of a text and a trace, which may be in the short form, or that memory ran out
+abbrev pub ShowsInFull : Showing → List ℕ → List ℕ → Output → Type 0
+ShowsInFull s text trace o = Shows s text (full_trace trace) o ⊎ (o ≡ memory_output)
+
 -- what is wrong with a file's text, or the state of its run after the trace, if one is named
 abbrev pub IsExplained : Files → Option (List ℕ) → Option (Bor Text) → Output → Type 0
 IsExplained files file None o = IsOfText IsExplanation file o
-IsExplained files file (Some trace) o = IsOfTexts IsRunExplanation file (files trace.now) o
+IsExplained files file (Some trace) o =
+    IsOfTexts (ShowsInFull showing.Run) file (files trace.now) o
 
 -- what is shown for a line
 abbrev pub IsShown : Asked → Files → SameFile → Output → Type 0
 IsShown (asked.View file trace view) files same o =
-    IsOfTexts (IsViewed view.json view.wanted) (files file.now) (files trace.now) o
+    IsOfTexts (ShowsInFull (showing.View view)) (files file.now) (files trace.now) o
 IsShown (asked.Explain file trace) files same o = IsExplained files (files file.now) trace o
 IsShown (asked.Draw file trace window) files same o =
-    IsOfTexts (IsPictureOf window) (files file.now) (files trace.now) o
+    IsOfTexts (ShowsInFull (showing.Picture window)) (files file.now) (files trace.now) o
 IsShown (asked.Ends file ends) files same o =
     IsOfEnds ends (Spares same file.now ends.kept) (files file.now) o
 IsShown (asked.Cases file) files same o = IsOfStream IsRepliesTo (files file.now) o

@@ -12,7 +12,7 @@ use sts_args::{on_file, on_trace};
 
 /// What `--version` prints after the name of the program.
 const VERSION: &str = "1.0.0\n\
-    proved with rattle-kit-13b logic dac8208d650f15bf\n\
+    proved with rattle-kit-13f logic dac8208d650f15bf\n\
     differences from JDK 25: docs/JDK.md";
 
 /// What help calls the two values of `--trace`.

@@ -1,5 +1,7 @@
 //! The files of the process, with `-` for its standard input.
 
+ghost use Rattle.std.specs.Prelude.{◌≡◌, false};
+
 use std::io::{Input, Read};
 use std::rt::Files;
 use std::{fs, io};
@@ -11,7 +13,18 @@ const STANDARD_INPUT: &str = "/dev/stdin";
 /// The files of the process; the name `-` is its standard input.
 #[derive(Drop)]
 pub struct Dashed<'a, R> {
-    pub rt: &'a R,
+    pub host: Host<'a, R>,
+}
+
+impl<'a, R> Dashed<'a, R> {
+    /// Returns the files of the process, before the first question.
+    pub fn new(rt: &'a R) -> Dashed<'a, R>
+        ensures { result.host.said_yes ≡ false }
+    {
+        Dashed {
+            host: Host::new(rt),
+        }
+    }
 }
 
 /// A file or the input stream.
@@ -37,29 +50,31 @@ impl<R: Files + Input> Sources for Dashed<'_, R> {
 
     fn open(&self, path: &str) -> io::Result<Stream<R::File, R::Reader>> {
         if path == "-" {
-            return Ok(Stream::Input(self.rt.reader()));
+            return Ok(Stream::Input(self.host.rt.reader()));
         }
-        match fs::open(self.rt, path) {
+        match fs::open(self.host.rt, path) {
             Ok(file) => Ok(Stream::File(file)),
             Err(error) => Err(error),
         }
     }
 
     fn input(&self) -> R::Reader {
-        self.rt.reader()
+        self.host.rt.reader()
     }
 }
 
 impl<R: Files> Sinks for Dashed<'_, R> {
     type Sink = R::File;
 
+    ghost said_yes = { λ dashed. dashed.host.said_yes };
+
     fn create(&self, path: &str) -> io::Result<R::File> {
-        Host { rt: self.rt }.create(path)
+        self.host.create(path)
     }
 
     /// The name `-` is that of the file that standard input is.
-    fn is_same(&self, path: &str, other: &str) -> io::Result<bool> {
+    fn is_same(&mut self, path: &str, other: &str) -> io::Result<bool> {
         let read = if other == "-" { STANDARD_INPUT } else { other };
-        Host { rt: self.rt }.is_same(path, read)
+        self.host.is_same(path, read)
     }
 }

@@ -3,6 +3,7 @@
 
 ghost use Rattle.std.specs.Prelude.{◌≡◌, IfOk, map};
 ghost use Rattle.sts_output.specs.Output.{Output, Writes};
+ghost use Rattle.sts_output.specs.Streams.{same_file};
 ghost use Rattle.look_refusal.specs.Output.{IsExplanation};
 ghost use Rattle.look_cases.specs.Lines.{IsRepliesTo};
 ghost use Rattle.look.specs.Ending as def;
@@ -16,6 +17,7 @@ use look_lines::write_run;
 use look_picture::{Picture, Window};
 use look_refusal::explain;
 use look_run::explain_run;
+use look_traces::in_full;
 use look_views::JsonViews;
 use std::alloc::Global;
 use std::io::{Input, Write};
@@ -23,8 +25,8 @@ use std::rt::{Env, Files};
 use sts_args::LineError;
 use sts_output::{
     Events, FileError, MOST_OF_A_STREAM, NOT_TEXT, Named, Notes, STATUS_OUTSIDE, Sinks, Sources,
-    TakeError, WordsError, WriteFailed, borrowed, failed, file, file_failed, made, read_text,
-    read_texts, words, written,
+    TakeError, WordsError, WriteFailed, borrowed, failed, file, file_failed, made, placeholder,
+    read_text, read_texts, words, written,
 };
 
 /// The name that the program goes by.
@@ -91,6 +93,24 @@ fn show<W: Write>(
     }
 }
 
+/// Writes what is shown of a text and a trace, which may be in the short form.
+fn show_in_full<W: Write>(
+    alloc: Global,
+    showing: Showing,
+    text: &[u8],
+    trace: &[u8],
+    out: &mut W,
+) -> Result<u8, WriteFailed>
+    ensures { IfOk result (λ s. (o : Output) × def.ShowsInFull showing text.now trace.now o
+        × Writes (W.contents out.old) (W.contents out.new) s o) }
+{
+    match in_full(alloc, trace) {
+        Ok(Some(full)) => show(alloc, showing, text, full.as_slice(), out),
+        Ok(None) => show(alloc, showing, text, trace, out),
+        Err(_) => failed(TakeError::Memory, out),
+    }
+}
+
 /// Writes what is shown for two files.
 fn on_texts<S: Sources, W: Write>(
     alloc: Global,
@@ -102,14 +122,14 @@ fn on_texts<S: Sources, W: Write>(
     notes: &mut Notes,
 ) -> Result<u8, WriteFailed>
     ensures { IfOk result (λ s. (o : Output)
-        × def.IsOfTexts (def.Shows showing) (S.held sources.now path.now)
+        × def.IsOfTexts (def.ShowsInFull showing) (S.held sources.now path.now)
         (S.held sources.now trace.now) o
         × Writes (W.contents out.old) (W.contents out.new) s o) }
 {
     match read_texts(alloc, sources, path, Some(trace)) {
         Ok(texts) => {
             let (text, events) = (texts.program.as_slice(), texts.events.as_slice());
-            let status = show(alloc, showing, text, events, out)?;
+            let status = show_in_full(alloc, showing, text, events, out)?;
             showing.note(
                 status,
                 Named::new(path, text),
@@ -180,7 +200,7 @@ fn on_explain<S: Sources, W: Write>(
 /// The ends of a text that was read. The file of the trace is made first, if one is named.
 fn on_ends_text<S: Sinks, P: Progress, W: Write>(
     alloc: Global,
-    sinks: &S,
+    sinks: &mut S,
     path: &str,
     text: &[u8],
     ends: AskedEnds<'_>,
@@ -189,8 +209,9 @@ fn on_ends_text<S: Sinks, P: Progress, W: Write>(
     notes: &mut Notes,
 ) -> Result<u8, WriteFailed>
     ensures { IfOk result (λ s. (o : Output)
-        × def.IsPrinted ends.entry
-        (def.Spares (S.same sinks.now) path.now ends.entry.kept) text.now o
+        × def.IsPrinted ends.entry (def.Spares
+        (same_file (S.same sinks.old) (S.said_yes sinks.old) (S.said_yes sinks.new))
+        path.now ends.entry.kept) text.now o
         × Writes (W.contents out.old) (W.contents out.new) s o) }
 {
     match ends.kept {
@@ -219,7 +240,7 @@ fn on_ends_text<S: Sinks, P: Progress, W: Write>(
 /// The ends of a text.
 fn on_ends<S: Sources + Sinks, P: Progress, W: Write>(
     alloc: Global,
-    sources: &S,
+    sources: &mut S,
     path: &str,
     ends: AskedEnds<'_>,
     progress: &mut P,
@@ -227,11 +248,12 @@ fn on_ends<S: Sources + Sinks, P: Progress, W: Write>(
     notes: &mut Notes,
 ) -> Result<u8, WriteFailed>
     ensures { IfOk result (λ s. (o : Output)
-        × def.IsOfEnds ends.entry (def.Spares (S.same sources.now) path.now ends.entry.kept)
-        (S.held sources.now path.now) o
+        × def.IsOfEnds ends.entry (def.Spares
+        (same_file (S.same sources.old) (S.said_yes sources.old) (S.said_yes sources.new))
+        path.now ends.entry.kept) (S.held sources.old path.now) o
         × Writes (W.contents out.old) (W.contents out.new) s o) }
 {
-    match read_text(alloc, sources, path) {
+    match read_text(alloc, &*sources, path) {
         Ok(text) => on_ends_text(
             alloc,
             sources,
@@ -249,34 +271,35 @@ fn on_ends<S: Sources + Sinks, P: Progress, W: Write>(
 /// Does what a line asks for.
 fn on_line<S: Sources + Sinks, P: Progress, W: Write>(
     alloc: Global,
-    sources: &S,
+    sources: &mut S,
     asked: Asked<'_>,
     progress: &mut P,
     out: &mut W,
     notes: &mut Notes,
 ) -> Result<u8, WriteFailed>
     ensures { IfOk result (λ s. (o : Output)
-        × def.IsShown asked.entry (S.held sources.now) (S.same sources.now) o
+        × def.IsShown asked.entry (S.held sources.old)
+        (same_file (S.same sources.old) (S.said_yes sources.old) (S.said_yes sources.new)) o
         × Writes (W.contents out.old) (W.contents out.new) s o) }
 {
     match asked {
         Asked::View { file, trace, view } => on_texts(
             alloc,
-            sources,
+            &*sources,
             Showing::View(view),
             file,
             trace,
             out,
             notes,
         ),
-        Asked::Explain { file, trace } => on_explain(alloc, sources, file, trace, out, notes),
+        Asked::Explain { file, trace } => on_explain(alloc, &*sources, file, trace, out, notes),
         Asked::Draw {
             file,
             trace,
             window,
         } => on_texts(
             alloc,
-            sources,
+            &*sources,
             Showing::Picture(window),
             file,
             trace,
@@ -284,7 +307,7 @@ fn on_line<S: Sources + Sinks, P: Progress, W: Write>(
             notes,
         ),
         Asked::Ends { file, ends } => on_ends(alloc, sources, file, ends, progress, out, notes),
-        Asked::Cases { file } => on_cases(alloc, sources, file, out, notes),
+        Asked::Cases { file } => on_cases(alloc, &*sources, file, out, notes),
     }
 }
 
@@ -302,15 +325,16 @@ fn on_line<S: Sources + Sinks, P: Progress, W: Write>(
 /// A write failed.
 pub fn run<S: Sources + Sinks, P: Progress, W: Write, E: Write>(
     alloc: Global,
-    sources: &S,
+    sources: &mut S,
     words: &[&str],
     progress: &mut P,
     out: &mut W,
     err: &mut E,
     notes: &mut Notes,
 ) -> Result<u8, WriteFailed>
-    ensures { IfOk result (def.Ends (map (λ w. w.now) words.now) (S.held sources.now)
-        (S.same sources.now) (record {
+    ensures { IfOk result (def.Ends (map (λ w. w.now) words.now) (S.held sources.old)
+        (same_file (S.same sources.old) (S.said_yes sources.old) (S.said_yes sources.new))
+        (record {
           out_old = W.contents out.old;
           out_new = W.contents out.new;
           err_old = E.contents err.old;
@@ -332,14 +356,15 @@ pub fn run<S: Sources + Sinks, P: Progress, W: Write, E: Write>(
 /// A write failed.
 pub fn run_words<S: Sources + Sinks, P: Progress, W: Write, E: Write>(
     alloc: Global,
-    sources: &S,
+    sources: &mut S,
     words: &Result<Vec<String>, WordsError>,
     progress: &mut P,
     out: &mut W,
     err: &mut E,
     notes: &mut Notes,
 ) -> Result<u8, WriteFailed>
-    ensures { IfOk result (def.EndsFrom words.now (S.held sources.now) (S.same sources.now)
+    ensures { IfOk result (def.EndsFrom words.now (S.held sources.old)
+        (same_file (S.same sources.old) (S.said_yes sources.old) (S.said_yes sources.new))
         (record {
           out_old = W.contents out.old;
           out_new = W.contents out.new;
@@ -365,10 +390,13 @@ pub fn start<R: Env + Files + Input, P: Progress, W: Write, E: Write>(
     out: &mut W,
     err: &mut E,
 ) -> u8 {
+    let _for_input = placeholder(rt);
+    let _for_output = placeholder(rt);
+    let _for_errors = placeholder(rt);
     let words = words(rt, alloc, NAME.as_bytes());
     let mut notes = Notes::new(alloc, NAME);
-    let sources = Dashed { rt };
-    match run_words(alloc, &sources, &words, progress, out, err, &mut notes) {
+    let mut sources = Dashed::new(rt);
+    match run_words(alloc, &mut sources, &words, progress, out, err, &mut notes) {
         Ok(status) => {
             // (the output and the status are the same if no line can be written)
             let _told = err.write_all(notes.lines());

@@ -24,7 +24,7 @@ use sts_text::digits_up_to;
 
 /// The error for an option whose value is no number.
 const NO_NUMBER: &str =
-    "error: N, S and K of `ends` are numbers from 0 to 4294967295\n\nFor more information, try '--help'.\n";
+    "error: N, S and K of `ends` are numbers from 0 to 4294967295, and K comes first in `--trace K TRACE`\n\nFor more information, try '--help'.\n";
 
 /// The error for a window that isn't written as one.
 const NO_WINDOW: &str =

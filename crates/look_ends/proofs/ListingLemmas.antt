@@ -10,7 +10,7 @@ use Rattle.look_ends.specs.Listing.{IsSearch, IsVerdict, Listing, searched_listi
 -- what was searched is what was asked for
 pub search_of : (g e x : Setting) (o : Outline) (number : Option ℕ) (is_refused : Bool) (found : List Found) (states : ℕ) (whole : Bool) (r : Listing)
     → x ≡ e → e ≡ g → AreEnds e found → (whole ≡ true → AreAll e.program e.expiries e.interrupts (ends_of found)) → IsVerdict g.program is_refused
-    → r ≡ searched_listing x.program o is_refused number found states whole → IsSearch g o number r
+    → r ≡ searched_listing x o is_refused number found states whole → IsSearch g o number r
 search_of g e x o number is_refused found states whole r seen same sound complete verdict printed = record {
   found = found;
   states = states;
@@ -19,5 +19,5 @@ search_of g e x o number is_refused found states whole r seen same sound complet
   sound = subst (λ (y : Setting). AreEnds y found) same sound;
   complete = subst (λ (y : Setting). whole ≡ true → AreAll y.program y.expiries y.interrupts (ends_of found)) same complete;
   verdict = verdict;
-  printed = subst (λ (y : Setting). r ≡ searched_listing y.program o is_refused number found states whole) (seen ∙ same) printed;
+  printed = subst (λ (y : Setting). r ≡ searched_listing y o is_refused number found states whole) (seen ∙ same) printed;
 }

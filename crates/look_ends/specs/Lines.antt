@@ -8,6 +8,7 @@ use Rattle.sts_asm.specs.Outline.{Outline}
 use Rattle.sts_plain.specs.declared.misstep.PlainState.{PlainState}
 use Rattle.sts_plain.specs.declared.misstep.PlainState.TheVariants as plain
 use Rattle.ends_plain.specs.declared.config.Found.{Found}
+use Rattle.ends_plain.specs.declared.config.Setting.{Setting}
 use Rattle.look_refusal.specs.States.{state_line}
 
 -- ---- an end
@@ -60,10 +61,27 @@ is_fault _ = false
 abbrev pub has_fault : List Found → Bool
 has_fault found = list_any (λ (f : Found). is_fault f.end) found
 
--- whether the verifier refuses a program that never faults
-abbrev pub refused_line : Bool → Bool → List Found → List ℕ
-refused_line is_refused whole found =
-    if is_refused && (whole && not (has_fault found)) then codes "refused, but no run faults\n"
+-- the interrupts of the runs that were searched: at most this many
+abbrev pub interrupt_words : ℕ → List ℕ
+interrupt_words most =
+    if most == 0 then codes "without interrupts"
+    else if most == 1 then codes "with at most 1 interrupt"
+    else codes "with at most " ++ decimal most ++ codes " interrupts"
+
+-- the expiries of these runs: any, or none
+abbrev pub expiry_words : Bool → List ℕ
+expiry_words may_expire = if may_expire then [] else codes " and without expiries"
+
+-- `refused, but no run without interrupts faults`
+abbrev pub no_fault_words : Bool → ℕ → List ℕ
+no_fault_words may_expire most =
+    codes "refused, but no run "
+    ++ (interrupt_words most ++ (expiry_words may_expire ++ codes " faults\n"))
+
+-- the verifier refuses the program, all runs with these events were searched, and none faults
+abbrev pub refused_line : Setting → Bool → Bool → List Found → List ℕ
+refused_line g is_refused whole found =
+    if is_refused && (whole && not (has_fault found)) then no_fault_words g.expiries g.interrupts
     else []
 
 abbrev pub states_line : Bool → ℕ → List ℕ

@@ -47,10 +47,10 @@ abbrev pub status_of : Bool → Option ℕ → List Found → ℕ
 status_of whole number found = if whole && has_number number found then 0 else 5
 
 -- a line for each end, then what is to be said of all of them
-abbrev pub searched_listing : Program → Outline → Bool → Option ℕ → List Found → ℕ → Bool → Listing
-searched_listing p o is_refused number found states whole = record {
+abbrev pub searched_listing : Setting → Outline → Bool → Option ℕ → List Found → ℕ → Bool → Listing
+searched_listing g o is_refused number found states whole = record {
   output = record {
-    bytes = found_lines p o found 0 ++ (refused_line is_refused whole found
+    bytes = found_lines g.program o found 0 ++ (refused_line g is_refused whole found
         ++ (states_line whole states ++ no_number_line number found));
     status = status_of whole number found;
   };
@@ -97,7 +97,7 @@ pub record IsSearch (g : Setting) (o : Outline) (number : Option ℕ) (r : Listi
   pub sound : AreEnds g found
   pub complete : whole ≡ true → AreAll g.program g.expiries g.interrupts (ends_of found)
   pub verdict : IsVerdict g.program is_refused
-  pub printed : r ≡ searched_listing g.program o is_refused number found states whole
+  pub printed : r ≡ searched_listing g o is_refused number found states whole
 
 -- a listing of the ends of random schedules: each of them is one, after the trace that comes with
 -- it

@@ -1,10 +1,11 @@
 //! The lines below the ends.
 
-ghost use Rattle.std.specs.Prelude.{◌≡◌, ◌++◌, OnOk, option_map};
+ghost use Rattle.std.specs.Fmt.{decimal};
+ghost use Rattle.std.specs.Prelude.{◌≡◌, ◌++◌, OnOk, codes, option_map};
 ghost use Rattle.look_ends.specs.Lines as def;
 
 use crate::lines::say_count;
-use ends_plain::config::Found;
+use ends_plain::config::{Found, Setting};
 use look_text::say;
 use std::alloc::{AllocError, Global};
 use sts_plain::PlainState;
@@ -21,18 +22,64 @@ fn has_fault(found: &[Found]) -> bool
     found.iter().any(|one| is_fault(one.end))
 }
 
-/// Whether the verifier refuses a program that never faults.
+/// `with at most N interrupts`
+fn say_at_most(alloc: Global, out: &mut Vec<u8>, most: u32) -> Result<(), AllocError>
+    ensures { OnOk result (out.new.items ≡ out.old.items
+        ++ (codes "with at most " ++ decimal most ++ codes " interrupts")) }
+{
+    let words = format!(in alloc; "with at most {most} interrupts")?;
+    say(out, words.as_str())
+}
+
+/// Appends how many interrupts the runs had that were searched.
+fn say_interrupts(alloc: Global, out: &mut Vec<u8>, most: u32) -> Result<(), AllocError>
+    ensures { OnOk result (out.new.items ≡ out.old.items ++ def.interrupt_words most) }
+{
+    if most == 0 {
+        return say(out, "without interrupts");
+    }
+    if most == 1 {
+        return say(out, "with at most 1 interrupt");
+    }
+    say_at_most(alloc, out, most)
+}
+
+/// Appends that the runs had no expiries, if none may come.
+fn say_expiries(out: &mut Vec<u8>, may_expire: bool) -> Result<(), AllocError>
+    ensures { OnOk result (out.new.items ≡ out.old.items ++ def.expiry_words may_expire) }
+{
+    if may_expire {
+        return Ok(());
+    }
+    say(out, " and without expiries")
+}
+
+/// `refused, but no run without interrupts faults`
+fn say_no_fault(alloc: Global, out: &mut Vec<u8>, setting: &Setting) -> Result<(), AllocError>
+    ensures { OnOk result (out.new.items ≡ out.old.items
+        ++ def.no_fault_words setting.now.expiries setting.now.interrupts) }
+{
+    say(out, "refused, but no run ")?;
+    say_interrupts(alloc, out, setting.interrupts)?;
+    say_expiries(out, setting.expiries)?;
+    say(out, " faults\n")
+}
+
+/// Appends that no run with the events of the search faults, if the verifier refuses the program
+/// and a search of all these runs found no fault.
 pub(crate) fn say_refused(
+    alloc: Global,
     out: &mut Vec<u8>,
+    setting: &Setting,
     is_refused: bool,
     whole: bool,
     found: &[Found],
 ) -> Result<(), AllocError>
     ensures { OnOk result (out.new.items ≡ out.old.items
-        ++ def.refused_line is_refused whole found.now) }
+        ++ def.refused_line setting.now is_refused whole found.now) }
 {
     if is_refused && whole && !has_fault(found) {
-        say(out, "refused, but no run faults\n")
+        say_no_fault(alloc, out, setting)
     } else {
         Ok(())
     }

@@ -66,19 +66,23 @@ fn trace_of(alloc: Global, number: Option<u32>, found: &[Found]) -> Result<Vec<E
 /// What is printed of a search.
 fn searched(
     alloc: Global,
-    told: Told<'_, '_, '_>,
+    outline: &Outline<'_>,
+    setting: &Setting,
     is_refused: bool,
     number: Option<u32>,
     ends: &EndsFound,
 ) -> Result<Listing, AllocError>
-    ensures { IfOk result (λ l. l ≡ def.searched_listing told.entry.program.now
-        told.entry.outline.now is_refused number ends.now.found.items ends.now.states
-        ends.now.whole) }
+    ensures { IfOk result (λ l. l ≡ def.searched_listing setting.now outline.now is_refused number
+        ends.now.found.items ends.now.states ends.now.whole) }
 {
+    let told = Told {
+        program: &setting.program,
+        outline,
+    };
     let found = ends.found.as_slice();
     let mut bytes = Vec::new(alloc);
     say_all(alloc, &mut bytes, told, found)?;
-    say_refused(&mut bytes, is_refused, ends.whole, found)?;
+    say_refused(alloc, &mut bytes, setting, is_refused, ends.whole, found)?;
     say_states(alloc, &mut bytes, ends.whole, ends.states)?;
     say_no_number(alloc, &mut bytes, number, found)?;
     let status = if ends.whole && has_number(number, found) {
@@ -136,11 +140,14 @@ fn of_all<P: Progress>(
 {
     let exploration = explored(alloc, setting, most, progress)?;
     let ends = exploration.ends(alloc)?;
-    let told = Told {
-        program: &exploration.setting().program,
+    searched(
+        alloc,
         outline,
-    };
-    searched(alloc, told, is_refused, number, &ends)
+        exploration.setting(),
+        is_refused,
+        number,
+        &ends,
+    )
 }
 
 /// The listing of the ends of random schedules of a program.

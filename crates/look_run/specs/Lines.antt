@@ -1,10 +1,12 @@
--- The lines that say the state of a run after a trace, with the line numbers of its text (this
--- project's own).
-use Rattle.std.specs.Prelude.{ℕ, ◌+◌, ◌-◌, List, [], ◌∷◌, ◌++◌, Bool, ◌&&◌, nat_le, if◌then◌else◌}
+-- The lines that say the state of a run after a trace, with the lines and the names of its text
+-- (this project's own).
+use Rattle.std.specs.Prelude.{ℕ, ◌+◌, ◌-◌, List, [], ◌∷◌, ◌++◌, if◌then◌else◌}
 use Rattle.std.specs.Prelude.{Option, Some, None, codes, length, map, slice_get}
 use Rattle.std.specs.Fmt.{decimal}
 use Rattle.sts_text.specs.Words.{lines}
 use Rattle.sts_code.specs.Program.{Program}
+use Rattle.sts_model.specs.declared.event.End.{End}
+use Rattle.sts_model.specs.declared.event.End.TheVariants.{Success, Failed}
 use Rattle.sts_model.specs.declared.event.Fault.{Fault}
 use Rattle.sts_model.specs.declared.event.Stand.{Stand}
 use Rattle.sts_model.specs.declared.event.Stand.TheVariants.{Free, AtJoin, AtClose}
@@ -12,17 +14,39 @@ use Rattle.sts_model.specs.declared.record.Task.{Task}
 use Rattle.sts_model.specs.Living.{is_living_subtask, lives}
 use Rattle.sts_model.specs.Waiting.{can_step, stand_at}
 use Rattle.sts_model.specs.World.{World, task_at}
-use Rattle.sts_asm.specs.Outline.{Outline}
+use Rattle.sts_output.specs.Printed.{fault_word}
+use Rattle.sts_output.specs.Shown.{shown_byte}
 use Rattle.sts_plain.specs.declared.misstep.PlainState.{PlainState}
 use Rattle.sts_plain.specs.declared.misstep.PlainState.TheVariants as plain
 use Rattle.sts_trace.specs.declared.error.TraceError.{TraceError}
 use Rattle.sts_trace.specs.declared.error.TraceError.TheVariants as trace
 use Rattle.look_refusal.specs.Sentences.{remedy_sentence}
-use Rattle.look_refusal.specs.States.{state_line, task_place}
+use Rattle.look_names.specs.Words.{function_words, said_words, value_words}
 use Rattle.look_run.specs.Remedies.{remedy}
 use Rattle.look_run.specs.Sentences.{trace_sentence}
 
 -- ---- the state
+
+-- `task 1 in kid, line 3: close s0`, the last words as they are in the text
+abbrev pub task_place : List ℕ → Program → ℕ → ℕ → ℕ → List ℕ
+task_place text p t f pc =
+    codes "task " ++ decimal t ++ codes " in " ++ function_words text p f ++ codes ", "
+    ++ said_words text f pc
+
+abbrev pub end_line : List ℕ → End → List ℕ
+end_line text (Success v) = codes "success " ++ value_words text v ++ codes "\n"
+end_line text (Failed c) = codes "failed " ++ value_words text c ++ codes "\n"
+
+-- `fault Structure, task 1 in kid, line 3: close s0`
+abbrev pub fault_line : List ℕ → Program → Fault → ℕ → ℕ → ℕ → List ℕ
+fault_line text p kind t f pc =
+    codes "fault " ++ fault_word kind ++ codes ", " ++ task_place text p t f pc ++ codes "\n"
+
+-- `running`, `success V`, `failed C` or a fault
+abbrev pub state_line : List ℕ → Program → PlainState → List ℕ
+state_line text p plain.Running = codes "running\n"
+state_line text p (plain.Ended end) = end_line text end
+state_line text p (plain.Fault kind t f pc) = fault_line text p kind t f pc
 
 -- what to do about a fault of a living task
 abbrev pub remedy_line : Program → World → Fault → ℕ → List ℕ
@@ -35,8 +59,8 @@ remedy_part p w (plain.Fault kind t f pc) = remedy_line p w kind t
 remedy_part p w state = []
 
 -- the state of the run, and what to do about its fault, if this is the world before it
-abbrev pub state_lines : Program → Outline → World → PlainState → List ℕ
-state_lines p o w state = state_line p o state ++ remedy_part p w state
+abbrev pub state_lines : List ℕ → Program → World → PlainState → List ℕ
+state_lines text p w state = state_line text p state ++ remedy_part p w state
 
 -- ---- who waits where
 
@@ -66,19 +90,19 @@ abbrev pub life_words : Program → World → ℕ → List ℕ
 life_words p w t = if can_step p w t then codes "ready" else wait_words w (stand_at p w t)
 
 -- `task 0 in main, line 12: join s0 - - intr (waits at join of scope 0 for 1 3)`
-abbrev pub task_line : Program → Outline → World → ℕ → List ℕ
-task_line p o w t =
-    task_place p o t (task_at w t).frame.function (task_at w t).frame.pc ++ codes " ("
+abbrev pub task_line : List ℕ → Program → World → ℕ → List ℕ
+task_line text p w t =
+    task_place text p t (task_at w t).frame.function (task_at w t).frame.pc ++ codes " ("
     ++ life_words p w t ++ codes ")\n"
 
 -- a line for a task that lives
-abbrev pub living_line : Program → Outline → World → ℕ → List ℕ
-living_line p o w t = if lives (task_at w t) then task_line p o w t else []
+abbrev pub living_line : List ℕ → Program → World → ℕ → List ℕ
+living_line text p w t = if lives (task_at w t) then task_line text p w t else []
 
 -- the lines of the living tasks among these, numbered from t on
-abbrev pub living_lines : Program → Outline → World → List Task → ℕ → List ℕ
-living_lines p o w [] t = []
-living_lines p o w (x ∷ xs) t = living_line p o w t ++ living_lines p o w xs (t + 1)
+abbrev pub living_lines : List ℕ → Program → World → List Task → ℕ → List ℕ
+living_lines text p w [] t = []
+living_lines text p w (x ∷ xs) t = living_line text p w t ++ living_lines text p w xs (t + 1)
 
 -- ---- a fault of a trace
 
@@ -94,10 +118,6 @@ line_number text (trace.BadLine n) = n
 line_number text (trace.BadNumber n) = n
 line_number text trace.NoNewline = length (lines text)
 line_number text trace.Memory = 0
-
--- a byte that isn't from the space to `~` is shown as `?`
-abbrev pub shown_byte : ℕ → ℕ
-shown_byte b = if nat_le 32 b && nat_le b 126 then b else 63
 
 abbrev pub shown_line : Option (List ℕ) → List ℕ
 shown_line None = []

@@ -8,28 +8,24 @@ ghost use Rattle.look_refusal.specs.Stops.{Prints};
 ghost use Rattle.look_lines.specs.Watched.{watched};
 ghost use Rattle.look_run.specs.Output as def;
 
-use crate::tasks::{say_living, say_outcome};
+use crate::tasks::{Told, say_living, say_outcome};
 use crate::traces::trace_fault;
 use look_lines::{Watch, after};
-use look_refusal::{ExplainError, Explanation, Told, outline_of, program_of, write_explained};
+use look_names::Names;
+use look_refusal::{ExplainError, Explanation, program_of, write_explained};
 use std::alloc::{AllocError, Global};
 use std::io::Write;
-use sts_asm::Outline;
 use sts_code::Program;
 use sts_output::{WriteFailed, state_status};
 use sts_trace::read_trace;
 
 /// The state of a watched machine, and each task that lives.
-fn of_watch(
-    alloc: Global,
-    outline: &Outline<'_>,
-    watch: &Watch<'_>,
-) -> Result<Explanation, AllocError>
-    ensures { IfOk result (λ o. o ≡ def.watched_output outline.now watch.now) }
+fn of_watch(alloc: Global, names: &Names<'_>, watch: &Watch<'_>) -> Result<Explanation, AllocError>
+    ensures { IfOk result (λ o. o ≡ def.watched_output names.now watch.now) }
 {
     let told = Told {
         program: watch.program(),
-        outline,
+        names,
     };
     let state = watch.state();
     let mut bytes = Vec::new(alloc);
@@ -44,17 +40,17 @@ fn of_watch(
 /// The explanation of a run of a program with these lines.
 fn of_trace(
     alloc: Global,
-    outline: &Outline<'_>,
+    names: &Names<'_>,
     program: &Program,
     trace: &[u8],
 ) -> Result<Explanation, AllocError>
-    ensures { IfOk result (λ o. o ≡ def.traced_output program.now outline.now trace.now
+    ensures { IfOk result (λ o. o ≡ def.traced_output program.now names.now trace.now
         (trace_read trace.now)) }
 {
     match read_trace(alloc, trace) {
         Ok(events) => {
             let watch = after(alloc, program, events.as_slice())?;
-            of_watch(alloc, outline, &watch)
+            of_watch(alloc, names, &watch)
         }
         Err(error) => trace_fault(alloc, trace, error),
     }
@@ -63,9 +59,9 @@ fn of_trace(
 fn explanation(alloc: Global, text: &[u8], trace: &[u8]) -> Result<Explanation, ExplainError>
     ensures { Prints result (def.Explains (judged text.now) text.now trace.now) }
 {
-    let outline = outline_of(alloc, text)?;
     let program = program_of(alloc, text)?;
-    let output = of_trace(alloc, &outline, &program, trace)?;
+    let names = Names::read(alloc, text)?;
+    let output = of_trace(alloc, &names, &program, trace)?;
     Ok(output)
 }
 

@@ -9,3 +9,4 @@ mod tasks;
 mod traces;
 
 pub use explaining::explain_run;
+pub use traces::trace_fault;

@@ -7,13 +7,100 @@ ghost use Rattle.sts_model.specs.World as model;
 ghost use Rattle.look_run.specs.Lines as def;
 
 use crate::remedy::remedy_of;
-use look_refusal::{Told, remedy_sentence, say_state, say_task};
+use look_names::{Names, say_function, say_sentence, say_value};
+use look_refusal::remedy_sentence;
 use look_text::say;
 use std::alloc::{AllocError, Global};
 use sts_code::Program;
-use sts_model::{Fault, Stand};
+use sts_model::{End, Fault, Stand};
+use sts_output::printed::fault_word;
 use sts_plain::{PlainState, can_step, stand_at};
 use sts_world::{Records, World};
+
+/// A program, and the lines and names of the text that spells it.
+#[derive(Clone, Copy)]
+pub(crate) struct Told<'a, 't> {
+    pub program: &'a Program,
+    pub names: &'a Names<'t>,
+}
+
+/// `task T in NAME, line L: WORDS`
+fn say_task(
+    alloc: Global,
+    out: &mut Vec<u8>,
+    told: Told<'_, '_>,
+    t: u32,
+    function: u32,
+    pc: u32,
+) -> Result<(), AllocError>
+    ensures { OnOk result (out.new.items ≡ out.old.items
+        ++ def.task_place told.entry.names.now told.entry.program.now t function pc) }
+{
+    let head = format!(in alloc; "task {t} in ")?;
+    say(out, head.as_str())?;
+    say_function(out, told.names, told.program, function)?;
+    say(out, ", ")?;
+    say_sentence(alloc, out, told.names, function, pc)
+}
+
+/// `fault KIND, task T in NAME, line L: WORDS`
+fn say_fault(
+    alloc: Global,
+    out: &mut Vec<u8>,
+    told: Told<'_, '_>,
+    kind: Fault,
+    task: u32,
+    function: u32,
+    pc: u32,
+) -> Result<(), AllocError>
+    ensures { OnOk result (out.new.items ≡ out.old.items
+        ++ def.fault_line told.entry.names.now told.entry.program.now kind task function pc) }
+{
+    say(out, "fault ")?;
+    say(out, fault_word(kind))?;
+    say(out, ", ")?;
+    say_task(alloc, out, told, task, function, pc)?;
+    say(out, "\n")
+}
+
+fn say_end(alloc: Global, out: &mut Vec<u8>, names: &Names<'_>, end: End) -> Result<(), AllocError>
+    ensures { OnOk result (out.new.items ≡ out.old.items ++ def.end_line names.now end) }
+{
+    match end {
+        End::Success(value) => {
+            say(out, "success ")?;
+            say_value(alloc, out, names, value)?;
+            say(out, "\n")
+        }
+        End::Failed(code) => {
+            say(out, "failed ")?;
+            say_value(alloc, out, names, code)?;
+            say(out, "\n")
+        }
+    }
+}
+
+/// The state of a run: `running`, `success V`, `failed C` or a fault.
+fn say_state(
+    alloc: Global,
+    out: &mut Vec<u8>,
+    told: Told<'_, '_>,
+    state: PlainState,
+) -> Result<(), AllocError>
+    ensures { OnOk result (out.new.items ≡ out.old.items
+        ++ def.state_line told.entry.names.now told.entry.program.now state) }
+{
+    match state {
+        PlainState::Running => say(out, "running\n"),
+        PlainState::Ended(end) => say_end(alloc, out, told.names, end),
+        PlainState::Fault {
+            kind,
+            task,
+            function,
+            pc,
+        } => say_fault(alloc, out, told, kind, task, function, pc),
+    }
+}
 
 /// What to do about a fault of a living task.
 fn say_remedy(
@@ -58,12 +145,12 @@ fn say_remedy_part(
 pub(crate) fn say_outcome(
     alloc: Global,
     out: &mut Vec<u8>,
-    told: Told<'_, '_, '_>,
+    told: Told<'_, '_>,
     records: &Records,
     state: PlainState,
 ) -> Result<(), AllocError>
     ensures { OnOk result (out.new.items ≡ out.old.items
-        ++ def.state_lines told.entry.program.now told.entry.outline.now records.now state) }
+        ++ def.state_lines told.entry.names.now told.entry.program.now records.now state) }
 {
     say_state(alloc, out, told, state)?;
     say_remedy_part(out, told.program, records, state)
@@ -169,14 +256,14 @@ fn say_life(
 fn say_task_line(
     alloc: Global,
     out: &mut Vec<u8>,
-    told: Told<'_, '_, '_>,
+    told: Told<'_, '_>,
     world: &World,
     t: u32,
 ) -> Result<(), AllocError>
     requires born { t < length world.now.tasks }
     requires lives { living.lives (model.task_at world.now t) ≡ true }
     ensures { OnOk result (out.new.items ≡ out.old.items
-        ++ def.task_line told.entry.program.now told.entry.outline.now world.now t) }
+        ++ def.task_line told.entry.names.now told.entry.program.now world.now t) }
 {
     let records = world.records();
     say_task(alloc, out, told, t, records.function(t), records.pc(t))?;
@@ -188,12 +275,12 @@ fn say_task_line(
 fn say_if_living(
     alloc: Global,
     out: &mut Vec<u8>,
-    told: Told<'_, '_, '_>,
+    told: Told<'_, '_>,
     world: &World,
     t: u32,
 ) -> Result<(), AllocError>
     ensures { OnOk result (out.new.items ≡ out.old.items
-        ++ def.living_line told.entry.program.now told.entry.outline.now world.now t) }
+        ++ def.living_line told.entry.names.now told.entry.program.now world.now t) }
 {
     if world.records().lives(t) {
         say_task_line(alloc, out, told, world, t)
@@ -210,11 +297,11 @@ fn say_if_living(
 pub(crate) fn say_living(
     alloc: Global,
     out: &mut Vec<u8>,
-    told: Told<'_, '_, '_>,
+    told: Told<'_, '_>,
     world: &World,
 ) -> Result<(), AllocError>
     ensures { OnOk result (out.new.items ≡ out.old.items
-        ++ def.living_lines told.entry.program.now told.entry.outline.now world.now world.now.tasks
+        ++ def.living_lines told.entry.names.now told.entry.program.now world.now world.now.tasks
         0) }
 {
     for t in 0..world.records().tasks_born() {

@@ -1,6 +1,6 @@
 //! The lines of a fault of a trace.
 
-ghost use Rattle.std.specs.Prelude.{◌≡◌, ◌≢◌, ◌++◌, ◌-◌, IfOk, OnOk, length, map, slice_get};
+ghost use Rattle.std.specs.Prelude.{◌≡◌, ◌≢◌, ◌++◌, IfOk, OnOk, length};
 ghost use Rattle.std.specs.Option.{option_copied};
 ghost use Rattle.sts_text.specs.Words.{lines};
 ghost use Rattle.sts_trace.specs.declared.error.TraceError.TheVariants.{Memory};
@@ -11,6 +11,7 @@ use crate::sentences::trace_sentence;
 use look_refusal::Explanation;
 use look_text::say;
 use std::alloc::{AllocError, Global};
+use sts_output::{line_at, say_shown};
 use sts_trace::TraceError;
 
 /// The number of lines of a text. The last line comes after the last newline.
@@ -18,14 +19,6 @@ fn line_count(text: &[u8]) -> usize
     ensures { result ≡ length (lines text.now) }
 {
     text.split(|b| *b == b'\n').count()
-}
-
-/// The line of this number, counted from 1.
-fn line_at(text: &[u8], number: u64) -> Option<&[u8]>
-    ensures { option_copied result ≡ slice_get (lines text.now) (number - 1) }
-{
-    text.split(|b| *b == b'\n')
-        .nth(number.saturating_sub(1) as usize)
 }
 
 fn trace_number(error: TraceError) -> u8
@@ -50,12 +43,6 @@ fn line_number(text: &[u8], error: TraceError) -> u64
     }
 }
 
-fn shown_byte(b: u8) -> u8
-    ensures { result ≡ def.shown_byte b }
-{
-    if 32 <= b && b <= 126 { b } else { b'?' }
-}
-
 /// The bytes of a line, as they are shown.
 fn say_line(out: &mut Vec<u8>, line: Option<&[u8]>) -> Result<(), AllocError>
     ensures { OnOk result (out.new.items ≡ out.old.items
@@ -63,17 +50,8 @@ fn say_line(out: &mut Vec<u8>, line: Option<&[u8]>) -> Result<(), AllocError>
 {
     match line {
         None => Ok(()),
-        Some(line) => say_bytes(out, line),
+        Some(line) => say_shown(out, line),
     }
-}
-
-fn say_bytes(out: &mut Vec<u8>, line: &[u8]) -> Result<(), AllocError>
-    ensures { OnOk result (out.new.items ≡ out.old.items ++ map def.shown_byte line.now) }
-{
-    for b in line {
-        out.push(shown_byte(*b))?;
-    }
-    Ok(())
 }
 
 /// The lines of a fault of a trace: where it is, the line itself, and what is wrong.
@@ -100,11 +78,7 @@ fn say_fault(
 /// # Errors
 ///
 /// Memory ran out.
-pub(crate) fn trace_fault(
-    alloc: Global,
-    text: &[u8],
-    error: TraceError,
-) -> Result<Explanation, AllocError>
+pub fn trace_fault(alloc: Global, text: &[u8], error: TraceError) -> Result<Explanation, AllocError>
     ensures { IfOk result (λ o. (error ≢ Memory) × (o ≡ trace_fault_output text.now error)) }
 {
     if matches!(error, TraceError::Memory) {

@@ -1,5 +1,5 @@
 -- Each function has its line, which begins with `func` and its name.
-use Rattle.std.proofs.Common.{◌≡◌, ℕ, zero, suc, ◌+◌, ◌-◌, ◌<◌, ◌≤◌, List, [], ◌∷◌, ◌++◌, Some, None, Bool, true, false, length, slice_get, refl, sym, ap, subst, ◌∙◌, append-nil, append_assoc, arith, map, take}
+use Rattle.std.proofs.Common.{◌≡◌, ℕ, zero, suc, ◌+◌, ◌-◌, ◌<◌, ◌≤◌, List, [], ◌∷◌, ◌++◌, Some, None, Bool, true, false, length, slice_get, refl, sym, ap, ◌∙◌, append-nil, append_assoc, arith, map, take}
 use Rattle.std.specs.Prelude.{Result, Ok, Err, Option, is_some, nat_lt, if◌then◌else◌, codes, ◌==◌, ◌&&◌, option_map}
 use Rattle.std.specs.List.{before_first, list_all}
 use Rattle.std.specs.Str.{bytes_eq}

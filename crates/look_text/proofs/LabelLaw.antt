@@ -1,5 +1,5 @@
 -- A label comes after the last instruction of its function if and only if it names none.
-use Rattle.std.proofs.Common.{◌≡◌, ℕ, suc, ◌+◌, ◌-◌, ◌<◌, ◌≤◌, List, [], ◌∷◌, ◌++◌, Some, None, Bool, true, false, length, slice_get, get_or, drop, refl, sym, ap, subst, ◌∙◌, length-append, arith}
+use Rattle.std.proofs.Common.{◌≡◌, ℕ, ◌+◌, ◌-◌, ◌<◌, ◌≤◌, List, [], ◌∷◌, ◌++◌, Some, None, Bool, true, false, length, slice_get, get_or, drop, refl, sym, ap, subst, ◌∙◌, length-append, arith}
 use Rattle.std.specs.Prelude.{Ok, Err, Option, is_some, nat_lt, nat_le, codes, ◌==◌, ◌&&◌, ◌||◌, not, ⊤}
 use Rattle.std.specs.List.{All, before_first, list_all, list_any}
 use Rattle.std.specs.Str.{bytes_eq}

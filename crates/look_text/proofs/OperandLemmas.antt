@@ -1,6 +1,6 @@
 -- The operands of each instruction stop being as expected where reading fails.
 use Rattle.std.proofs.Common.{◌≡◌, ℕ, ◌^◌, ◌-◌, Bool, true, false, cond, List, [], ◌∷◌, refl, sym, ap, ◌∙◌}
-use Rattle.std.specs.Prelude.{Option, Some, None, Result, Ok, Err, is_some, codes, ◌||◌}
+use Rattle.std.specs.Prelude.{Option, Some, None, Result, Ok, is_some, codes, ◌||◌}
 use Rattle.std.specs.Str.{bytes_eq}
 use Rattle.std.proofs.lemmas.Slice.Eq.{bytes_eq-Decides}
 use Rattle.sts_code.specs.Name.{is_name}

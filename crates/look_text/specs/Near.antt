@@ -1,6 +1,7 @@
 -- The known word that a wrong one is near to (this project's own).
-use Rattle.std.specs.Prelude.{ℕ, List, [], ◌∷◌, drop, length, Bool, true, false, ◌||◌, ◌&&◌, ◌==◌, nat_lt}
-use Rattle.std.specs.Prelude.{if◌then◌else◌, codes, Option, find}
+use Rattle.std.specs.Prelude.{ℕ, ◌+◌, List, [], ◌∷◌, drop, length, Bool, true, false, ◌||◌, ◌&&◌, ◌==◌, nat_lt}
+use Rattle.std.specs.Prelude.{nat_le}
+use Rattle.std.specs.Prelude.{if◌then◌else◌, codes, Option, Some, None, find}
 use Rattle.std.specs.Option.{option_or}
 use Rattle.std.specs.Str.{bytes_eq}
 use Rattle.look_text.specs.declared.wanted.Expected.{Expected}
@@ -31,6 +32,20 @@ abbrev pub begins_other : List ℕ → List ℕ → Bool
 begins_other [] ys = nat_lt 0 (length ys)
 begins_other (x ∷ xs) [] = true
 begins_other (x ∷ xs) (y ∷ ys) = x == y && begins_other xs ys
+
+-- a letter in lower case; other bytes stay
+abbrev pub lower : ℕ → ℕ
+lower b = if nat_le 65 b && nat_le b 90 then b + 32 else b
+
+-- the same word, if upper and lower case count as one
+abbrev pub is_same_word : List ℕ → List ℕ → Bool
+is_same_word [] ys = length ys == 0
+is_same_word (x ∷ xs) [] = false
+is_same_word (x ∷ xs) (y ∷ ys) = lower x == lower y && is_same_word xs ys
+
+-- the same word in other case
+abbrev pub is_other_case : List ℕ → List ℕ → Bool
+is_other_case a b = if bytes_eq a b then false else is_same_word a b
 
 -- ---- the words of the language
 
@@ -67,12 +82,43 @@ known_words wanted = []
 
 -- ---- the near one
 
--- The first of these words that is one letter apart. If there is none, the first one that begins
--- the word, or begins with it. So `jnz`, `gt` and `puhs` are near jz, lt and push, and `return` is
--- near ret. There is no table of words from other languages: most have no single counterpart here.
+-- The word itself in other case, or else the first of these words that is one letter apart. If there
+-- is none, the first one that begins the word, or begins with it. So `OPEN`, `jnz`, `gt` and `puhs`
+-- are near open, jz, lt and push, and `returns` is near ret.
 abbrev pub near_of : List (List ℕ) → List ℕ → Option (List ℕ)
-near_of words word = option_or (find (is_one_apart word) words) (find (begins_other word) words)
+near_of words word =
+    option_or (find (is_other_case word) words)
+    (option_or (find (is_one_apart word) words) (find (begins_other word) words))
 
 -- the word that a person may have meant by one that isn't what is expected there
 abbrev pub meant : Expected → List ℕ → Option (List ℕ)
 meant wanted word = near_of (known_words wanted) word
+
+-- ---- names of Java
+
+-- the joiner here for a method of Java's `Joiner`
+abbrev pub joiner_for : List ℕ → Option (List ℕ)
+joiner_for word =
+    if bytes_eq word (codes "allSuccessfulOrThrow") then Some (codes "all")
+    else (if bytes_eq word (codes "awaitAllSuccessfulOrThrow") then Some (codes "awaitok")
+    else (if bytes_eq word (codes "anySuccessfulResultOrThrow") then Some (codes "any")
+    else (if bytes_eq word (codes "awaitAll") then Some (codes "awaitall")
+    else (if bytes_eq word (codes "allUntil") then Some (codes "until")
+    else None))))
+
+-- the instruction here for a word of Java, or of its API
+abbrev pub instruction_for : List ℕ → Option (List ℕ)
+instruction_for word =
+    if bytes_eq word (codes "return") then Some (codes "ret")
+    else (if bytes_eq word (codes "throw") then Some (codes "fail")
+    else (if bytes_eq word (codes "isCancelled") then Some (codes "cancelled")
+    else (if bytes_eq word (codes "where") then Some (codes "bind")
+    else (if bytes_eq word (codes "state") then Some (codes "case")
+    else (if bytes_eq word (codes "exception") then Some (codes "except")
+    else None)))))
+
+-- the word here for a word of Java that is written at this place
+abbrev pub java_word : Expected → List ℕ → Option (List ℕ)
+java_word w.Joiner word = joiner_for word
+java_word w.Inner word = instruction_for word
+java_word wanted word = None

@@ -111,7 +111,8 @@ wanted_sentence wanted.Least =
 wanted_sentence wanted.Timed = codes "timed, or nothing more"
 wanted_sentence wanted.ForkSlot = codes "the slot of the scope, s0 to s15"
 wanted_sentence wanted.Function = codes "the name of the function"
-wanted_sentence wanted.Handle = codes "the slot of the subtask, s0 to s15, or _ for none"
+wanted_sentence wanted.Handle =
+    codes "the slot of the subtask, s0 to s15, or _ for none (arguments are pushed before)"
 wanted_sentence wanted.JoinSlot = codes "the slot of the scope, s0 to s15"
 wanted_sentence wanted.JoinFailed = codes "the label for failed, or - for none"
 wanted_sentence wanted.JoinTimeout = codes "the label for timeout, or - for none"

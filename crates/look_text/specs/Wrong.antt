@@ -1,6 +1,6 @@
 -- The wrong word or byte of a line, in its place (this project's own).
 use Rattle.std.specs.Prelude.{◌≡◌, ℕ, ◌+◌, List, [], ◌∷◌, ◌++◌, Option, Some, None}
-use Rattle.std.specs.Prelude.{codes, if◌then◌else◌}
+use Rattle.std.specs.Prelude.{codes, if◌then◌else◌, ◌&&◌, ◌==◌}
 use Rattle.std.specs.Fmt.{decimal}
 use Rattle.std.specs.Str.{bytes_eq}
 use Rattle.sts_asm.specs.Marks.{Names}
@@ -10,7 +10,7 @@ use Rattle.sts_asm.specs.declared.fault.AsmKind.{AsmKind}
 use Rattle.sts_asm.specs.declared.fault.AsmKind.TheVariants.{NotAscii, UnknownLabel, BadOperands}
 use Rattle.sts_list.specs.Spelling.{after_spaces}
 use Rattle.look_text.specs.Inside.{is_inside}
-use Rattle.look_text.specs.Near.{meant}
+use Rattle.look_text.specs.Near.{java_word, meant}
 use Rattle.look_text.specs.Names.{line_stop, lines_stop, unknown_name}
 use Rattle.look_text.specs.Wanted.{Stop, wrong_place}
 use Rattle.look_text.specs.declared.wanted.Expected.{Expected}
@@ -27,10 +27,19 @@ abbrev pub meant_line : Option (List ℕ) → List ℕ
 meant_line None = []
 meant_line (Some known) = codes "did you mean " ++ known ++ codes "?\n"
 
--- the word that may be meant, if a word is there and one is near to it
+-- `Java's awaitAll is awaitall here`
+abbrev pub java_line : List ℕ → List ℕ → List ℕ
+java_line word known = codes "Java's " ++ word ++ codes " is " ++ known ++ codes " here\n"
+
+-- the word here for a word of Java, or else the word that may be meant
+abbrev pub guess_line : Expected → List ℕ → Option (List ℕ) → List ℕ
+guess_line wanted word None = meant_line (meant wanted word)
+guess_line wanted word (Some known) = java_line word known
+
+-- the word that may be meant, if a word is there
 abbrev pub meant_words : Expected → Option (List ℕ) → List ℕ
 meant_words wanted None = []
-meant_words wanted (Some word) = meant_line (meant wanted word)
+meant_words wanted (Some word) = guess_line wanted word (java_word wanted word)
 
 -- `: expected S, F or U`
 abbrev pub expected_words : Expected → List ℕ
@@ -64,10 +73,17 @@ abbrev pub unknown_line : Option Outline → List ℕ
 unknown_line None = []
 unknown_line (Some o) = wrong_line (unknown_name o)
 
+-- the first byte of a byte order mark in UTF-8
+abbrev pub byte_hint : ℕ → ℕ → List ℕ
+byte_hint column byte =
+    if column == 1 && byte == 239
+    then codes " (perhaps a byte order mark: save the text as UTF-8 without one)" else []
+
 -- `at column 7: byte 200`
 abbrev pub byte_words : ℕ → ℕ → List ℕ
 byte_words column byte =
-    codes "at column " ++ decimal column ++ codes ": byte " ++ decimal byte ++ codes "\n"
+    codes "at column " ++ decimal column ++ codes ": byte " ++ decimal byte
+    ++ byte_hint column byte ++ codes "\n"
 
 -- the first byte of a line that isn't allowed; the line's first column has this number
 abbrev pub byte_line : ℕ → List ℕ → List ℕ

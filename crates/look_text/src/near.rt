@@ -1,6 +1,7 @@
 //! The known word that a wrong one is near to.
 
 ghost use Rattle.std.specs.Prelude.{◌≡◌, ◌<◌, length, option_map, map, find};
+ghost use Rattle.std.specs.Option.{option_or};
 ghost use Rattle.look_text.specs.Near as def;
 
 use crate::wanted::Expected;
@@ -117,6 +118,48 @@ fn begins_other(word: &[u8], known: &[u8]) -> bool
     !known.is_empty()
 }
 
+/// Returns a letter in lower case; other bytes stay.
+fn lower(byte: u8) -> u8
+    ensures { result ≡ def.lower byte }
+{
+    if byte >= 65 && byte <= 90 {
+        byte + 32
+    } else {
+        byte
+    }
+}
+
+/// Are the words the same, if upper and lower case count as one?
+#[tactic(auto, using(crate::proofs::NearLemmas::same_on))]
+fn is_same_word(word: &[u8], known: &[u8]) -> bool
+    ensures { result ≡ def.is_same_word word.now known.now }
+{
+    let mut word = word;
+    let mut known = known;
+    while !word.is_empty() {
+        if known.is_empty() {
+            return false;
+        }
+        if lower(word[0]) != lower(known[0]) {
+            return false;
+        }
+        word = &word[1..];
+        known = &known[1..];
+    }
+    known.is_empty()
+}
+
+/// Is it the same word in other case?
+fn is_other_case(word: &[u8], known: &[u8]) -> bool
+    ensures { result ≡ def.is_other_case word.now known.now }
+{
+    if word == known {
+        false
+    } else {
+        is_same_word(word, known)
+    }
+}
+
 /// The words that may be expected at a place of a line.
 fn known_words(wanted: Expected) -> &'static [&'static str]
     ensures { map (λ w. w.now) result.now ≡ def.known_words wanted }
@@ -130,6 +173,18 @@ fn known_words(wanted: Expected) -> &'static [&'static str]
         Expected::Needs => &NEEDS_WORDS,
         _ => &[],
     }
+}
+
+fn same_among(word: &[u8], words: &[&'static str]) -> Option<&'static str>
+    ensures { option_map (λ w. w.now) result
+        ≡ find (def.is_other_case word.now) (map (λ w. w.now) words.now) }
+{
+    for known in words {
+        if is_other_case(word, known.as_bytes()) {
+            return Some(*known);
+        }
+    }
+    None
 }
 
 fn one_apart_among(word: &[u8], words: &[&'static str]) -> Option<&'static str>
@@ -156,13 +211,76 @@ fn begun_among(word: &[u8], words: &[&'static str]) -> Option<&'static str>
     None
 }
 
+/// The first word that is one letter apart, or else the first that begins the other or begins with it.
+fn near_among(word: &[u8], words: &[&'static str]) -> Option<&'static str>
+    ensures { option_map (λ w. w.now) result
+        ≡ option_or (find (def.is_one_apart word.now) (map (λ w. w.now) words.now))
+        (find (def.begins_other word.now) (map (λ w. w.now) words.now)) }
+{
+    match one_apart_among(word, words) {
+        Some(known) => Some(known),
+        None => begun_among(word, words),
+    }
+}
+
 /// The word that a person may have meant by one that isn't what is expected there.
 pub(crate) fn meant(wanted: Expected, word: &[u8]) -> Option<&'static str>
     ensures { option_map (λ w. w.now) result ≡ def.meant wanted word.now }
 {
     let words = known_words(wanted);
-    match one_apart_among(word, words) {
+    match same_among(word, words) {
         Some(known) => Some(known),
-        None => begun_among(word, words),
+        None => near_among(word, words),
+    }
+}
+
+/// Returns the joiner here for a method of Java's `Joiner`.
+fn joiner_for(word: &[u8]) -> Option<&'static str>
+    ensures { option_map (λ w. w.now) result ≡ def.joiner_for word.now }
+{
+    if word == b"allSuccessfulOrThrow".as_slice() {
+        Some("all")
+    } else if word == b"awaitAllSuccessfulOrThrow".as_slice() {
+        Some("awaitok")
+    } else if word == b"anySuccessfulResultOrThrow".as_slice() {
+        Some("any")
+    } else if word == b"awaitAll".as_slice() {
+        Some("awaitall")
+    } else if word == b"allUntil".as_slice() {
+        Some("until")
+    } else {
+        None
+    }
+}
+
+/// Returns the instruction here for a word of Java, or of its API.
+fn instruction_for(word: &[u8]) -> Option<&'static str>
+    ensures { option_map (λ w. w.now) result ≡ def.instruction_for word.now }
+{
+    if word == b"return".as_slice() {
+        Some("ret")
+    } else if word == b"throw".as_slice() {
+        Some("fail")
+    } else if word == b"isCancelled".as_slice() {
+        Some("cancelled")
+    } else if word == b"where".as_slice() {
+        Some("bind")
+    } else if word == b"state".as_slice() {
+        Some("case")
+    } else if word == b"exception".as_slice() {
+        Some("except")
+    } else {
+        None
+    }
+}
+
+/// Returns the word here for a word of Java that is written at this place.
+pub(crate) fn java_word(wanted: Expected, word: &[u8]) -> Option<&'static str>
+    ensures { option_map (λ w. w.now) result ≡ def.java_word wanted word.now }
+{
+    match wanted {
+        Expected::Joiner => joiner_for(word),
+        Expected::Inner => instruction_for(word),
+        _ => None,
     }
 }

@@ -170,7 +170,8 @@ pub(crate) fn wanted_sentence(wanted: Expected) -> &'static str
         Expected::Timed => "timed, or nothing more",
         Expected::ForkSlot => "the slot of the scope, s0 to s15",
         Expected::Function => "the name of the function",
-        Expected::Handle => "the slot of the subtask, s0 to s15, or _ for none",
+        Expected::Handle =>
+            "the slot of the subtask, s0 to s15, or _ for none (arguments are pushed before)",
         Expected::JoinSlot => "the slot of the scope, s0 to s15",
         Expected::JoinFailed => "the label for failed, or - for none",
         Expected::JoinTimeout => "the label for timeout, or - for none",

@@ -16,7 +16,7 @@ use crate::functions::functions_of;
 use crate::inside::is_inside;
 use crate::lines::say;
 use crate::names::{known, names_nothing, names_some};
-use crate::near::meant;
+use crate::near::{java_word, meant};
 use crate::sentences::{join_form, wanted_sentence};
 use crate::wanted::{Expected, in_place_of, operand};
 use std::alloc::{AllocError, Global};
@@ -42,6 +42,28 @@ fn say_meant(out: &mut Vec<u8>, known: Option<&'static str>) -> Result<(), Alloc
     }
 }
 
+/// Appends the line of the word here for a word of Java.
+fn say_java(out: &mut Vec<u8>, word: &[u8], known: &str) -> Result<(), AllocError>
+    ensures { OnOk result (out.new.items ≡ out.old.items ++ def.java_line word.now known.now) }
+{
+    say(out, "Java's ")?;
+    out.extend_from_slice(word)?;
+    say(out, " is ")?;
+    say(out, known)?;
+    say(out, " here\n")
+}
+
+/// Appends the line of the word here for a word of Java, or else of the word that may be meant.
+fn say_guess(out: &mut Vec<u8>, wanted: Expected, word: &[u8]) -> Result<(), AllocError>
+    ensures { OnOk result (out.new.items
+        ≡ out.old.items ++ def.meant_words wanted (Some word.now)) }
+{
+    match java_word(wanted, word) {
+        Some(known) => say_java(out, word, known),
+        None => say_meant(out, meant(wanted, word)),
+    }
+}
+
 fn say_wanted(out: &mut Vec<u8>, wanted: Expected) -> Result<(), AllocError>
     ensures { OnOk result (out.new.items ≡ out.old.items ++ def.expected_words wanted) }
 {
@@ -64,7 +86,7 @@ pub(crate) fn say_word(out: &mut Vec<u8>, word: &[u8], wanted: Expected) -> Resu
 {
     say_bracketed(out, word)?;
     say_wanted(out, wanted)?;
-    say_meant(out, meant(wanted, word))
+    say_guess(out, wanted, word)
 }
 
 #[tactic(auto, using(crate::proofs::LineLemmas::missing_words))]
@@ -177,11 +199,24 @@ fn unknown_line(alloc: Global, out: &mut Vec<u8>, text: &[u8]) -> Result<(), All
     }
 }
 
+/// Returns what a byte in this column may be.
+fn byte_hint(column: usize, byte: u8) -> &'static str
+    ensures { result.now ≡ def.byte_hint column byte }
+{
+    if column == 1 && byte == 239 {
+        " (perhaps a byte order mark: save the text as UTF-8 without one)"
+    } else {
+        ""
+    }
+}
+
 fn say_byte(alloc: Global, out: &mut Vec<u8>, column: usize, byte: u8) -> Result<(), AllocError>
     ensures { OnOk result (out.new.items ≡ out.old.items ++ def.byte_words column byte) }
 {
-    let words = format!(in alloc; "at column {column}: byte {byte}\n")?;
-    say(out, words.as_str())
+    let words = format!(in alloc; "at column {column}: byte {byte}")?;
+    say(out, words.as_str())?;
+    say(out, byte_hint(column, byte))?;
+    say(out, "\n")
 }
 
 /// The line of the first byte of a line that isn't allowed.

@@ -16,3 +16,4 @@ pub use change::{Resource, added_of, change_of, depth_of, source_of};
 pub use greatest::{limit_of, own_of};
 pub use layout::{Layout, lay_out, names_at, next_places};
 pub use pass::turns_of;
+pub use sts_rules::Budgets;

@@ -13,7 +13,8 @@ use Rattle.sts_args.specs.declared.asked.Line.TheVariants as line
 use Rattle.sts_output.specs.Joined.{halves_of}
 use Rattle.sts_output.specs.Output.{Output, Shows, Writes, failure_output, memory_output}
 use Rattle.sts_cli.specs.Running.{IsOutcomeOf, Outcome}
-use Rattle.sts_output.specs.Streams.{Differ, DifferFrom, Files, Prints, SameFile, Streams, Tells}
+use Rattle.sts_output.specs.Streams.{Differ, DifferFrom, Files, NoneIsYes, Prints, SameFile}
+use Rattle.sts_output.specs.Streams.{Streams, Tells}
 use Rattle.sts_output.specs.Streams.{events_of, most_of_a_stream, most_of_a_text, not_text_output}
 use Rattle.sts_output.specs.Taking.{IsTakenOf}
 use Rattle.sts_output.specs.declared.mode.Mode.{Mode}
@@ -42,11 +43,12 @@ pub data IsOfInput (input : Option (List ℕ)) (o : Output) : Type 0 where
       → Shows mode.Plain (halves_of bytes).text (halves_of bytes).trace o → IsOfInput input o
   failed : (e : TakeError) → o ≡ failure_output e → IsOfInput input o
 
--- the file of the trace, if one is named, isn't known to be one of those that are read
+-- The file of the trace, if one is named, isn't known to be one of those that are read, and no
+-- answer was that it is.
 abbrev pub Spares : SameFile → Text → Option (Bor Text) → Option (Bor Text) → Type 0
 Spares same file outside None = ⊤
 Spares same file outside (Some trace) =
-    Differ (same trace.now file) × DifferFrom (same trace.now) outside
+    NoneIsYes same × Differ (same.known trace.now file) × DifferFrom (same.known trace.now) outside
 
 -- the output for a run of a text with an outside text; it may also say that memory or the trace's
 -- file failed. The trace's file isn't one of those that are read

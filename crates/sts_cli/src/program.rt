@@ -6,7 +6,7 @@ ghost use Rattle.std.specs.String.{string_bytes};
 ghost use Rattle.sts_args.specs.Asked.{HasWorkers};
 ghost use Rattle.sts_cli.specs.Ending as def;
 ghost use Rattle.sts_output.specs.Output.{Output, Writes};
-ghost use Rattle.sts_output.specs.Streams.{events_of};
+ghost use Rattle.sts_output.specs.Streams.{events_of, same_file};
 
 use crate::playing::{Aside, play, play_joined, play_traced, play_untraced};
 use crate::remarks::Remarks;
@@ -118,7 +118,7 @@ fn outside_of<'a>(wanted: RunRequest<'a>, texts: &'a Texts) -> Events<'a> {
 fn on_texts<R: Threads + Wait + Sync, S: Sinks, W: Write>(
     rt: &R,
     alloc: Global,
-    sinks: &S,
+    sinks: &mut S,
     texts: &Texts,
     wanted: RunRequest<'_>,
     out: &mut W,
@@ -127,8 +127,10 @@ fn on_texts<R: Threads + Wait + Sync, S: Sinks, W: Write>(
 ) -> Result<u8, WriteFailed>
     requires { (1 ≤ wanted.workers) × (wanted.workers ≤ 16) }
     ensures { IfOk result (λ s. (o : Output)
-        × def.IsPrinted (def.Spares (S.same sinks.now) wanted.entry.file.now wanted.entry.outside
-        wanted.entry.trace) texts.now.program.items texts.now.events.items o
+        × def.IsPrinted (def.Spares
+        (same_file (S.same sinks.old) (S.said_yes sinks.old) (S.said_yes sinks.new))
+        wanted.entry.file.now wanted.entry.outside wanted.entry.trace)
+        texts.now.program.items texts.now.events.items o
         × Writes (W.contents out.old) (W.contents out.new) s o) }
 {
     let (program, outside) = (texts.program.as_slice(), texts.events.as_slice());
@@ -165,19 +167,21 @@ fn remark(wanted: RunRequest<'_>, texts: &Texts, status: u8, aside: Aside, remar
 fn on_run<R: Threads + Wait + Sync, S: Sources + Sinks, W: Write>(
     rt: &R,
     alloc: Global,
-    sources: &S,
+    sources: &mut S,
     wanted: RunRequest<'_>,
     out: &mut W,
     remarks: &mut Remarks,
 ) -> Result<u8, WriteFailed>
     requires { (1 ≤ wanted.workers) × (wanted.workers ≤ 16) }
     ensures { IfOk result (λ s. (o : Output)
-        × def.IsOfRun (def.Spares (S.same sources.now) wanted.entry.file.now wanted.entry.outside
-        wanted.entry.trace) (S.held sources.now wanted.entry.file.now)
-        (events_of (S.held sources.now) wanted.entry.outside) o
+        × def.IsOfRun (def.Spares
+        (same_file (S.same sources.old) (S.said_yes sources.old) (S.said_yes sources.new))
+        wanted.entry.file.now wanted.entry.outside wanted.entry.trace)
+        (S.held sources.old wanted.entry.file.now)
+        (events_of (S.held sources.old) wanted.entry.outside) o
         × Writes (W.contents out.old) (W.contents out.new) s o) }
 {
-    match read_texts(alloc, sources, wanted.file, wanted.outside) {
+    match read_texts(alloc, &*sources, wanted.file, wanted.outside) {
         Ok(texts) => {
             let mut aside = Aside::new();
             let notes = &mut remarks.notes;
@@ -193,27 +197,28 @@ fn on_run<R: Threads + Wait + Sync, S: Sources + Sinks, W: Write>(
 fn on_line<R: Threads + Wait + Sync, S: Sources + Sinks, W: Write>(
     rt: &R,
     alloc: Global,
-    sources: &S,
+    sources: &mut S,
     wanted: asked::Line<'_>,
     out: &mut W,
     remarks: &mut Remarks,
 ) -> Result<u8, WriteFailed>
     requires { HasWorkers wanted }
     ensures { IfOk result (λ s. (o : Output)
-        × def.IsPlayed wanted.entry (S.held sources.now) (S.same sources.now)
-        (S.offered sources.now) o
+        × def.IsPlayed wanted.entry (S.held sources.old)
+        (same_file (S.same sources.old) (S.said_yes sources.old) (S.said_yes sources.new))
+        (S.offered sources.old) o
         × Writes (W.contents out.old) (W.contents out.new) s o) }
 {
     let notes = &mut remarks.notes;
     match wanted {
-        asked::Line::Joined => on_input(alloc, sources, out, notes),
-        asked::Line::Verify { file } => on_text(alloc, sources, Mode::Verify, file, out, notes),
-        asked::Line::List { file } => on_text(alloc, sources, Mode::List, file, out, notes),
+        asked::Line::Joined => on_input(alloc, &*sources, out, notes),
+        asked::Line::Verify { file } => on_text(alloc, &*sources, Mode::Verify, file, out, notes),
+        asked::Line::List { file } => on_text(alloc, &*sources, Mode::List, file, out, notes),
         asked::Line::Plain { file, trace } => {
-            on_text_and_trace(alloc, sources, Mode::Plain, file, trace, out, notes)
+            on_text_and_trace(alloc, &*sources, Mode::Plain, file, trace, out, notes)
         }
         asked::Line::Replay { file, trace } => {
-            on_text_and_trace(alloc, sources, Mode::Replay, file, trace, out, notes)
+            on_text_and_trace(alloc, &*sources, Mode::Replay, file, trace, out, notes)
         }
         asked::Line::Run {
             file,
@@ -249,14 +254,15 @@ fn on_line<R: Threads + Wait + Sync, S: Sources + Sinks, W: Write>(
 pub fn run<R: Threads + Wait + Sync, S: Sources + Sinks, W: Write, E: Write>(
     rt: &R,
     alloc: Global,
-    sources: &S,
+    sources: &mut S,
     words: &[&str],
     out: &mut W,
     err: &mut E,
     remarks: &mut Remarks,
 ) -> Result<u8, WriteFailed>
-    ensures { IfOk result (def.Ends (map (λ w. w.now) words.now) (S.held sources.now)
-        (S.same sources.now) (S.offered sources.now)
+    ensures { IfOk result (def.Ends (map (λ w. w.now) words.now) (S.held sources.old)
+        (same_file (S.same sources.old) (S.said_yes sources.old) (S.said_yes sources.new))
+        (S.offered sources.old)
         (record {
           out_old = W.contents out.old;
           out_new = W.contents out.new;
@@ -280,14 +286,15 @@ pub fn run<R: Threads + Wait + Sync, S: Sources + Sinks, W: Write, E: Write>(
 pub fn run_words<R: Threads + Wait + Sync, S: Sources + Sinks, W: Write, E: Write>(
     rt: &R,
     alloc: Global,
-    sources: &S,
+    sources: &mut S,
     words: &Result<Vec<String>, WordsError>,
     out: &mut W,
     err: &mut E,
     remarks: &mut Remarks,
 ) -> Result<u8, WriteFailed>
-    ensures { IfOk result (def.EndsFrom words.now (S.held sources.now)
-        (S.same sources.now) (S.offered sources.now)
+    ensures { IfOk result (def.EndsFrom words.now (S.held sources.old)
+        (same_file (S.same sources.old) (S.said_yes sources.old) (S.said_yes sources.new))
+        (S.offered sources.old)
         (record {
           out_old = W.contents out.old;
           out_new = W.contents out.new;
@@ -328,7 +335,15 @@ pub fn start<R: Env + Files + Input + Threads + Wait + Sync, W: Write, E: Write>
     if at_terminal && words.as_ref().is_ok_and(|words| words.len() == 1) {
         let _told = err.write_all(WAITS);
     }
-    match run_words(rt, alloc, &Host { rt }, &words, out, err, &mut remarks) {
+    match run_words(
+        rt,
+        alloc,
+        &mut Host::new(rt),
+        &words,
+        out,
+        err,
+        &mut remarks,
+    ) {
         Ok(status) => {
             let _told = err.write_all(remarks.notes.lines());
             let _told = err.write_all(remarks.lines());

@@ -1,5 +1,5 @@
-//! The fast machine. It runs a verified program and checks no instruction. It has the same live
-//! view and the same number of steps as the plain machine.
+//! The fast machine. It runs a verified program, and its turn has no fault to return. It has the
+//! same live view and the same number of steps as the plain machine.
 #![tactic(auto)]
 
 pub mod beside;

@@ -1,22 +1,26 @@
 -- The lines on standard error that say why something was not printed as asked (this project's own).
-use Rattle.std.specs.Prelude.{ℕ, ◌-◌, ◌==◌, ◌&&◌, nat_le, List, [], ◌++◌, Option, Some, None}
+use Rattle.std.specs.Prelude.{ℕ, ◌-◌, ◌==◌, List, [], ◌∷◌, ◌++◌, Option, Some, None}
 use Rattle.std.specs.Prelude.{Result, Ok, Err, codes, if◌then◌else◌, map, take, slice_get}
 use Rattle.std.specs.Fmt.{decimal}
+use Rattle.std.specs.List.{ends_with, list_any}
 use Rattle.std.specs.Str.{bytes_eq}
 use Rattle.std.specs.declared.io.ErrorKind.{ErrorKind}
 use Rattle.std.specs.declared.io.ErrorKind.TheVariants as kind
 use Rattle.sts_text.specs.Words.{lines}
 use Rattle.sts_code.specs.Program.{Program}
+use Rattle.sts_code.specs.declared.checking.CodeCause.{CodeCause}
+use Rattle.sts_code.specs.declared.checking.CodeCause.TheVariants as check
 use Rattle.sts_code.specs.declared.checking.CodeError.{CodeError}
 use Rattle.sts_model.specs.declared.event.Event.{Event}
 use Rattle.sts_asm.specs.Outline.{Outline, Sentence}
 use Rattle.sts_asm.specs.Source.{outlined, sentence_at}
 use Rattle.sts_asm.specs.declared.fault.AsmKind.{AsmKind}
-use Rattle.sts_asm.specs.declared.fault.AsmKind.TheVariants.{Code}
+use Rattle.sts_asm.specs.declared.fault.AsmKind.TheVariants.{Code, TextTooLong}
 use Rattle.sts_asm.specs.declared.fault.AsmError.{AsmError}
 use Rattle.sts_trace.specs.declared.error.TraceError.{TraceError}
 use Rattle.sts_trace.specs.declared.error.TraceError.TheVariants as trace
 use Rattle.sts_trace.specs.declared.outside.Due.{Due}
+use Rattle.sts_output.specs.Shown.{shown_byte}
 use Rattle.sts_output.specs.declared.file_error.FileError.{FileError}
 use Rattle.sts_output.specs.declared.file_error.FileError.TheVariants as file_error
 
@@ -56,10 +60,6 @@ file_line program (file_error.Overwrites path) =
 
 -- ---- lines of texts
 
--- a tab is shown as a space, and what is no printable ASCII as `?`
-abbrev pub shown_byte : ℕ → ℕ
-shown_byte b = if b == 9 then 32 else if nat_le 32 b && nat_le b 126 then b else 63
-
 -- at most the first hundred bytes of a line
 abbrev pub shown_line : Option (List ℕ) → List ℕ
 shown_line None = []
@@ -95,10 +95,22 @@ kind_line text kind line = line
 abbrev pub fault_line : List ℕ → AsmError → ℕ
 fault_line text e = kind_line text e.kind e.line
 
+-- what is wrong, for checks that no line shows
+abbrev pub check_words : CodeCause → List ℕ
+check_words check.NoMain = codes ": the text must end with a function main 0, without needs"
+check_words check.TooManyFunctions = codes ": the text has more than 64 functions"
+check_words cause = []
+
+-- what is wrong, for faults that no line shows
+abbrev pub fault_words : AsmKind → List ℕ
+fault_words TextTooLong = codes ": the text has more than 1048576 bytes"
+fault_words (Code c) = check_words c.cause
+fault_words kind = []
+
 -- `sts: g.sts, line 3: "puhs 7"; ./look explain FILE says more`
 abbrev pub fault_reason : List ℕ → List ℕ → List ℕ → AsmError → List ℕ
 fault_reason program name text e =
-    reason_line program name (place text (fault_line text e))
+    reason_line program name (place text (fault_line text e) ++ fault_words e.kind)
     (codes "; ./look explain FILE says more")
 
 abbrev pub text_reason : List ℕ → List ℕ → List ℕ → Result Program AsmError → Option (List ℕ)
@@ -107,9 +119,27 @@ text_reason program name text (Err e) = Some (fault_reason program name text e)
 
 -- ---- faults of a trace or an outside text
 
+-- what is often wrong with a line: it ends as on Windows, or it is short for several lines
+abbrev pub line_words : List ℕ → List ℕ
+line_words line =
+    if ends_with ◌==◌ line (13 ∷ [])
+    then codes ": a carriage return comes before its newline"
+    else (if list_any (λ b. b == 42) line
+    then codes ": checks/write_trace.py writes short traces in full"
+    else [])
+
+abbrev pub maybe_line_words : Option (List ℕ) → List ℕ
+maybe_line_words None = []
+maybe_line_words (Some line) = line_words line
+
+-- a line by number and bytes, and what is often wrong with such a line
+abbrev pub line_place : List ℕ → ℕ → List ℕ
+line_place text number =
+    place text number ++ maybe_line_words (slice_get (lines text) (number - 1))
+
 abbrev pub events_place : List ℕ → TraceError → List ℕ
-events_place text (trace.BadLine n) = place text n
-events_place text (trace.BadNumber n) = place text n
+events_place text (trace.BadLine n) = line_place text n
+events_place text (trace.BadNumber n) = line_place text n
 events_place text trace.NoNewline = codes ": no newline ends its last line"
 events_place text trace.Memory = []
 

@@ -24,9 +24,19 @@ abbrev pub events_of : Files → Option (Bor (List ℕ)) → Option (List ℕ)
 events_of files None = Some []
 events_of files (Some path) = files path.now
 
--- whether two names are of the same file, if that is known
-abbrev pub SameFile : Type 0
-SameFile = List ℕ → List ℕ → Option Bool
+-- Whether two names are of the same file, if that is known; and whether the answer to such a
+-- question was ever yes, before the call and after it.
+pub record SameFile : Type 0 where
+  pub known : List ℕ → List ℕ → Option Bool
+  pub before : Bool
+  pub after : Bool
+
+abbrev pub same_file : (List ℕ → List ℕ → Option Bool) → Bool → Bool → SameFile
+same_file known before after = record { known = known; before = before; after = after }
+
+-- no answer of the call was yes
+abbrev pub NoneIsYes : SameFile → Type 0
+NoneIsYes same = same.after ≡ same.before
 
 -- two files aren't known to be the same
 abbrev pub Differ : Option Bool → Type 0

@@ -1,20 +1,20 @@
 //! Lines for standard error that say where a text has its fault.
 
-ghost use Rattle.std.specs.Prelude.{◌≡◌, ◌++◌, ◌-◌, IfOk, OnOk, Some, None, map, take, option_map};
-ghost use Rattle.std.specs.Prelude.{Ok, Result, slice_get};
+ghost use Rattle.std.specs.Prelude.{◌≡◌, ◌++◌, IfOk, OnOk, Some, None, take, option_map};
+ghost use Rattle.std.specs.Prelude.{Ok, Result};
 ghost use Rattle.sts_code.specs.Program.{Program as AnyProgram};
 ghost use Rattle.sts_asm.specs.Fault.{FailsAt};
 ghost use Rattle.sts_asm.specs.declared.fault.AsmError.{AsmError};
 ghost use Rattle.std.specs.Option.{option_copied};
-ghost use Rattle.sts_text.specs.Words.{lines};
 ghost use Rattle.sts_asm.specs.Source.{outlined as outlined_of};
 ghost use Rattle.sts_asm.specs.Text.{judged};
 ghost use Rattle.sts_trace.specs.Reading.{outside_read, trace_read};
 ghost use Rattle.sts_output.specs.Reasons as def;
 
+use crate::shown::{line_at, say_shown};
 use std::alloc::{AllocError, Global};
 use sts_asm::{AsmError, AsmKind, Outline, assemble, outlined};
-use sts_code::CodeError;
+use sts_code::{CodeCause, CodeError};
 use sts_trace::{TraceError, read_outside, read_trace};
 
 /// A text that was read, and the name that a person knows it by.
@@ -38,34 +38,6 @@ pub(crate) fn say(out: &mut Vec<u8>, text: &str) -> Result<(), AllocError>
     ensures { OnOk result (out.new.items ≡ out.old.items ++ text.now) }
 {
     out.extend_from_slice(text.as_bytes())
-}
-
-/// Returns a byte as it is shown: a tab as a space, and a byte that is no printable ASCII as `?`.
-fn shown_byte(b: u8) -> u8
-    ensures { result ≡ def.shown_byte b }
-{
-    match b {
-        b'\t' => b' ',
-        b' '..=b'~' => b,
-        _ => b'?',
-    }
-}
-
-fn say_shown(out: &mut Vec<u8>, line: &[u8]) -> Result<(), AllocError>
-    ensures { OnOk result (out.new.items ≡ out.old.items ++ map def.shown_byte line.now) }
-{
-    for b in line {
-        out.push(shown_byte(*b))?;
-    }
-    Ok(())
-}
-
-/// Returns the line of this number, counted from 1.
-fn line_at(text: &[u8], number: u64) -> Option<&[u8]>
-    ensures { option_copied result ≡ slice_get (lines text.now) (number - 1) }
-{
-    text.split(|b| *b == b'\n')
-        .nth(number.saturating_sub(1) as usize)
 }
 
 /// Appends the bytes of a line, at most the first hundred.
@@ -148,6 +120,28 @@ fn line_of(
     Ok(line)
 }
 
+/// Returns what is wrong, if a check fails that no line shows.
+fn check_words(cause: CodeCause) -> &'static str
+    ensures { result.now ≡ def.check_words cause }
+{
+    match cause {
+        CodeCause::NoMain => ": the text must end with a function main 0, without needs",
+        CodeCause::TooManyFunctions => ": the text has more than 64 functions",
+        _ => "",
+    }
+}
+
+/// Returns what is wrong, if no line shows it.
+fn fault_words(kind: AsmKind) -> &'static str
+    ensures { result.now ≡ def.fault_words kind }
+{
+    match kind {
+        AsmKind::TextTooLong => ": the text has more than 1048576 bytes",
+        AsmKind::Code(code) => check_words(code.cause),
+        _ => "",
+    }
+}
+
 /// Returns the line about a fault of the text of a program.
 fn fault_reason(
     alloc: Global,
@@ -161,6 +155,7 @@ fn fault_reason(
     let number = fault_line(alloc, named.text, error)?;
     let mut place = Vec::new(alloc);
     say_place(alloc, &mut place, named.text, u64::from(number))?;
+    say(&mut place, fault_words(error.kind))?;
     let hint = "; ./look explain FILE says more";
     line_of(alloc, program, named.name, place.as_slice(), hint)
 }
@@ -205,6 +200,42 @@ pub fn text_reason(
     }
 }
 
+/// Returns what is often wrong with a line: it ends as on Windows, or it is short for several lines.
+fn line_words(line: &[u8]) -> &'static str
+    ensures { result.now ≡ def.line_words line.now }
+{
+    if line.ends_with(b"\r".as_slice()) {
+        ": a carriage return comes before its newline"
+    } else if line.contains(&b'*') {
+        ": checks/write_trace.py writes short traces in full"
+    } else {
+        ""
+    }
+}
+
+fn say_line_words(out: &mut Vec<u8>, line: Option<&[u8]>) -> Result<(), AllocError>
+    ensures { OnOk result (out.new.items ≡ out.old.items
+        ++ def.maybe_line_words (option_copied line.entry)) }
+{
+    match line {
+        Some(line) => say(out, line_words(line)),
+        None => Ok(()),
+    }
+}
+
+/// Appends the number of a line, its bytes, and what is often wrong with such a line.
+fn say_line_place(
+    alloc: Global,
+    out: &mut Vec<u8>,
+    text: &[u8],
+    number: u64,
+) -> Result<(), AllocError>
+    ensures { OnOk result (out.new.items ≡ out.old.items ++ def.line_place text.now number) }
+{
+    say_place(alloc, out, text, number)?;
+    say_line_words(out, line_at(text, number))
+}
+
 /// Appends where a trace or an outside text has its fault.
 fn say_events_place(
     alloc: Global,
@@ -215,7 +246,7 @@ fn say_events_place(
     ensures { OnOk result (out.new.items ≡ out.old.items ++ def.events_place text.now error) }
 {
     match error {
-        TraceError::BadLine(n) | TraceError::BadNumber(n) => say_place(alloc, out, text, n),
+        TraceError::BadLine(n) | TraceError::BadNumber(n) => say_line_place(alloc, out, text, n),
         TraceError::NoNewline => say(out, ": no newline ends its last line"),
         TraceError::Memory => Ok(()),
     }

@@ -1,6 +1,6 @@
 //! The sources of the program's bytes: files by their names, and the input stream.
 
-ghost use Rattle.std.specs.Prelude.{IfOk};
+ghost use Rattle.std.specs.Prelude.{◌≡◌, false, IfOk};
 ghost use Rattle.sts_output.specs.Taking.{Gives, IsTakenOf};
 
 use crate::taking::bytes_of;
@@ -35,6 +35,20 @@ pub trait Sources {
 #[derive(Drop)]
 pub struct Host<'a, R> {
     pub rt: &'a R,
+    /// Whether the system said of two names that they are of the same file.
+    pub said_yes: bool,
+}
+
+impl<'a, R> Host<'a, R> {
+    /// Returns the files of the process, before the first question.
+    pub fn new(rt: &'a R) -> Host<'a, R>
+        ensures { result.said_yes ≡ false }
+    {
+        Host {
+            rt,
+            said_yes: false,
+        }
+    }
 }
 
 impl<R: Files + io::Input> Sources for Host<'_, R> {

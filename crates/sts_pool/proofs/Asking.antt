@@ -1,6 +1,6 @@
 -- A book that asks its outside: the interrupts and expiries of its journal came from there.
 use Rattle.std.proofs.Common.{◌≡◌, ℕ, zero, suc, ◌+◌, List, [], ◌∷◌, ◌++◌, Option, Some, None, Bool, true, false, inl, inr, refl, sym, ap, ◌∙◌, subst, count_by, append_assoc, append-nil, length-append, arith}
-use Rattle.std.specs.Prelude.{IfNone, IfSome, option_map}
+use Rattle.std.specs.Prelude.{IfErr, IfNone, IfSome, OnErr, Result, Ok, Err, is_some, option_map}
 use Rattle.sts_code.specs.Program.{Program}
 use Rattle.sts_machine.specs.Slice.{steps_of}
 use Rattle.sts_machine.specs.declared.turned.Turned.{Turned}
@@ -13,7 +13,9 @@ use Rattle.sts_pool.specs.Asked.{HasGiven, IsAsked}
 use Rattle.sts_pool.specs.Book.{BookSeen, IsJournal, MayBe, Records}
 use Rattle.sts_pool.specs.Outside as outside
 use Rattle.sts_pool.specs.Outside.{Gave, IsGiven, IsOutside}
-use Rattle.sts_pool.specs.Report.{IsEnding, IsReport}
+use Rattle.sts_pool.specs.Report.{EndsUnfinished, IsEnding, IsReport, IsUnfinished}
+use Rattle.sts_pool.specs.declared.report.PoolError.{PoolError}
+use Rattle.sts_pool.specs.declared.report.PoolError.TheVariants.{Unfinished}
 use Rattle.sts_pool.proofs.Books.{steps_and_outside}
 use Rattle.sts_pool.proofs.OutsideLemmas.{entries_more}
 
@@ -66,98 +68,11 @@ gave_steps gives first (suc c) t journal now gave =
     let all = gave_steps gives first c t (journal ++ Step t ∷ []) now one in
     rw append_assoc at all
 
--- ---- a book with its outside
-
--- before the first event
-pub opening_asked : {O : Type 0} (gives : O → ℕ → Option Event → O → Type 0) (p : Program) (first : Option O) (b : BookSeen) (now : O) → b.program ≡ p → IsJournal b [] → IfSome first (λ o. o ≡ now) → IsAsked gives p first b now
-opening_asked gives p first b now ours opening same =
-    record {
-      program = ours;
-      events = [];
-      journal = opening;
-      gave = if_some first (λ o. o ≡ now) (λ o. Gave gives o [] now) (λ o e. subst (λ z. Gave gives o [] z) e outside.opening) same;
-    }
-
--- after these entries
-more_asked : {O : Type 0} (gives : O → ℕ → Option Event → O → Type 0) (p : Program) (first : Option O) (b x : BookSeen) (now later : O) (more : List Event) → x.program ≡ b.program → Records b x more
-    → ((o : O) (events : List Event) → IsJournal b events → Gave gives o events now → Gave gives o (events ++ more) later) → IsAsked gives p first b now → IsAsked gives p first x later
-more_asked gives p first b x now later more same records goes is =
-    record {
-      program = same ∙ is.program;
-      events = is.events ++ more;
-      journal = journal_more b x is.events more is.journal records;
-      gave = if_some first (λ o. Gave gives o is.events now) (λ o. Gave gives o (is.events ++ more) later) (λ o gave. goes o is.events is.journal gave) is.gave;
-    }
-
--- after an event that it gave
-pub event_asked : {O : Type 0} (gives : O → ℕ → Option Event → O → Type 0) (p : Program) (first : Option O) (b x : BookSeen) (now later : O) (n : ℕ) (e : Event) (answer : Option Event) → x.program ≡ b.program → Records b x (e ∷ []) → IsOutside e → answer ≡ Some e → n ≡ b.machine.steps + b.outside → gives now n answer later
-    → IsAsked gives p first b now → IsAsked gives p first x later
-event_asked gives p first b x now later n e answer same records outer some long gave is =
-    more_asked gives p first b x now later (e ∷ []) same records
-    (λ o events journal before. outside.event events now later e before outer
-    (subst (λ k. gives now k (Some e) later) (long ∙ sym journal.may.counted) (subst (λ a. gives now n a later) some gave)))
-    is
-
--- and if it gave nothing
-pub nothing_asked : {O : Type 0} (gives : O → ℕ → Option Event → O → Type 0) (p : Program) (first : Option O) (b : BookSeen) (now later : O) (n : ℕ) (answer : Option Event) → answer ≡ None → n ≡ b.machine.steps + b.outside → gives now n answer later → IsAsked gives p first b now → IsAsked gives p first b later
-nothing_asked gives p first b now later n answer none long gave is =
-    let here = subst (λ k. gives now k None later) (long ∙ sym is.journal.may.counted) (subst (λ a. gives now n a later) none gave) in
-    record {
-      program = is.program;
-      events = is.events;
-      journal = is.journal;
-      gave = if_some first (λ o. Gave gives o is.events now) (λ o. Gave gives o is.events later) (λ o before. outside.nothing is.events now later before here) is.gave;
-    }
-
-pub stays_asked : {O : Type 0} (gives : O → ℕ → Option Event → O → Type 0) (p : Program) (first : Option O) (b x : BookSeen) (now : O) → x ≡ b → IsAsked gives p first b now → IsAsked gives p first x now
-stays_asked gives p first b x now same is = subst (λ z. IsAsked gives p first z now) (sym same) is
-
--- after a turn
-pub turned_asked : {O : Type 0} (gives : O → ℕ → Option Event → O → Type 0) (p : Program) (first : Option O) (b x : BookSeen) (now : O) (t : ℕ) (turned : Turned) → x.program ≡ b.program → (turned ≡ Stepped → Records b x (Step t ∷ [])) → (turned ≡ Idle → x ≡ b) → IsAsked gives p first b now → IsAsked gives p first x now
-turned_asked gives p first b x now t Stepped same records idle is =
-    more_asked gives p first b x now now (Step t ∷ []) same (records refl) (λ o events journal before. outside.step events now t before) is
-turned_asked gives p first b x now t Idle same records idle is = stays_asked gives p first b x now (idle refl) is
-
--- after a slice was given back
-pub back_asked : {O : Type 0} (gives : O → ℕ → Option Event → O → Type 0) (p : Program) (first : Option O) (b x : BookSeen) (now : O) (c t : ℕ) (r : Bool) → x.program ≡ b.program → (r ≡ true → Records b x (steps_of c t)) → (r ≡ false → x ≡ b) → IsAsked gives p first b now → IsAsked gives p first x now
-back_asked gives p first b x now c t true same records stays is =
-    more_asked gives p first b x now now (steps_of c t) same (records refl) (λ o events journal before. gave_steps gives o c t events now before) is
-back_asked gives p first b x now c t false same records stays is = stays_asked gives p first b x now (stays refl) is
-
--- after steps of a task
-pub ran_asked : {O : Type 0} (gives : O → ℕ → Option Event → O → Type 0) (p : Program) (first : Option O) (b x : BookSeen) (now : O) (c t : ℕ) → x.program ≡ b.program → Records b x (steps_of c t) → IsAsked gives p first b now → IsAsked gives p first x now
-ran_asked gives p first b x now c t same records is =
-    more_asked gives p first b x now now (steps_of c t) same records (λ o events journal before. gave_steps gives o c t events now before) is
-
--- whatever tasks are out
-pub beside_asked : {O : Type 0} (gives : O → ℕ → Option Event → O → Type 0) (p : Program) (first : Option O) (b : BookSeen) (out : List ℕ) (now : O) → IsAsked gives p first b now → IsAsked gives p first (record b { out = out }) now
-beside_asked gives p first b out now is =
-    record { program = is.program; events = is.events; journal = journal_beside b out is.events is.journal; gave = is.gave }
-
-pub claimed_asked : {O A : Type 0} (gives : O → ℕ → Option Event → O → Type 0) (p : Program) (first : Option O) (b x : BookSeen) (now : O) (r : Option A) (Q : Type 0) (out : A → List ℕ) → IfNone r ((x ≡ b) × Q) → IfSome r (λ a. x ≡ record b { out = out a }) → IsAsked gives p first b now → IsAsked gives p first x now
-claimed_asked gives p first b x now (Some a) Q out none some is = stays_asked gives p first (record b { out = out a }) x now some (beside_asked gives p first b (out a) now is)
-claimed_asked gives p first b x now None Q out none some is = stays_asked gives p first b x now none.0 is
-
 -- ---- the book that is left
 
-has_given : {O : Type 0} (gives : O → ℕ → Option Event → O → Type 0) (p : Program) (first : Option O) (b : BookSeen) (now : O) (is : IsAsked gives p first b now) → ((o : O) → Gave gives o is.events now → IsGiven gives o is.events) → HasGiven gives first b
-has_given gives p first b now is given =
-    record {
-      events = is.events;
-      journal = is.journal;
-      given = if_some first (λ o. Gave gives o is.events now) (λ o. IsGiven gives o is.events) given is.gave;
-    }
-
--- the book is full
-pub full_given : {O : Type 0} (gives : O → ℕ → Option Event → O → Type 0) (p : Program) (first : Option O) (b : BookSeen) (now : O) → b.outside ≡ 4096 → IsAsked gives p first b now → HasGiven gives first b
-full_given gives p first b now full is =
-    has_given gives p first b now is (λ o gave. record { left = now; gave = gave; spent = inr (is.journal.may.outside ∙ full) })
-
--- or nothing more is due
-pub idle_given : {O : Type 0} (gives : O → ℕ → Option Event → O → Type 0) (p : Program) (first : Option O) (b : BookSeen) (now later : O) (n : ℕ) (answer : Option Event) → answer ≡ None → n ≡ b.machine.steps + b.outside → gives now n answer later → IsAsked gives p first b now → HasGiven gives first b
-idle_given gives p first b now later n answer none long gave is =
-    let here = subst (λ k. gives now k None later) (long ∙ sym is.journal.may.counted) (subst (λ a. gives now n a later) none gave) in
-    has_given gives p first b now is (λ o before. record { left = now; gave = before; spent = inl (later, here) })
+-- other tasks may be out
+given_beside : {O : Type 0} (gives : O → ℕ → Option Event → O → Type 0) (first : Option O) (b : BookSeen) (out : List ℕ) → HasGiven gives first b → HasGiven gives first (record b { out = out })
+given_beside gives first b out has = record { events = has.events; journal = journal_beside b out has.events has.journal; given = has.given }
 
 -- its journal, if it is written
 pub written_given : {O : Type 0} (gives : O → ℕ → Option Event → O → Type 0) (o : O) (b : BookSeen) (entries : List Event) → HasGiven gives (Some o) b → b.journal ≡ Some entries → IsGiven gives o entries
@@ -176,3 +91,138 @@ ended_given gives o b p end steps ours has ended =
       counted = told.1;
       came = has.given;
     }
+
+-- and if its root lives
+pub unfinished_given : {O : Type 0} (gives : O → ℕ → Option Event → O → Type 0) (o : O) (b : BookSeen) (p : Program) → b.program ≡ p → HasGiven gives (Some o) b → ((events : List Event) → MayBe b events → IsUnfinished b.program events) → EndsUnfinished p (IsGiven gives o)
+unfinished_given gives o b p ours has lives =
+    record {
+      journal = has.events;
+      unfinished = subst (λ q. IsUnfinished q has.events) ours (lives has.events has.journal.may);
+      came = has.given;
+    }
+
+-- what follows from each error follows from this one
+pub if_unfinished : {R : Type 0} (r : Result R PoolError) (X Y : Type 0) → (X → Y) → OnErr r X → IfErr r (λ e. e ≡ Unfinished → Y)
+if_unfinished (Ok a) X Y more told = tt
+if_unfinished (Err e) X Y more told = λ is. more told
+
+-- ---- a book with its outside
+
+-- a journal stays written
+still_written : (o : Option (List Event)) (more : List Event) → is_some (option_map (λ journal. journal ++ more) o) ≡ is_some o
+still_written (Some es) more = refl
+still_written None more = refl
+
+module _ {O : Type 0} (gives : O → ℕ → Option Event → O → Type 0) (p : Program) (w : Bool) (first : Option O) where
+  -- before the first event
+  pub opening_asked : (b : BookSeen) (now : O) → b.program ≡ p → is_some b.journal ≡ w → IsJournal b [] → IfSome first (λ o. o ≡ now) → IsAsked gives p w first b now false
+  opening_asked b now ours written opening same =
+      record {
+        program = ours;
+        written = written;
+        events = [];
+        journal = opening;
+        gave = if_some first (λ o. o ≡ now) (λ o. Gave gives o [] now) (λ o e. subst (λ z. Gave gives o [] z) e outside.opening) same;
+        spent = λ e. absurd (cc);
+      }
+
+  -- after these entries
+  more_asked : (b x : BookSeen) (now later : O) (s : Bool) (more : List Event) → x.program ≡ b.program → Records b x more → ((o : O) (events : List Event) → IsJournal b events → Gave gives o events now → Gave gives o (events ++ more) later) → IsAsked gives p w first b now s → IsAsked gives p w first x later false
+  more_asked b x now later s more same records goes is =
+      record {
+        program = same ∙ is.program;
+        written = ap is_some records.written ∙ (still_written b.journal more ∙ is.written);
+        events = is.events ++ more;
+        journal = journal_more b x is.events more is.journal records;
+        gave = if_some first (λ o. Gave gives o is.events now) (λ o. Gave gives o (is.events ++ more) later) (λ o gave. goes o is.events is.journal gave) is.gave;
+        spent = λ e. absurd (cc);
+      }
+
+  -- after an event that it gave
+  pub event_asked : (b x : BookSeen) (now later : O) (s : Bool) (n : ℕ) (e : Event) (answer : Option Event) → x.program ≡ b.program → Records b x (e ∷ []) → IsOutside e → answer ≡ Some e → n ≡ b.machine.steps + b.outside → gives now n answer later → IsAsked gives p w first b now s
+      → IsAsked gives p w first x later false
+  event_asked b x now later s n e answer same records outer some long gave is =
+      more_asked b x now later s (e ∷ []) same records
+      (λ o events journal before. outside.event events now later e before outer
+      (subst (λ k. gives now k (Some e) later) (long ∙ sym journal.may.counted) (subst (λ a. gives now n a later) some gave)))
+      is
+
+  has_given : (b : BookSeen) (now : O) (s : Bool) (is : IsAsked gives p w first b now s) → ((o : O) → Gave gives o is.events now → IsGiven gives o is.events) → HasGiven gives first b
+  has_given b now s is given =
+      record {
+        events = is.events;
+        journal = is.journal;
+        given = if_some first (λ o. Gave gives o is.events now) (λ o. IsGiven gives o is.events) given is.gave;
+      }
+
+  -- if it gave nothing, it has nothing to give
+  pub nothing_given : (b : BookSeen) (now later : O) (s : Bool) (n : ℕ) (answer : Option Event) → answer ≡ None → n ≡ b.machine.steps + b.outside → gives now n answer later → IsAsked gives p w first b now s → HasGiven gives first b
+  nothing_given b now later s n answer none long gave is =
+      let here = subst (λ k. gives now k None later) (long ∙ sym is.journal.may.counted) (subst (λ a. gives now n a later) none gave) in
+      has_given b now s is (λ o before. record { left = now; gave = before; spent = inl (later, here) })
+
+  pub nothing_asked : (b : BookSeen) (now later : O) (s : Bool) (n : ℕ) (answer : Option Event) → answer ≡ None → n ≡ b.machine.steps + b.outside → gives now n answer later → IsAsked gives p w first b now s → IsAsked gives p w first b later true
+  nothing_asked b now later s n answer none long gave is =
+      let here = subst (λ k. gives now k None later) (long ∙ sym is.journal.may.counted) (subst (λ a. gives now n a later) none gave) in
+      record {
+        program = is.program;
+        written = is.written;
+        events = is.events;
+        journal = is.journal;
+        gave = if_some first (λ o. Gave gives o is.events now) (λ o. Gave gives o is.events later) (λ o before. outside.nothing is.events now later before here) is.gave;
+        spent = λ e. nothing_given b now later s n answer none long gave is;
+      }
+
+  -- nor if the book is full
+  pub full_given : (b : BookSeen) (now : O) (s : Bool) → b.outside ≡ 4096 → IsAsked gives p w first b now s → HasGiven gives first b
+  full_given b now s full is = has_given b now s is (λ o gave. record { left = now; gave = gave; spent = inr (is.journal.may.outside ∙ full) })
+
+  pub full_asked : (b : BookSeen) (now : O) (s : Bool) → b.outside ≡ 4096 → IsAsked gives p w first b now s → IsAsked gives p w first b now true
+  full_asked b now s full is =
+      record {
+        program = is.program;
+        written = is.written;
+        events = is.events;
+        journal = is.journal;
+        gave = is.gave;
+        spent = λ e. full_given b now s full is;
+      }
+
+  -- it may have something to give again
+  stays_asked : (b x : BookSeen) (now : O) (s : Bool) → x ≡ b → IsAsked gives p w first b now s → IsAsked gives p w first x now false
+  stays_asked b x now s same is =
+      subst (λ z. IsAsked gives p w first z now false) (sym same)
+      (record { program = is.program; written = is.written; events = is.events; journal = is.journal; gave = is.gave; spent = λ e. absurd (cc) })
+
+  -- after a turn
+  pub turned_asked : (b x : BookSeen) (now : O) (s : Bool) (t : ℕ) (turned : Turned) → x.program ≡ b.program → (turned ≡ Stepped → Records b x (Step t ∷ [])) → (turned ≡ Idle → x ≡ b) → IsAsked gives p w first b now s → IsAsked gives p w first x now false
+  turned_asked b x now s t Stepped same records idle is =
+      more_asked b x now now s (Step t ∷ []) same (records refl) (λ o events journal before. outside.step events now t before) is
+  turned_asked b x now s t Idle same records idle is = stays_asked b x now s (idle refl) is
+
+  -- after steps of a task
+  pub ran_asked : (b x : BookSeen) (now : O) (s : Bool) (c t : ℕ) → x.program ≡ b.program → Records b x (steps_of c t) → IsAsked gives p w first b now s → IsAsked gives p w first x now false
+  ran_asked b x now s c t same records is =
+      more_asked b x now now s (steps_of c t) same records (λ o events journal before. gave_steps gives o c t events now before) is
+
+  -- after a slice was given back
+  pub back_asked : (b x : BookSeen) (now : O) (s : Bool) (c t : ℕ) (r : Bool) → x.program ≡ b.program → (r ≡ true → Records b x (steps_of c t)) → (r ≡ false → x ≡ b) → IsAsked gives p w first b now s → IsAsked gives p w first x now false
+  back_asked b x now s c t true same records stays is = ran_asked b x now s c t same (records refl) is
+  back_asked b x now s c t false same records stays is = stays_asked b x now s (stays refl) is
+
+  -- whatever tasks are out
+  pub beside_asked : (b x : BookSeen) (out : List ℕ) (now : O) (s : Bool) → x ≡ record b { out = out } → IsAsked gives p w first b now s → IsAsked gives p w first x now s
+  beside_asked b x out now s same is =
+      subst (λ z. IsAsked gives p w first z now s) (sym same)
+      (record {
+        program = is.program;
+        written = is.written;
+        events = is.events;
+        journal = journal_beside b out is.events is.journal;
+        gave = is.gave;
+        spent = λ e. given_beside gives first b out (is.spent e);
+      })
+
+  pub claimed_asked : {A : Type 0} (b x : BookSeen) (now : O) (s : Bool) (r : Option A) (Q : Type 0) (out : A → List ℕ) → IfNone r ((x ≡ b) × Q) → IfSome r (λ a. x ≡ record b { out = out a }) → IsAsked gives p w first b now s → IsAsked gives p w first x now s
+  claimed_asked b x now s (Some a) Q out none some is = beside_asked b x (out a) now s some is
+  claimed_asked b x now s None Q out none some is = subst (λ z. IsAsked gives p w first z now s) (sym none.0) is

@@ -35,7 +35,7 @@ use Rattle.sts_machine.specs.Turned.{Picks, turned}
 use Rattle.sts_machine.specs.declared.turned.Turned.TheVariants.{Stepped, Idle}
 use Rattle.sts_pool.specs.Book.{BookSeen, HasBookRoom, IsBook, is_free}
 use Rattle.sts_pool.specs.Outside.{outside_entries}
-use Rattle.sts_pool.specs.Report.{IsBounded, IsReport}
+use Rattle.sts_pool.specs.Report.{IsBounded, IsReport, IsUnfinished}
 use Rattle.sts_pool.proofs.OutsideLemmas.{entries_more}
 use Rattle.sts_pool.proofs.Outs.{among, among_more, apart_more, apart_without, few_from_apart, was_among, without}
 
@@ -291,3 +291,9 @@ reports m events out end o is main ended some =
       bounded = λ c printed. subst (λ d. IsBounded m.program events d) (sym (main.alone c printed))
           (record { steps = (main.runs_well events).steps; entries = entries_few m events out is main });
     }
+
+-- or the root lives
+pub unfinished : (m : Seen) (events : List Event) (end : Option End) → Stands m events → In (λ w. end ≡ (task_at w 0).outcome) (after m.program events) → end ≡ None → IsUnfinished m.program events
+unfinished m events end s ended none =
+    let here : end ≡ (task_at s.world 0).outcome = subst (In (λ w. end ≡ (task_at w 0).outcome)) s.runs ended in
+    record { world = s.world; runs = s.runs; lives = sym here ∙ none }

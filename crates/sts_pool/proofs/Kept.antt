@@ -77,6 +77,14 @@ countable m j n out k is =
     let entries : outside_entries is.events ≡ n = is.entries in
     omega (arith, few, small, counted, entries)
 
+-- no more outside events came than may
+pub most_entries : (m : Seen) (j : Journal) (n : ℕ) (out : List ℕ) (k : ℕ) (b : BookSeen) → book_of m (written j) n out ≡ b → IsKept m j n out k → b.outside ≤ 4096
+most_entries m j n out k b view is =
+    let most = is.book.most in
+    let entries : outside_entries is.events ≡ n = is.entries in
+    let same : n ≡ b.outside = ap (λ (x : BookSeen). x.outside) view in
+    omega (arith, most, entries, same)
+
 -- if fewer outside events came than may, one more may come
 pub few_entries : (m : Seen) (j : Journal) (n : ℕ) (out : List ℕ) (k : ℕ) → IsKept m j n out k → (n ≡ 4096 → ⊥) → n + 1 ≤ 4096
 few_entries m j n out k is other =

@@ -1,5 +1,5 @@
 -- The report of a run (this project's own).
-use Rattle.std.specs.Prelude.{◌≡◌, ◌+◌, ◌≤◌, ℕ, List, length, count_by, Some}
+use Rattle.std.specs.Prelude.{◌≡◌, ◌+◌, ◌≤◌, ℕ, List, length, count_by, Some, None}
 use Rattle.sts_code.specs.Program.{Program}
 use Rattle.sts_code.specs.declared.limits.TheConstants.{MAX_OUTSIDE}
 use Rattle.sts_rules.specs.declared.budget.Budgets.{Budgets}
@@ -33,3 +33,15 @@ pub record IsEnding (p : Program) (Came : List Event → Type 0) (end : End) (st
     pub report : IsReport p journal end
     pub counted : steps ≡ count_by is_step journal
     pub came : Came journal
+
+-- the journal leads to a state without a fault, in which the root lives
+pub record IsUnfinished (p : Program) (journal : List Event) : Type 0 where
+  pub world : World
+  pub runs : after p journal ≡ Running world
+  pub lives : (task_at world 0).outcome ≡ None
+
+-- some journal leads to such a state; its interrupts and expiries are those that came from outside
+pub record EndsUnfinished (p : Program) (Came : List Event → Type 0) : Type 0 where
+  pub journal : List Event
+  pub unfinished : IsUnfinished p journal
+  pub came : Came journal

@@ -1,32 +1,36 @@
 //! A book with the outside that it asks.
 
-ghost use Rattle.std.specs.Prelude.{◌≡◌, [], IfOk, IfSome};
+ghost use Rattle.std.specs.Prelude.{◌≡◌, ◌+◌, ◌<◌, [], IfSome, is_some, false, true};
 ghost use Rattle.sts_pool.specs.Asked.{HasGiven};
 ghost use Rattle.sts_pool.specs.Book.{IsJournal};
 
 use crate::book::{Book, OutsideFull};
 use crate::gate::Outside;
-use crate::report::PoolError;
 use std::marker::{Brand, Model, PhantomData};
 use sts_code::MAX_OUTSIDE;
 use sts_machine::{Slice, Turned};
 use sts_model::End;
 
-/// The program and the outside of a run: each call of `run` picks its own.
+/// The program of a run, whether its journal is written, and its outside: each call of `run` picks
+/// its own.
 pub(crate) trait Runs<O> {
-    ghost use Rattle.std.specs.Prelude.{Option};
+    ghost use Rattle.std.specs.Prelude.{Bool, Option};
     ghost use Rattle.sts_code.specs.Program.{Program};
 
     ghost program: { Program };
+
+    ghost is_written: { Bool };
 
     ghost outside: { Option O };
 }
 
 impl<O> Runs<O> for Brand {
-    ghost use Rattle.std.specs.Prelude.{[], None};
+    ghost use Rattle.std.specs.Prelude.{[], None, false};
     ghost use Rattle.sts_pool.specs.Book.{no_program};
 
     ghost program = { no_program };
+
+    ghost is_written = { false };
 
     ghost outside = { None };
 }
@@ -35,12 +39,14 @@ impl<O> Runs<O> for Brand {
 /// is of the picked program, and that the picked outside gave the interrupts and expiries of the
 /// journal.
 ///
-/// It also notes of each of them whether it counted.
+/// It also notes of each of them whether it counted. And it notes whether the outside has no event to
+/// give: it had none when it was asked last, or the book is full, and no entry has come since.
 #[derive(Drop)]
 pub(crate) struct Asked<'p, O: Outside, B: Runs<O>> {
     book: Book<'p>,
     outside: O,
     counted: Vec<bool>,
+    is_spent: bool,
     of: PhantomData<B>,
 }
 
@@ -52,7 +58,8 @@ impl<'p, O: Outside, B: Runs<O>> Model for Asked<'p, O, B> {
 
     ghost view = { λ a. a.book };
 
-    ghost invariant = { λ a. IsAsked O.gives B.program B.outside a.book a.outside };
+    ghost invariant = { λ a. IsAsked O.gives B.program B.is_written B.outside
+        a.book a.outside a.is_spent };
 }
 
 impl<'p, O: Outside, B: Runs<O>> Asked<'p, O, B> {
@@ -60,6 +67,7 @@ impl<'p, O: Outside, B: Runs<O>> Asked<'p, O, B> {
     /// and has room for the limit of outside events.
     pub(crate) fn new(book: Book<'p>, outside: O, counted: Vec<bool>) -> Asked<'p, O, B>
         requires program { book.program ≡ B.program }
+        requires written { is_some book.journal ≡ B.is_written }
         requires opening { IsJournal book [] }
         requires outside { IfSome B.outside (λ o. o ≡ outside) }
     {
@@ -67,6 +75,7 @@ impl<'p, O: Outside, B: Runs<O>> Asked<'p, O, B> {
             book,
             outside,
             counted,
+            is_spent: false,
             of: PhantomData,
         }
     }
@@ -74,14 +83,21 @@ impl<'p, O: Outside, B: Runs<O>> Asked<'p, O, B> {
     /// Records the next event from outside, if one is due and the book isn't full. Answers whether
     /// it did.
     #[inline(always)]
-    fn records_next(&mut self) -> bool {
+    pub(crate) fn records_next(&mut self) -> bool
+        ensures given { result ≡ false → HasGiven O.gives B.outside self.new }
+        ensures room { result ≡ true → self.old.outside < MAX_OUTSIDE }
+        ensures more { result ≡ true → self.new.outside ≡ self.old.outside + 1 }
+    {
         if self.book.is_full() {
+            self.is_spent = true;
             return false;
         }
         let entries = self.book.entries();
         let Some(event) = self.outside.next(entries) else {
+            self.is_spent = true;
             return false;
         };
+        self.is_spent = false;
         match self.book.outside(event) {
             Ok(turned) => {
                 let _has_room = self.counted.push(turned == Turned::Stepped);
@@ -93,30 +109,43 @@ impl<'p, O: Outside, B: Runs<O>> Asked<'p, O, B> {
 
     /// Records the events from outside that are due, until there is none or the book is full.
     #[inline(always)]
-    pub(crate) fn ask(&mut self) {
-        if self.records_next() {
-            self.ask_on();
+    pub(crate) fn ask(&mut self)
+        ensures { HasGiven O.gives B.outside self.new }
+    {
+        if !self.records_next() {
+            return;
         }
+        self.ask_on();
     }
 
     /// Goes on with that after the first event.
     #[inline(never)]
-    fn ask_on(&mut self) {
-        for _ in 1..MAX_OUTSIDE {
-            if !self.records_next() {
-                break;
-            }
+    fn ask_on(&mut self)
+        ensures { HasGiven O.gives B.outside self.new }
+    {
+        while self.records_next() {}
+    }
+
+    /// Asks like `ask`, but only if an entry has come since the last question.
+    fn ask_at_the_end(&mut self)
+        ensures { HasGiven O.gives B.outside self.new }
+    {
+        if self.is_spent {
+            return;
         }
+        self.ask();
     }
 
     /// Takes a step of a task that can step and isn't out, and records it.
     #[inline(always)]
     pub(crate) fn turn(&mut self, task: u32) -> Turned {
+        self.is_spent = false;
         self.book.turn(task)
     }
 
     /// Does local steps of a task that isn't out, and records them. Answers how many.
     pub(crate) fn run_here(&mut self, task: u32, limit: u32) -> u32 {
+        self.is_spent = false;
         self.book.run_here(task, limit)
     }
 
@@ -132,6 +161,7 @@ impl<'p, O: Outside, B: Runs<O>> Asked<'p, O, B> {
 
     /// Takes a slice back, and records its steps. Answers whether it was this book's.
     pub(crate) fn take_in(&mut self, slice: &Slice<'p>) -> bool {
+        self.is_spent = false;
         self.book.take_in(slice)
     }
 
@@ -162,29 +192,16 @@ impl<'p, O: Outside, B: Runs<O>> Asked<'p, O, B> {
 }
 
 impl<'p, O: Outside + Drop, B: Runs<O>> Asked<'p, O, B> {
-    /// The book, if no further event from outside is due or the book is full, and which of the
-    /// events that came counted.
-    ///
-    /// # Errors
-    ///
-    /// An event from outside was due.
-    pub(crate) fn close(self) -> Result<(Book<'p>, Vec<bool>), PoolError>
-        ensures program { IfOk result (λ r. r.0.program ≡ B.program) }
-        ensures given { IfOk result (λ r. HasGiven O.gives B.outside r.0) }
+    /// The book, and which of the events from outside counted. The outside has no further event to
+    /// give. It is asked for one only if an entry has come since it had none.
+    pub(crate) fn close(self) -> (Book<'p>, Vec<bool>)
+        ensures program { result.0.program ≡ B.program }
+        ensures written { is_some result.0.journal ≡ B.is_written }
+        ensures given { HasGiven O.gives B.outside result.0 }
     {
-        let Asked {
-            book,
-            outside,
-            counted,
-            of: _,
-        } = self;
-        if book.is_full() {
-            return Ok((book, counted));
-        }
-        let mut outside = outside;
-        match outside.next(book.entries()) {
-            None => Ok((book, counted)),
-            Some(_) => Err(PoolError::Unfinished),
-        }
+        let mut asked = self;
+        asked.ask_at_the_end();
+        let Asked { book, counted, .. } = asked;
+        (book, counted)
     }
 }

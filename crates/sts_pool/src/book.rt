@@ -3,7 +3,7 @@
 ghost use Rattle.std.specs.Prelude.{◌≡◌, ◌≢◌, ◌<◌, ◌≤◌, ℕ, ◌+◌, ◌++◌, ◌∷◌, [], ◌↔◌, List, IfOk, OnOk, IfErr};
 ghost use Rattle.std.specs.Prelude.{OnErr, IfSome, IfNone, IsErr, IsOk, IsTrue, true, false};
 ghost use Rattle.std.specs.Prelude.{filter, not, ◌==◌, MatchBool, count_by, None, Some};
-ghost use Rattle.std.specs.Prelude.{vec_capacity, option_map};
+ghost use Rattle.std.specs.Prelude.{vec_capacity, option_map, is_some};
 ghost use Rattle.std.specs.List.{list_any};
 ghost use Rattle.sts_frames.specs.Locals.{local_at};
 ghost use Rattle.sts_machine.specs.Slice.{code_at, frame_at, steps_of};
@@ -16,7 +16,7 @@ ghost use Rattle.sts_pool.specs.Book.{IsJournal, IsOurs, MayBe, OfJournal, Recor
 ghost use Rattle.sts_pool.specs.Book.{is_free, is_out, may_turn};
 ghost use Rattle.sts_pool.specs.Journal.{opened};
 ghost use Rattle.sts_pool.specs.Outside.{IsOutside};
-ghost use Rattle.sts_pool.specs.Report.{IsReport};
+ghost use Rattle.sts_pool.specs.Report.{IsReport, IsUnfinished};
 ghost use Rattle.laws_runs.specs.Runs.{In};
 ghost use Rattle.laws_live.specs.Reading.{alive_at};
 
@@ -336,6 +336,8 @@ impl<'p> Book<'p> {
     pub(crate) fn ending(&self, workers: u32, counted: Vec<bool>) -> Result<Ending, PoolError>
         ensures report { IfOk result (λ r. (events : List AnyEvent) → MayBe self.now events
             → IsReport self.now.program events r.end × (r.steps ≡ count_by is_step events)) }
+        ensures unfinished { OnErr result ((events : List AnyEvent) → MayBe self.now events
+            → IsUnfinished self.now.program events) }
         ensures workers { IfOk result (λ r. r.workers ≡ workers) }
     {
         let Some(end) = self.machine.root_end() else {
@@ -353,9 +355,12 @@ impl<'p> Book<'p> {
     ///
     /// # Errors
     ///
-    /// The root lives, or the journal isn't written.
+    /// The root lives.
     pub(crate) fn report(self, workers: u32, counted: Vec<bool>) -> Result<Report, PoolError>
+        requires { is_some self.journal ≡ true }
         ensures report { IfOk result (λ r. IsReport self.entry.program r.journal.items r.end) }
+        ensures unfinished { OnErr result ((events : List AnyEvent) → MayBe self.entry events
+            → IsUnfinished self.entry.program events) }
         ensures journal { IfOk result (λ r. self.entry.journal ≡ Some r.journal.items) }
         ensures steps { IfOk result (λ r. r.steps ≡ count_by is_step r.journal.items) }
         ensures workers { IfOk result (λ r. r.workers ≡ workers) }
@@ -364,7 +369,7 @@ impl<'p> Book<'p> {
         let entries = self.into_entries();
         let ending = ending?;
         let Some(journal) = entries else {
-            return Err(PoolError::Unfinished);
+            unreachable!();
         };
         Ok(Report {
             end: ending.end,
@@ -414,7 +419,8 @@ impl<'p> Book<'p> {
 
     /// Does the book take no further outside event?
     pub(crate) fn is_full(&self) -> bool
-        ensures { IsTrue result ↔ self.now.outside ≡ MAX_OUTSIDE }
+        ensures full { IsTrue result ↔ self.now.outside ≡ MAX_OUTSIDE }
+        ensures most { self.now.outside ≤ MAX_OUTSIDE }
     {
         self.outside >= MAX_OUTSIDE
     }

@@ -31,11 +31,11 @@ pub enum PoolError {
     /// P1: memory was refused.
     #[error("memory was refused")]
     Memory,
-    /// P2: a worker could not be started; those that were started have ended.
+    /// P2: a worker could not be started, or one that was started ended before it reached the lock;
+    /// all that were started have ended.
     #[error("a worker could not be started")]
     SpawnRefused,
-    /// P3: the root has not ended in the book that the workers left, or an event from outside was
-    /// due there.
+    /// P3: the root had not ended in the book that the workers left.
     #[error("the run has not ended")]
     Unfinished,
 }

@@ -1,11 +1,11 @@
 //! The workers. They share one book under one lock.
 
-ghost use Rattle.std.specs.Prelude.{◌≡◌, ◌≤◌, [], IfOk, IfSome, count_by, length};
+ghost use Rattle.std.specs.Prelude.{◌≡◌, ◌≤◌, [], IfErr, IfOk, IfSome, count_by, is_some, length};
 ghost use Rattle.sts_model.specs.Run.{is_step};
 ghost use Rattle.sts_pool.specs.Asked.{HasGiven};
 ghost use Rattle.sts_pool.specs.Book.{IsJournal};
 ghost use Rattle.sts_pool.specs.Outside.{IsGiven};
-ghost use Rattle.sts_pool.specs.Report.{IsEnding, IsReport};
+ghost use Rattle.sts_pool.specs.Report.{EndsUnfinished, IsEnding, IsReport};
 
 use crate::asked::{Asked, Runs};
 use crate::book::Book;
@@ -339,10 +339,10 @@ impl<'p, O: Outside + Drop, B: Runs<O>> Pool<'p, O, B> {
 ///
 /// # Errors
 ///
-/// Memory ran out, or a worker could not be started. In the second case the other workers were
-/// stopped and have ended. An error would also report that the root had not ended when the workers
-/// were done, or that an event from outside was still due then. No test has met that, and nothing
-/// is proved of it.
+/// `Memory`: memory ran out. `SpawnRefused`: a worker could not be started, or one that was started
+/// never reached the lock; the other workers were stopped and have ended. `Unfinished`: the root
+/// lived when the workers had ended. No contract excludes that, since of a value behind a lock only
+/// its type is known. Tests do.
 pub fn run<R: Threads + Wait + Sync, G: Gate + Sync, O: Outside + Send + Drop>(
     rt: &R,
     alloc: Global,
@@ -356,6 +356,8 @@ pub fn run<R: Threads + Wait + Sync, G: Gate + Sync, O: Outside + Send + Drop>(
     ensures given { IfOk result (λ r. IsGiven O.gives outside r.journal.items) }
     ensures steps { IfOk result (λ r. r.steps ≡ count_by is_step r.journal.items) }
     ensures workers { IfOk result (λ r. r.workers ≡ workers) }
+    ensures unfinished { IfErr result (λ e. e ≡ PoolError.Unfinished
+        → EndsUnfinished verified.now (IsGiven O.gives outside)) }
 {
     let stacks = &[STACK; 16][..workers as usize];
     let Ok(counted) = Vec::with_capacity(alloc, MAX_OUTSIDE as usize) else {
@@ -390,6 +392,8 @@ pub fn run_unwritten<R: Threads + Wait + Sync, G: Gate + Sync, O: Outside + Send
     ensures ending { IfOk result (λ r.
         IsEnding verified.now (IsGiven O.gives outside) r.end r.steps) }
     ensures workers { IfOk result (λ r. r.workers ≡ workers) }
+    ensures unfinished { IfErr result (λ e. e ≡ PoolError.Unfinished
+        → EndsUnfinished verified.now (IsGiven O.gives outside)) }
 {
     let stacks = &[STACK; 16][..workers as usize];
     let Ok(counted) = Vec::with_capacity(alloc, MAX_OUTSIDE as usize) else {
@@ -417,12 +421,12 @@ pub(crate) struct Left<'p> {
 }
 
 /// Starts one worker for each of these stack sizes. Returns the book of the picked program once all
-/// of them have ended; the picked outside gave the interrupts and expiries of its journal.
+/// of them have ended. The picked outside gave the interrupts and expiries of its journal, and has
+/// no further one to give.
 ///
 /// # Errors
 ///
-/// A worker could not be started, or a started worker never reached the lock. Or an event from
-/// outside was due when all had ended.
+/// `SpawnRefused`: a worker could not be started, or a started worker never reached the lock.
 pub(crate) fn run_on<
     'p,
     B: Runs<O> + Send + Sync,
@@ -438,12 +442,15 @@ pub(crate) fn run_on<
     outside: O,
 ) -> Result<Left<'p>, PoolError>
     requires program { book.program ≡ B.program }
+    requires written { is_some book.journal ≡ B.is_written }
     requires opening { IsJournal book [] }
     requires outside { IfSome B.outside (λ o. o ≡ outside) }
     requires few { length stacks.now ≤ 16 }
     ensures program { IfOk result (λ l. l.book.program ≡ B.program) }
+    ensures written { IfOk result (λ l. is_some l.book.journal ≡ B.is_written) }
     ensures given { IfOk result (λ l. HasGiven O.gives B.outside l.book) }
     ensures workers { IfOk result (λ l. l.workers ≡ length stacks.now) }
+    ensures refused { IfErr result (λ e. e ≡ PoolError.SpawnRefused) }
 {
     let workers = stacks.len() as u32;
     let pool = Pool::<O, B> {
@@ -461,7 +468,7 @@ pub(crate) fn run_on<
     if !have_started || came != workers {
         return Err(PoolError::SpawnRefused);
     }
-    let (book, counted) = asked.close()?;
+    let (book, counted) = asked.close();
     Ok(Left {
         book,
         counted,

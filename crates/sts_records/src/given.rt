@@ -29,7 +29,7 @@ impl Given {
 
     /// One more birth, with this key.
     #[inline(always)]
-    pub(crate) fn and(&self, _key: &u16) -> Given
+    pub(crate) fn and(&self, _key: &u32) -> Given
         ensures { result.keys ≡ self.now.keys ++ _key.now ∷ [] }
     {
         Given {}

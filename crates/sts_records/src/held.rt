@@ -13,8 +13,8 @@ use slab::Slab;
 use std::alloc::{AllocError, Global};
 use std::marker::Model;
 
-/// How many keys of 16 bits there are. No run has more records at once.
-const KEYS: usize = 65_536;
+/// How many keys of 32 bits there are. That is more than any room has.
+const KEYS: usize = 4_294_967_296;
 
 /// A record with its birth.
 #[derive(Drop)]
@@ -57,7 +57,7 @@ impl<T> Model for Held<T> {
     } };
 
     ghost invariant = { λ h. HasRoomFor h.entries h.room × (slab_len h.entries + h.room < 2 ^ 32)
-        × (h.entries.capacity ≤ 65536)
+        × (h.entries.capacity ≤ 2 ^ 32)
         × (h.born ≡ length h.given.keys) × (h.born ≤ 1000000)
         × AreGiven h.given.keys (births h.entries.slots)
         × KeepsKeys h.pages (h.born / 4096) (births h.entries.slots)
@@ -70,12 +70,13 @@ impl<T: Drop> Held<T> {
     ///
     /// # Errors
     ///
-    /// Memory ran out, or `room` is more than 65,536.
+    /// Memory ran out.
     pub fn with_room(alloc: Global, room: u32) -> Result<Held<T>, AllocError>
         ensures { IfOk result (λ h. h ≡ record { slots = []; keys = []; room = room }) }
     {
         let mut entries = Slab::new(alloc);
         entries.reserve_exact(room as usize)?;
+        // (a slab reserves no more than it is asked for, but no contract says so)
         if entries.capacity() > KEYS {
             return Err(AllocError);
         }
@@ -167,7 +168,7 @@ impl<T: Drop> Held<T> {
         ensures room { self.new.room ≡ self.old.room - 1 }
     {
         let birth = self.born as usize;
-        let key = self.entries.insert_reserved(Entry { birth, body }) as u16;
+        let key = self.entries.insert_reserved(Entry { birth, body }) as u32;
         self.pages.put(birth, key);
         self.given = self.given.and(&key);
         self.born = birth as u32 + 1;

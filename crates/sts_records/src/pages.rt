@@ -28,7 +28,7 @@ pub(crate) struct Pages {
     /// For each block that has begun: what is added to a birth, less `BIRTHS`, for its cell.
     offsets: [u32; BLOCKS],
     /// The cells of all pages, with the key of each birth.
-    cells: Vec<u16>,
+    cells: Vec<u32>,
     /// How many pages there may be.
     pages: usize,
 }
@@ -77,7 +77,7 @@ impl Pages {
 
     /// A birth of the latest block gets a record with this key.
     #[inline(always)]
-    pub(crate) fn put(&mut self, birth: usize, key: u16)
+    pub(crate) fn put(&mut self, birth: usize, key: u32)
         requires { (at : ℕ → Option ℕ) × KeepsKeys self.old (birth / 4096) at }
         ensures keys { (at after : ℕ → Option ℕ) → KeepsKeys self.old (birth / 4096) at
             → Comes at after key birth → KeepsKeys self.new (birth / 4096) after }
@@ -157,7 +157,7 @@ impl Pages {
 }
 
 /// Adds cells until the list is this long.
-fn extend(cells: &mut Vec<u16>, long: usize)
+fn extend(cells: &mut Vec<u32>, long: usize)
     requires { long ≤ vec_capacity cells.old }
     ensures long { long ≤ length cells.new.items }
     ensures kept { Extends cells.old.items cells.new.items }

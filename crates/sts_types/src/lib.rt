@@ -26,3 +26,4 @@ mod tables;
 pub use edge::{edges, edges_with_loops};
 pub use pass::{TypeError, type_function};
 pub use state::{TypeState, entry};
+pub use sts_rules::Cause;

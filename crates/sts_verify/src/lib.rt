@@ -7,4 +7,5 @@ mod verified;
 
 pub use error::VerifyError;
 pub use laws::{typing_promises, verdict_is_one};
+pub use sts_rules::Cause;
 pub use verified::{Verified, verify};

@@ -33,9 +33,13 @@ mod outsides;
 #[cfg(test)]
 mod paths;
 #[cfg(test)]
+mod questions;
+#[cfg(test)]
 mod replayed;
 #[cfg(test)]
 mod runs;
+#[cfg(test)]
+mod scopes;
 #[cfg(test)]
 mod slices;
 #[cfg(test)]

@@ -222,7 +222,8 @@ fn held<R: Abort + Threads + Wait + Sync>(
 }
 
 /// A subtask of two steps is worked on once: no other worker takes it while it is out, and the
-/// worker that took it does both.
+/// worker that took it does both. Both are done under the lock, so this shows nothing of slices.
+/// `a_long_subtask_is_out_once` does.
 #[test]
 fn out_is_out(rt: HostRuntime) -> Result<(), Fail> {
     for path in PATHS {

@@ -4,7 +4,7 @@ ghost use Rattle.std.specs.Prelude.{IfSome};
 
 use crate::outsides::{Open, Weather};
 use crate::paths::{PATHS, ending};
-use crate::texts::{LOOPS, SHORT_THEN_LONG, accepted};
+use crate::texts::{LOOPS, MANY_ROWS, SHORT_THEN_LONG, accepted};
 use std::sync::atomic::{AtomicU64, Ordering};
 use std::test::Fail;
 use sts_model::{End, Event};
@@ -159,6 +159,30 @@ fn workers_come_back_to_long_subtasks(rt: HostRuntime) -> Result<(), Fail> {
         assert_eq!(rt; ended.end, End::Success(3), "{path:?}");
         assert_eq!(rt; back.missed.load(Ordering::SeqCst), 0, "{path:?}");
         assert_eq!(rt; back.has_other.load(Ordering::SeqCst), 1, "{path:?}");
+    }
+    Ok(())
+}
+
+/// Slices come in batches if many subtasks have rows that are long enough. Each slice of a batch
+/// is taken back, also if another one goes on. Otherwise its task would stay out, and the run would
+/// never end.
+#[test]
+fn all_slices_of_a_batch_come_back(rt: HostRuntime) -> Result<(), Fail> {
+    let verified = accepted(rt.alloc(), MANY_ROWS)?;
+    for path in PATHS {
+        for workers in [2, 8, 16] {
+            let ended = ending(
+                &rt,
+                rt.alloc(),
+                path,
+                &verified,
+                workers,
+                &Open,
+                Weather::Calm,
+            )?;
+            assert_eq!(rt; ended.end, End::Success(64), "{workers} workers, {path:?}");
+            assert_eq!(rt; ended.steps, 774_790, "{workers} workers, {path:?}");
+        }
     }
     Ok(())
 }

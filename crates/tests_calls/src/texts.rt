@@ -122,6 +122,16 @@ pub const ROWS: &str = "\
     intr:\npush 0\nclose s0\nfail\nend\n\
 ";
 
+/// Sixty-four subtasks of one scope, each with twenty rows of six hundred and two local instructions.
+pub const MANY_ROWS: &str = "\
+    func work 0\npush 20\ntimes 20\ninterrupted\npop\npush 200\ntimes 200\npush 1\npop\nnext\nnext\n\
+    push 1\nret\nend\n\
+    func main 0\nopen s0 all\npush 64\ntimes 64\nfork s0 work _\nnext\njoin s0 bad - intr\n\
+    close s0\nret\n\
+    bad:\nclose s0\nfail\n\
+    intr:\npush 0\nclose s0\nfail\nend\n\
+";
+
 /// A hundred scopes in a row, each with one short subtask (1 to 100), and then two subtasks with
 /// two hundred thousand steps each (101 and 102).
 pub const SHORT_THEN_LONG: &str = "\

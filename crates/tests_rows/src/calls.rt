@@ -4,20 +4,23 @@
 //! Standard input has a line of calls, a text, a line `%`, a trace, a line `%` and an outside text.
 //! If a call finds no memory, the program prints `error memory in` and its name, with status 6.
 
-use crate::failure::{Failure, in_assembling, in_reading, in_taking, within};
+use crate::budgets::budgets_of;
+use crate::failure::{Failure, in_assembling, in_reading, in_taking, tell, within};
 use crate::row::Row;
 use crate::whole::Run;
 use std::alloc::Global;
 use std::io;
 use sts_asm::assemble;
+use sts_cli::{Line, LineError, line};
 use sts_code::{Function, Program};
-use sts_list::list;
+use sts_list::{list, spell};
 use sts_machine::{Machine, replay, run_alone};
 use sts_model::{End, Event};
 use sts_output::take;
 use sts_plain::{Plain, PlainState};
 use sts_pool::Book;
 use sts_trace::{read_outside, read_trace};
+use sts_tree::Tree;
 use sts_verify::{Verified, VerifyError, verify};
 
 fn program(alloc: Global, row: &Row<'_>) -> Result<Program, Failure> {
@@ -83,6 +86,24 @@ fn listed(rt: &HostRuntime, alloc: Global, row: &Row<'_>) -> Result<(), Failure>
     Ok(())
 }
 
+/// How many bytes have room for the words of all instructions of a row.
+const ROOM: usize = 4_096;
+
+/// Says the words of each instruction, once all of them are spelled.
+fn spelled(rt: &HostRuntime, alloc: Global, row: &Row<'_>) -> Result<(), Failure> {
+    let program = program(alloc, row)?;
+    let mut lines = within("room", String::with_capacity(alloc, ROOM))?;
+    for function in program.functions() {
+        for instr in &function.code {
+            let words = within("spell", spell(alloc, instr, &program))?;
+            within("room", lines.push_str(words.as_str()))?;
+            within("room", lines.push_str("\n"))?;
+        }
+    }
+    print!(rt; "{lines}")?;
+    Ok(())
+}
+
 fn traced(rt: &HostRuntime, alloc: Global, row: &Row<'_>) -> Result<(), Failure> {
     println!(rt; "events {}", events(alloc, row)?.len())?;
     Ok(())
@@ -143,6 +164,53 @@ fn verdict(rt: &HostRuntime, alloc: Global, row: &Row<'_>) -> Result<(), Failure
             "{name} {} {} {} {}",
             most.steps, most.tasks, most.scopes, most.binds
         )?;
+    }
+    Ok(())
+}
+
+/// Says the budgets of each function, as `budget` finds them.
+fn budgeted(rt: &HostRuntime, alloc: Global, row: &Row<'_>) -> Result<(), Failure> {
+    let verified = accepted(alloc, row)?;
+    let program = verified.program();
+    let budgets = budgets_of(alloc, program)?;
+    for (function, most) in program.functions().iter().zip(&budgets) {
+        let name = function.name.as_str();
+        println!(rt;
+            "{name} {} {} {} {}",
+            most.steps, most.tasks, most.scopes, most.binds
+        )?;
+    }
+    Ok(())
+}
+
+/// How many scopes have room in the tree: one more than an accepted program has at once.
+const SCOPES: u32 = 65_537;
+
+/// Makes a tree, and says for how many more tasks and scopes it has room.
+fn with_room(rt: &HostRuntime, alloc: Global) -> Result<(), Failure> {
+    let tree: Tree<u8> = within("tree", Tree::with_room(alloc, 2, SCOPES))?;
+    println!(rt; "room {} {}", tree.task_room(), tree.scope_room())?;
+    Ok(())
+}
+
+/// A command line that is right.
+const RIGHT: &[&str] = &["sts", "run", "text", "--workers", "3", "--trace", "journal"];
+
+/// Says what a command line asks for, or why it asks for nothing.
+fn asked(rt: &HostRuntime, alloc: Global, words: &[&str]) -> Result<(), Failure> {
+    match line(alloc, words) {
+        Ok(
+            Line::Run {
+                file,
+                workers,
+                outside: None,
+                trace: Some(trace),
+            },
+        ) => println!(rt; "run {file} {workers} {trace}")?,
+        Ok(_) => println!(rt; "another command")?,
+        Err(LineError::Help(_)) => println!(rt; "help")?,
+        Err(LineError::Usage(_)) => println!(rt; "a mistake")?,
+        Err(LineError::Memory) => return Err(Failure::Memory("line")),
     }
     Ok(())
 }
@@ -226,9 +294,15 @@ fn answer(rt: &HostRuntime, alloc: Global, call: &str, row: &Row<'_>) -> Result<
         "take" => taken(rt, alloc, row),
         "assemble" => assembled(rt, alloc, row),
         "list" => listed(rt, alloc, row),
+        "spell" => spelled(rt, alloc, row),
         "read_trace" => traced(rt, alloc, row),
         "read_outside" => told_outside(rt, alloc, row),
         "verify" => verdict(rt, alloc, row),
+        "budget" => budgeted(rt, alloc, row),
+        "tree" => with_room(rt, alloc),
+        "line" => asked(rt, alloc, RIGHT),
+        "help" => asked(rt, alloc, &["sts", "--help"]),
+        "mistake" => asked(rt, alloc, &["sts", "plane"]),
         "start" => started(rt, alloc, row),
         "apply" => applied(rt, alloc, row),
         "prepare" => prepared(rt, alloc, row),
@@ -248,25 +322,11 @@ fn answered(rt: &HostRuntime) -> Result<(), Failure> {
     Ok(())
 }
 
-fn said(rt: &HostRuntime, failure: Failure) -> io::Result<u8> {
-    match failure {
-        Failure::Memory(call) => {
-            println!(rt; "error memory in {call}")?;
-            Ok(6)
-        }
-        Failure::Unfit(why) => {
-            println!(rt; "{why}")?;
-            Ok(2)
-        }
-        Failure::Write => Ok(1),
-    }
-}
-
 /// Makes the calls that standard input names on the row that follows. Returns the status: 6 if memory
 /// ran out, 2 if the row doesn't fit a call, and 1 if a write failed.
 pub fn answer_all(rt: &HostRuntime) -> u8 {
     match answered(rt) {
         Ok(()) => 0,
-        Err(failure) => said(rt, failure).unwrap_or(1),
+        Err(failure) => tell(rt, failure).unwrap_or(1),
     }
 }

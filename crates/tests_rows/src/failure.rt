@@ -2,6 +2,7 @@
 
 use std::alloc::AllocError;
 use std::io;
+use std::io::Print;
 use sts_asm::{AsmError, AsmKind};
 use sts_output::TakeError;
 use sts_trace::TraceError;
@@ -11,6 +12,8 @@ use sts_trace::TraceError;
 pub enum Failure {
     /// There was no memory in the call of this name.
     Memory(&'static str),
+    /// A thread was refused.
+    Threads,
     /// The input is none for the call.
     Unfit(&'static str),
     /// A write failed.
@@ -71,5 +74,29 @@ pub fn in_taking<T>(answer: Result<T, TakeError>) -> Result<T, Failure> {
         Ok(value) => Ok(value),
         Err(TakeError::Memory) => Err(Failure::Memory("take")),
         Err(TakeError::Read) => Err(Failure::Unfit("a read failed")),
+    }
+}
+
+/// Says why a call has no answer. Returns the status: 6 if memory ran out or a thread was refused, 2 if
+/// the input doesn't fit the call, and 1 if a write failed.
+///
+/// # Errors
+///
+/// This write failed.
+pub fn tell<R: Print>(rt: &R, failure: Failure) -> io::Result<u8> {
+    match failure {
+        Failure::Memory(call) => {
+            println!(rt; "error memory in {call}")?;
+            Ok(6)
+        }
+        Failure::Threads => {
+            println!(rt; "error threads")?;
+            Ok(6)
+        }
+        Failure::Unfit(why) => {
+            println!(rt; "{why}")?;
+            Ok(2)
+        }
+        Failure::Write => Ok(1),
     }
 }

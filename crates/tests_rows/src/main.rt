@@ -4,10 +4,12 @@
 //! - `rows` walks the tables of rows that the file `tables` names.
 //! - `calls` makes single calls on the row that standard input has.
 //! - `tree` times the tree of records.
+//! - `workers` runs the row that standard input has with two workers.
 //!
 //! The file `stdout` has what all parts must print, so a wrong row and a lost row fail the gate.
 #![tactic(auto)]
 
+mod budgets;
 mod calls;
 mod failure;
 mod notation;
@@ -17,6 +19,7 @@ mod table;
 mod timing;
 mod walking;
 mod whole;
+mod workers;
 
 use std::env;
 use std::process::ExitCode;
@@ -37,22 +40,21 @@ fn done(rt: &HostRuntime, part: &str) -> u8 {
     }
 }
 
-/// Does the parts that the words name, and returns the first status that isn't 0.
-fn done_all(rt: &HostRuntime) -> u8 {
-    let Ok(words) = env::args(&(rt, rt.alloc())) else {
+fn main(rt: HostRuntime) -> ExitCode {
+    let Ok(words) = env::args(&(&rt, rt.alloc())) else {
         // (a write that fails changes nothing)
-        let _ = println!(rt; "error memory in words");
-        return NO_MEMORY;
+        let _ = println!(&rt; "error memory in words");
+        return ExitCode::from(NO_MEMORY);
     };
     for part in words.skip(1) {
-        let status = done(rt, part.as_str());
+        let status = if part.as_str() == "workers" {
+            workers::run_row(&rt, rt.alloc())
+        } else {
+            done(&rt, part.as_str())
+        };
         if status != 0 {
-            return status;
+            return ExitCode::from(status);
         }
     }
-    0
-}
-
-fn main(rt: HostRuntime) -> ExitCode {
-    ExitCode::from(done_all(&rt))
+    ExitCode::from(0)
 }

@@ -6,6 +6,8 @@ use std::alloc::Global;
 use std::str;
 use sts_cli::{play, play_joined};
 use sts_output::Mode;
+use sts_output::printed::trace_fault_line;
+use sts_trace::read_outside;
 
 /// A listing of more bytes than a text may have isn't listed again.
 const MOST: usize = 1_048_576;
@@ -50,6 +52,16 @@ fn spelled(alloc: Global, status: Option<u8>, printed: &[u8]) -> Result<String> 
     let status = status.context("an answer that is not written")?;
     let printed = str::from_utf8(printed)?;
     Ok(format!(in alloc; "{status} {printed}")?)
+}
+
+/// Reads an outside text, and returns the status and the fault, if there is one.
+fn read(alloc: Global, text: &[u8]) -> Result<String> {
+    let Err(error) = read_outside(alloc, text) else {
+        return Ok(String::from_str(alloc, "0")?);
+    };
+    let mut said = String::from_str(alloc, "3 ")?;
+    trace_fault_line(&mut said, error)?;
+    Ok(said)
 }
 
 /// Asks the program, and returns its answer.
@@ -172,6 +184,13 @@ impl<'t> Table<'t> {
         self.ask(Asked::In(Mode::Replay), trace.as_slice(), replayed)
     }
 
+    /// An outside text, which is read alone.
+    fn outside(&mut self, lines: &str, expected: &str) -> Result<Option<String>> {
+        let text = self.bytes(lines)?;
+        let said = read(self.alloc, text.as_slice())?;
+        self.compare(said.as_str(), expected)
+    }
+
     /// The answer that a line expects: the status alone, or with a blank and what is printed.
     fn expected(&self, answer: &str) -> Result<String> {
         let Some((status, short)) = answer.split_once(" ") else {
@@ -184,6 +203,9 @@ impl<'t> Table<'t> {
     fn answer(&mut self, answer: &str) -> Result<Option<String>> {
         self.compared = self.compared.saturating_add(1);
         let expected = self.expected(answer)?;
+        if let Some(lines) = self.asked.strip_prefix("outside ") {
+            return self.outside(lines, expected.as_str());
+        }
         match self.asked {
             "verify" => self.ask(Asked::In(Mode::Verify), b"", expected.as_str()),
             "joined" => self.ask(Asked::Joined, b"", expected.as_str()),

@@ -7,12 +7,12 @@ use Rattle.ends_plain.proofs.sample.walk.Goals as goal
 
 pub returns-then-is_end_at : goal.returns-then-is_end_at
 returns-then-is_end_at c =
-    let f : Found = record { end = c.state-end.result; trace = c.loop.trace } in
-    end_of_way c.args.setting.now c.loop.config f c.loop.invariant (sym c.state-end.ensures) (sym c.is_end_at.ensures ∙ c.if-is_end_at.true)
+    let f : Found = record { end = c.state-end.result; trace = c.loop-moment.trace } in
+    end_of_way c.args.setting.now c.loop-moment.config f c.loop-moment.invariant (sym c.state-end.ensures) (sym c.is_end_at.ensures ∙ c.if-is_end_at.true)
 
-pub loop-preserved : goal.loop-preserved
-loop-preserved c =
+pub loop-moment-preserved : goal.loop-moment-preserved
+loop-moment-preserved c =
     let g = c.args.setting.now in
     let e = c.in-Some.event in
     let comes = c.in_ok-events.ensures.only e (rw c.as_slice.ensures.value at c.in-Some.ensures) in
-    rw (c.in_ok-push.ensures.items, c.in_ok-apply_event.ensures) (way_more g (start g) c.loop.config c.loop.trace.items e c.loop.invariant comes)
+    rw (c.in_ok-push.ensures.items, c.in_ok-apply_event.ensures) (way_more g (start g) c.loop-moment.config c.loop-moment.trace.items e c.loop-moment.invariant comes)

@@ -13,16 +13,7 @@ use Rattle.look_run.proofs.explaining.explanation.Goals as goal
 fault_explains : (text trace : List ℕ) (o : Output) → IsTextFault text o → def.Explains (judged text) text trace o
 fault_explains text trace o h = subst (λ (r : Result Program AsmError). def.Explains r text trace o) (sym h.fault) h.printed
 
-pub returns-in_err-outline : goal.returns-in_err-outline
-returns-in_err-outline c =
-    let p = err_from_is_err_and c.from_residual.result c.from_residual.ensures.1 in
-    rw (p.1, p.2) (says_less c.in_err-outline.field-0.0 (IsTextFault c.args.text.now) (def.Explains (judged c.args.text.now) c.args.text.now c.args.trace.now) (fault_explains c.args.text.now c.args.trace.now) c.in_err-outline.ensures)
-
 pub returns-in_err-program : goal.returns-in_err-program
 returns-in_err-program c =
-    let p = err_from_is_err_and c.from_residual-in_err-program.result c.from_residual-in_err-program.ensures.1 in
+    let p = err_from_is_err_and c.from_residual.result c.from_residual.ensures.1 in
     rw (p.1, p.2) (says_less c.in_err-program.field-0.0 (IsTextFault c.args.text.now) (def.Explains (judged c.args.text.now) c.args.text.now c.args.trace.now) (fault_explains c.args.text.now c.args.trace.now) c.in_err-program.ensures)
-
-pub returns : goal.returns
-returns c =
-    subst (λ (r : Result Program AsmError). def.Explains r c.args.text.now c.args.trace.now c.in_ok-output.output) (sym c.in_ok-program.ensures) (c.in_ok-outline.outline, (c.in_ok-outline.ensures, c.in_ok-output.ensures))

@@ -7,13 +7,13 @@ use Rattle.sts_pool.proofs.book.Book.outside.Goals as goal
 
 pub push-requires : goal.push-requires
 push-requires c =
-    let few = few_more c.self.inside.machine c.self.inside.journal c.self.inside.outside c.self.inside.out.items _ c.args.self.now _ c.self.view_is c.self.invariant c.is_full.ensures.1 c.if-is_full.false in
+    let few = few_more c.self.inside.machine c.self.inside.journal c.self.inside.outside c.self.inside.out.items _ c.args.self.now _ c.self.view_is c.self.invariant c.is_full.ensures.full.1 c.if-is_full.false in
     let turn = c.turn-turned.ensures in
     event_fits c.self.inside.machine c.turn-turned.new.self c.self.inside.journal c.self.inside.outside c.self.inside.out.items _ c.args.event c.self.invariant few c.requires turn.program turn.stands turn.live turn.steps
 
 pub invariant_of-self : goal.invariant_of-self
 invariant_of-self c =
-    let few = few_more c.self.inside.machine c.self.inside.journal c.self.inside.outside c.self.inside.out.items _ c.args.self.now _ c.self.view_is c.self.invariant c.is_full.ensures.1 c.if-is_full.false in
+    let few = few_more c.self.inside.machine c.self.inside.journal c.self.inside.outside c.self.inside.out.items _ c.args.self.now _ c.self.view_is c.self.invariant c.is_full.ensures.full.1 c.if-is_full.false in
     let turn = c.turn-turned.ensures in
     event_kept c.self.inside.machine c.turn-turned.new.self c.self.inside.journal c.self.inside.outside c.self.inside.out.items _ c.args.event c.self.invariant few c.requires turn.program turn.stands turn.live turn.steps c.push.new.self c.push.ensures
 

@@ -1,0 +1,15 @@
+use Rattle.std.proofs.Common.{ap, ap₂, refl, sym, ◌∙◌, ◌≡◌, ◌-◌, Some}
+use Rattle.std.specs.Prelude.{option_map, slice_get}
+use Rattle.std.proofs.lemmas.Option.{slice_get_read}
+use Rattle.sts_text.specs.Words.{lines}
+use Rattle.look_names.specs.Marked.{name_in}
+use Rattle.look_names.proofs.Named.{found_at}
+use Rattle.look_names.proofs.names.Names.line.Goals as goal
+
+pub returns : goal.returns
+returns c =
+    let s = c.self.inside in
+    let here = c.in_ok-get.ensures.lookup in
+    let at : slice_get s.lines.items (c.args.number - 1) ≡ Some c.in_ok-get.field-0.now =
+    sym (ap₂ slice_get c.deref.ensures.value c.saturating_sub.ensures) ∙ slice_get_read _ _ _ _ refl here.3.0 here.1 in
+    rw (← c.self.view_is) (found_at (λ x. option_map (λ n. n.now) x) name_in s.lines.items (lines s.text.now) (c.args.number - 1) c.in_ok-get.field-0.now c.self.invariant.0 at)

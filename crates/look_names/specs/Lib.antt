@@ -1,0 +1,3 @@
+pub mod Marked
+pub mod Names
+pub mod Words
