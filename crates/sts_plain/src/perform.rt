@@ -13,7 +13,10 @@ ghost use Rattle.sts_model.specs.World as def;
 
 use std::alloc::{AllocError, Global};
 use sts_code::{Instr, Program};
-use sts_frames::{case_target, instr_at, is_local, named, value_or_zero};
+use sts_frames::{
+    case_target, code, enter_binding, forget, instr_at, is_local, leave_entry, local, named,
+    value_or_zero,
+};
 use sts_model::End;
 use sts_world::{Records, World};
 
@@ -44,8 +47,9 @@ fn push_value(world: &mut World, t: u32, n: usize, value: i64)
     ensures { world.new ≡ def.with_frame world.old t
         (frames.steps (def.task_at world.old t).frame n (value ∷ [])) }
 {
-    let next = world.records().frame(t).pc + 1;
-    world.goes_with(t, next, n, value);
+    let frame = world.living(t);
+    let next = frame.pc + 1;
+    frame.goes_with(next, n, value);
 }
 
 /// Does the next instruction of a task. It must be no misuse.
@@ -130,7 +134,11 @@ fn change(world: &mut World, program: &Program, t: u32, instr: Instr)
         (def.task_at world.old t).frame instr }
 {
     match instr {
-        _ if is_local(instr) => world.local(program, t, instr),
+        _ if is_local(instr) => {
+            let frame = world.living(t);
+            let instructions = code(program, frame);
+            local(frame, program, instructions, instr);
+        }
         Instr::Join {
             slot,
             failed,
@@ -159,7 +167,7 @@ fn change(world: &mut World, program: &Program, t: u32, instr: Instr)
             let sub = at_slot(world.records(), t, handle);
             let next = world.records().frame(t).pc + 1;
             let to = case_target(world.sub_state(sub), success, failed, next);
-            world.goes(t, to, 0);
+            world.living(t).goes(to, 0);
         }
         Instr::Get(h) | Instr::Except(h) => {
             let sub = at_slot(world.records(), t, h);
@@ -176,9 +184,9 @@ fn change(world: &mut World, program: &Program, t: u32, instr: Instr)
             let sum = world.total(s);
             push_value(world, t, 0, sum);
         }
-        Instr::Forget(h) => world.forget(t, h),
-        Instr::Bind(k) => world.bind(t, k),
-        Instr::Unbind => world.unbind(t),
+        Instr::Forget(h) => forget(world.living(t), h),
+        Instr::Bind(k) => enter_binding(world.living(t), k),
+        Instr::Unbind => leave_entry(world.living(t)),
         Instr::Read(k) => {
             let value = world.records().read(t, k).unwrap_or(0);
             push_value(world, t, 0, value);

@@ -3,6 +3,8 @@ pub mod Ends
 pub mod Held
 pub mod Kept
 pub mod Lends
+pub mod LendsFrame
+pub mod LendsWorld
 pub mod Lines
 pub mod Raising
 pub mod Scopes

@@ -18,6 +18,7 @@ use crate::scope::{ScopeRecord, front_of};
 use crate::task::TaskRecord;
 use std::alloc::{AllocError, Global};
 use sts_code::{Joiner, Program, args};
+use sts_frames::leave_fork;
 use sts_model::{Completion, End, Items, Phase, Slot};
 
 // ---- one task
@@ -234,7 +235,12 @@ impl Records {
         let started = !self.is_cancelled(s);
         let task = TaskRecord::subtask(alloc, function, args, self.frame(t), s, started)?;
         self.tasks.push(task)?;
-        self.tasks[t as usize].leave_fork(args as usize, handle, child);
+        leave_fork(
+            self.tasks[t as usize].living(),
+            args as usize,
+            handle,
+            child,
+        );
         Ok(())
     }
 }

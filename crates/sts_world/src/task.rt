@@ -1,17 +1,17 @@
 //! A task as it is kept.
 
-ghost use Rattle.std.specs.Prelude.{◌≡◌, ◌<◌, ◌≤◌, ◌+◌, ◌-◌, ◌^◌, ◌++◌, [], ◌∷◌};
+ghost use Rattle.std.specs.Prelude.{◌≡◌, ◌<◌, ◌≤◌, ◌+◌, ◌^◌, ◌++◌, [], ◌∷◌};
 ghost use Rattle.std.specs.Prelude.{IfOk, Some, None, true, false};
-ghost use Rattle.std.specs.Prelude.{length, drop, take, reverse, slice_set};
+ghost use Rattle.std.specs.Prelude.{length, take, reverse, slice_set};
+ghost use Rattle.std.specs.Borrow.{sem};
 ghost use Rattle.sts_code.specs.declared.limits.TheConstants.{LAST_SLOT, MAX_ENTRIES, MAX_OPERANDS};
 ghost use Rattle.sts_model.specs.Cancelling as cancelling;
-ghost use Rattle.sts_model.specs.Effect as effect;
 ghost use Rattle.sts_model.specs.Environment as scoped;
 ghost use Rattle.sts_model.specs.Living as living;
 ghost use Rattle.sts_model.specs.Local as frames;
-ghost use Rattle.sts_model.specs.Misuse as misuse;
 ghost use Rattle.sts_model.specs.World as def;
 ghost use Rattle.sts_world.specs.Chains.{bindings_of, is_within, Grows};
+ghost use Rattle.sts_world.specs.LendsFrame.{lends_frame};
 ghost use Rattle.sts_model.specs.declared.record.Entry.TheVariants as entries;
 ghost use Rattle.sts_model.specs.declared.record.Slot.TheVariants.{Empty, Own, Lent};
 
@@ -20,11 +20,7 @@ use crate::held::{HeldFrame, copy_held, resting, resting_entry, same_held};
 use crate::reading::own_value;
 use std::alloc::{AllocError, Global};
 use std::marker::Model;
-use sts_code::{Instr, Program};
-use sts_frames::{
-    code, enter_binding, enter_scope, entry_frame, forget, leave_entry, leave_fork, leave_scope,
-    local, root_frame, steps,
-};
+use sts_frames::{enter_scope, entry_frame, root_frame, steps};
 use sts_model::{End, Frame, Slot};
 use sts_same::copied::Copied;
 use sts_same::same::Same;
@@ -243,94 +239,15 @@ impl TaskRecord {
 // ---- what is written
 
 impl TaskRecord {
-    /// Pops `n` operands and goes to `to`.
-    pub fn goes(&mut self, to: u32, n: usize)
+    /// The frame of a task that lives, for writing.
+    pub fn living(&mut self) -> &mut Frame
         requires lives { living.lives self.old ≡ true }
-        ensures { self.new ≡ record self.old { frame = frames.goes self.old.frame to n [] } }
+        ensures* writes_back { sem 𝓛 (lends_frame self.entry result) }
+        ensures value { result.now ≡ self.old.frame }
     {
-        if let HeldFrame::Living(frame) = &mut self.frame {
-            frame.goes(to, n);
-        }
-    }
-
-    /// Pops `n` operands, pushes a value and goes to `to`.
-    pub fn goes_with(&mut self, to: u32, n: usize, value: i64)
-        requires lives { living.lives self.old ≡ true }
-        requires room { length self.old.frame.operands - n < MAX_OPERANDS }
-        ensures { self.new ≡
-            record self.old { frame = frames.goes self.old.frame to n (value ∷ []) } }
-    {
-        if let HeldFrame::Living(frame) = &mut self.frame {
-            frame.goes_with(to, n, value);
-        }
-    }
-
-    /// Does a local instruction.
-    pub fn local(&mut self, program: &Program, instr: Instr)
-        requires lives { living.lives self.old ≡ true }
-        requires at { def.instr_at program.now self.old.frame ≡ Some instr }
-        requires more { self.old.frame.pc + 1 < 2 ^ 32 }
-        requires short { length (def.code program.now self.old.frame) < 2 ^ 32 }
-        requires is_local { frames.is_local instr ≡ true }
-        requires room { misuse.overflows program.now self.old.frame instr ≡ false }
-        requires loops { misuse.breaks_loop program.now self.old.frame instr ≡ false }
-        ensures { self.new ≡
-            record self.old {
-              frame = frames.local
-                  (def.code program.now self.old.frame) instr self.old.frame;
-            } }
-    {
-        if let HeldFrame::Living(frame) = &mut self.frame {
-            let instructions = code(program, frame);
-            local(frame, program, instructions, instr);
-        }
-    }
-
-    /// Empties a slot.
-    pub fn forget(&mut self, x: u8)
-        requires lives { living.lives self.old ≡ true }
-        requires more { self.old.frame.pc + 1 < 2 ^ 32 }
-        ensures { self.new ≡
-            record self.old {
-              frame = record (frames.steps self.old.frame 0 [])
-                  { slots = slice_set self.old.frame.slots x Empty };
-            } }
-    {
-        if let HeldFrame::Living(frame) = &mut self.frame {
-            forget(frame, x);
-        }
-    }
-
-    /// Binds a key to the popped operand.
-    pub fn bind(&mut self, k: u8)
-        requires lives { living.lives self.old ≡ true }
-        requires more { self.old.frame.pc + 1 < 2 ^ 32 }
-        requires entries { length self.old.frame.entries < MAX_ENTRIES }
-        ensures { self.new ≡
-            record self.old {
-              frame = record (frames.steps self.old.frame 1 []) {
-                entries = entries.Binding k (frames.operand self.old.frame 0) ∷
-                    self.old.frame.entries;
-              };
-            } }
-    {
-        if let HeldFrame::Living(frame) = &mut self.frame {
-            enter_binding(frame, k);
-        }
-    }
-
-    /// Ends the innermost binding.
-    pub fn unbind(&mut self)
-        requires lives { living.lives self.old ≡ true }
-        requires more { self.old.frame.pc + 1 < 2 ^ 32 }
-        ensures { self.new ≡
-            record self.old {
-              frame = record (frames.steps self.old.frame 0 [])
-                  { entries = drop 1 self.old.frame.entries };
-            } }
-    {
-        if let HeldFrame::Living(frame) = &mut self.frame {
-            leave_entry(frame);
+        match &mut self.frame {
+            HeldFrame::Living(frame) => frame,
+            HeldFrame::Resting(_) => unreachable!(),
         }
     }
 
@@ -367,21 +284,6 @@ impl TaskRecord {
         }
     }
 
-    /// Leaves a `close` that has ended, with these slots.
-    pub fn leave_close(&mut self, slots: [Slot; 16])
-        requires lives { living.lives self.old ≡ true }
-        requires more { self.old.frame.pc + 1 < 2 ^ 32 }
-        ensures { self.new ≡
-            record self.old {
-              frame = record (frames.steps self.old.frame 0 [])
-                  { entries = drop 1 self.old.frame.entries; slots = slots };
-            } }
-    {
-        if let HeldFrame::Living(frame) = &mut self.frame {
-            leave_scope(frame, slots);
-        }
-    }
-
     /// Leaves an `open`, with the scope in a slot.
     pub fn leave_open(&mut self, slot: u8, s: u32, front: Option<usize>)
         requires lives { living.lives self.old ≡ true }
@@ -398,18 +300,6 @@ impl TaskRecord {
         if let HeldFrame::Living(frame) = &mut self.frame {
             enter_scope(frame, slot, s);
             self.opened = front.unwrap_or(0);
-        }
-    }
-
-    /// Leaves a `fork`, with the subtask in a slot.
-    pub fn leave_fork(&mut self, args: usize, handle: Option<u8>, child: u32)
-        requires lives { living.lives self.old ≡ true }
-        requires more { self.old.frame.pc + 1 < 2 ^ 32 }
-        ensures { self.new ≡
-            record self.old { frame = effect.forked self.old.frame args handle child } }
-    {
-        if let HeldFrame::Living(frame) = &mut self.frame {
-            leave_fork(frame, args, handle, child);
         }
     }
 

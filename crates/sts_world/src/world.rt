@@ -12,21 +12,23 @@ ghost use Rattle.sts_model.specs.Effect as effect;
 ghost use Rattle.sts_model.specs.Joining as joining;
 ghost use Rattle.sts_model.specs.Living as living;
 ghost use Rattle.sts_model.specs.Local as frames;
-ghost use Rattle.sts_model.specs.Misuse as misuse;
 ghost use Rattle.sts_model.specs.Outside as outside;
 ghost use Rattle.sts_model.specs.Standing as standing;
 ghost use Rattle.sts_model.specs.World as def;
 ghost use Rattle.sts_model.specs.declared.event.Phase.TheVariants.{Attempted};
+ghost use Rattle.std.specs.Borrow.{sem};
 ghost use Rattle.sts_world.specs.Kept as kept;
+ghost use Rattle.sts_world.specs.LendsWorld.{lends_living};
 ghost use Rattle.sts_world.specs.Lines.{lines};
 
 use crate::family::Family;
 use crate::records::Records;
 use std::alloc::{AllocError, Global};
 use std::marker::Model;
-use sts_code::{Instr, Joiner, Kind, Program};
+use sts_code::{Joiner, Kind, Program};
+use sts_frames::leave_scope;
 use sts_joiners::Tally;
-use sts_model::{End, Phase, Verdict};
+use sts_model::{End, Frame, Phase, Verdict};
 use sts_same::copied::copy_all;
 
 /// The tasks and scopes: contracts see the two lists of all that were ever born.
@@ -229,74 +231,14 @@ impl World {
 // ---- what is written into the frame of one task
 
 impl World {
-    /// Pops `n` operands and goes to `to`.
-    pub fn goes(&mut self, t: u32, to: u32, n: usize)
+    /// The frame of a task that lives, for writing.
+    pub fn living(&mut self, t: u32) -> &mut Frame
         requires born { t < length self.old.tasks }
         requires lives { living.lives (def.task_at self.old t) ≡ true }
-        ensures { self.new ≡ def.with_frame self.old t
-            (frames.goes (def.task_at self.old t).frame to n []) }
+        ensures* writes_back { sem 𝓛 (lends_living self.entry t result) }
+        ensures value { result.now ≡ (def.task_at self.old t).frame }
     {
-        self.records.task(t).goes(to, n);
-    }
-
-    /// Pops `n` operands, pushes a value and goes to `to`.
-    pub fn goes_with(&mut self, t: u32, to: u32, n: usize, value: i64)
-        requires born { t < length self.old.tasks }
-        requires lives { living.lives (def.task_at self.old t) ≡ true }
-        requires room { length (def.task_at self.old t).frame.operands - n < MAX_OPERANDS }
-        ensures { self.new ≡ def.with_frame self.old t
-            (frames.goes (def.task_at self.old t).frame to n (value ∷ [])) }
-    {
-        self.records.task(t).goes_with(to, n, value);
-    }
-
-    /// Does a local instruction.
-    pub fn local(&mut self, program: &Program, t: u32, instr: Instr)
-        requires born { t < length self.old.tasks }
-        requires lives { living.lives (def.task_at self.old t) ≡ true }
-        requires at { def.instr_at program.now (def.task_at self.old t).frame ≡ Some instr }
-        requires more { (def.task_at self.old t).frame.pc + 1 < 2 ^ 32 }
-        requires short { length (def.code program.now (def.task_at self.old t).frame) < 2 ^ 32 }
-        requires is_local { frames.is_local instr ≡ true }
-        requires room { misuse.overflows program.now (def.task_at self.old t).frame instr ≡ false }
-        requires loops { misuse.breaks_loop program.now
-            (def.task_at self.old t).frame instr ≡ false }
-        ensures { self.new ≡ def.with_frame self.old t
-            (frames.local (def.code program.now (def.task_at self.old t).frame) instr
-            (def.task_at self.old t).frame) }
-    {
-        self.records.task(t).local(program, instr);
-    }
-
-    /// Empties a slot.
-    pub fn forget(&mut self, t: u32, x: u8)
-        requires born { t < length self.old.tasks }
-        requires lives { living.lives (def.task_at self.old t) ≡ true }
-        requires more { (def.task_at self.old t).frame.pc + 1 < 2 ^ 32 }
-        ensures { self.new ≡ effect.forget self.old t (def.task_at self.old t).frame x }
-    {
-        self.records.task(t).forget(x);
-    }
-
-    /// Binds a key to the popped operand.
-    pub fn bind(&mut self, t: u32, k: u8)
-        requires born { t < length self.old.tasks }
-        requires lives { living.lives (def.task_at self.old t) ≡ true }
-        requires more { (def.task_at self.old t).frame.pc + 1 < 2 ^ 32 }
-        requires entries { length (def.task_at self.old t).frame.entries < MAX_ENTRIES }
-        ensures { self.new ≡ effect.bind self.old t (def.task_at self.old t).frame k }
-    {
-        self.records.task(t).bind(k);
-    }
-
-    /// Ends the innermost binding.
-    pub fn unbind(&mut self, t: u32)
-        requires born { t < length self.old.tasks }
-        requires lives { living.lives (def.task_at self.old t) ≡ true }
-        requires more { (def.task_at self.old t).frame.pc + 1 < 2 ^ 32 }
-        ensures { self.new ≡ effect.unbind self.old t (def.task_at self.old t).frame }
-    {
-        self.records.task(t).unbind();
+        self.records.task(t).living()
     }
 
     /// Pushes the flag and clears it.
@@ -456,7 +398,7 @@ impl World {
             (frames.goes (def.task_at self.old t).frame to 0 []) }
     {
         self.set_phase(s, Phase::Joined);
-        self.goes(t, to, 0);
+        self.living(t).goes(to, 0);
     }
 
     /// An outcome of `join` that pushes a value.
@@ -468,7 +410,7 @@ impl World {
             (frames.goes (def.task_at self.old t).frame to 0 (value ∷ [])) }
     {
         self.set_phase(s, Phase::Joined);
-        self.goes_with(t, to, 0, value);
+        self.living(t).goes_with(to, 0, value);
     }
 
     /// `join` is interrupted.
@@ -548,7 +490,7 @@ impl World {
     {
         let slots = self.records.cleared(t, s);
         self.set_phase(s, Phase::Closed);
-        self.records.task(t).leave_close(slots);
+        leave_scope(self.living(t), slots);
     }
 }
 

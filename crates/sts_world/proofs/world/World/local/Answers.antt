@@ -1,5 +1,0 @@
-use Rattle.sts_world.proofs.Staying.{stays}
-use Rattle.sts_world.proofs.world.World.local.Goals as goal
-
-pub invariant_of-self : goal.invariant_of-self
-invariant_of-self c = stays _ _ _ _ _ _ _ _ _ _ _ c.local.ensures c.task.ensures.value c.self.invariant
