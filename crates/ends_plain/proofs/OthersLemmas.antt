@@ -32,7 +32,7 @@ use Rattle.sts_model.specs.Cancelling.{raised, marked, cancel}
 use Rattle.sts_model.specs.Environment.{environment_of, read}
 use Rattle.sts_model.specs.Effect.{with_phase, open_scope, fork_task, subtask_of, forked, joined, join_verdict, join_scope}
 use Rattle.sts_model.specs.Effect.{closed, close_scope, cleared, told, decide, complete, tell, ended, end_task, effect}
-use Rattle.sts_model.specs.Effect.{named, case_target, value_or_zero, tally}
+use Rattle.sts_model.specs.Effect.{named, case_target, value_or_zero, tally, moved}
 use Rattle.sts_model.specs.Misuse.{slot, at_own, at_sub, misjoins, has_no_room, is_illegal, breaks_structure, is_unbound, misuse}
 use Rattle.sts_model.specs.Misuse.{fault_of, fault_at, is_opened, is_readable, has_succeeded, has_failed, is_crowded}
 use Rattle.sts_model.specs.Standing.{standing_tasks}
@@ -203,41 +203,29 @@ apart-end w t g u f end apart alive =
 
 -- ---- an instruction
 
+-- its readings are the same in both worlds
+moved_apart : (p : Program) (w : World) (t : ℕ) (g : Frame) (u : ℕ) (f : Frame) (i : Instr) → (u ≡ t → ⊥) → moved p (with_frame w t g) u f i ≡ moved p w u f i
+moved_apart p w t g u f (instr.Case h success failed) apart = ap (λ (o : Option End). goes f (case_target o success failed (f.pc + 1)) 0 []) (sub_state_apart w t g (named (slot f h)))
+moved_apart p w t g u f (instr.Get h) apart = ap (λ (o : Option End). steps f 0 (value_or_zero o ∷ [])) (sub_state_apart w t g (named (slot f h)))
+moved_apart p w t g u f (instr.Except h) apart = ap (λ (o : Option End). steps f 0 (value_or_zero o ∷ [])) (sub_state_apart w t g (named (slot f h)))
+moved_apart p w t g u f (instr.Tally s k) apart = ap (λ (n : ℕ). steps f 0 (pos n ∷ [])) (tally_apart w t g (named (slot f s)) k)
+moved_apart p w t g u f (instr.Read k) apart = ap (λ (bs : List Bound). steps f 0 (unwrap_or (read bs k) (pos 0) ∷ [])) (environment_apart w t g u apart)
+moved_apart p w t g u f (instr.Bound k) apart = ap (λ (bs : List Bound). steps f 0 (truth (is_some (read bs k)) ∷ [])) (environment_apart w t g u apart)
+moved_apart p w t g u f (instr.OrElse k) apart = ap (λ (bs : List Bound). steps f 1 (unwrap_or (read bs k) (operand f 0) ∷ [])) (environment_apart w t g u apart)
+moved_apart p w t g u f i apart = refl
+
 pub apart-effect : (p : Program) (w : World) (t : ℕ) (g : Frame) (u : ℕ) (f : Frame) (i : Instr) → (u ≡ t → ⊥) → lives (task_at w t) ≡ true → Apart t g (effect p (with_frame w t g) u f i) (effect p w u f i)
 apart-effect p w t g u f (instr.Open s joiner timed) apart alive = apart-open w t g u f s joiner timed apart alive
 apart-effect p w t g u f (instr.Fork s n h) apart alive = apart-fork p w t g u f (named (slot f s)) n h apart alive
 apart-effect p w t g u f (instr.Join s failed timeout interrupted) apart alive = apart-join w t g u f (named (slot f s)) (unwrap_or failed 0) (unwrap_or timeout 0) interrupted apart alive
 apart-effect p w t g u f (instr.Close s) apart alive = apart-close w t g u f (named (slot f s)) apart alive
-apart-effect p w t g u f (instr.Case h success failed) apart alive =
-    let to : Option End → Frame = λ (o : Option End). goes f (case_target o success failed (f.pc + 1)) 0 [] in
-    apart-frames w t g u (to (sub_state (with_frame w t g) (named (slot f h)))) (to (sub_state w (named (slot f h)))) (ap to (sub_state_apart w t g (named (slot f h)))) apart alive
-apart-effect p w t g u f (instr.Get h) apart alive =
-    let to : Option End → Frame = λ (o : Option End). steps f 0 (value_or_zero o ∷ []) in
-    apart-frames w t g u (to (sub_state (with_frame w t g) (named (slot f h)))) (to (sub_state w (named (slot f h)))) (ap to (sub_state_apart w t g (named (slot f h)))) apart alive
-apart-effect p w t g u f (instr.Except h) apart alive =
-    let to : Option End → Frame = λ (o : Option End). steps f 0 (value_or_zero o ∷ []) in
-    apart-frames w t g u (to (sub_state (with_frame w t g) (named (slot f h)))) (to (sub_state w (named (slot f h)))) (ap to (sub_state_apart w t g (named (slot f h)))) apart alive
-apart-effect p w t g u f (instr.Tally s k) apart alive =
-    let to : ℕ → Frame = λ (n : ℕ). steps f 0 (pos n ∷ []) in
-    apart-frames w t g u (to (tally (with_frame w t g) (named (slot f s)) k)) (to (tally w (named (slot f s)) k)) (ap to (tally_apart w t g (named (slot f s)) k)) apart alive
-apart-effect p w t g u f (instr.Read k) apart alive =
-    let to : List Bound → Frame = λ (bs : List Bound). steps f 0 (unwrap_or (read bs k) (pos 0) ∷ []) in
-    apart-frames w t g u (to (environment_of (task_at (with_frame w t g) u) (with_frame w t g))) (to (environment_of (task_at w u) w)) (ap to (environment_apart w t g u apart)) apart alive
-apart-effect p w t g u f (instr.Bound k) apart alive =
-    let to : List Bound → Frame = λ (bs : List Bound). steps f 0 (truth (is_some (read bs k)) ∷ []) in
-    apart-frames w t g u (to (environment_of (task_at (with_frame w t g) u) (with_frame w t g))) (to (environment_of (task_at w u) w)) (ap to (environment_apart w t g u apart)) apart alive
-apart-effect p w t g u f (instr.OrElse k) apart alive =
-    let to : List Bound → Frame = λ (bs : List Bound). steps f 1 (unwrap_or (read bs k) (operand f 0) ∷ []) in
-    apart-frames w t g u (to (environment_of (task_at (with_frame w t g) u) (with_frame w t g))) (to (environment_of (task_at w u) w)) (ap to (environment_apart w t g u apart)) apart alive
 apart-effect p w t g u f instr.Interrupted apart alive = apart-change w t g u (λ (x : Task). record x { frame = steps f 0 (truth x.flag ∷ []); flag = false }) apart alive
 apart-effect p w t g u f instr.Ret apart alive = apart-end w t g u f (Success (operand f 0)) apart alive
 apart-effect p w t g u f instr.Fail apart alive = apart-end w t g u f (Failed (operand f 0)) apart alive
-apart-effect p w t g u f (instr.Cancelled s) apart alive = apart-frame w t g u _ apart alive
-apart-effect p w t g u f (instr.Total s) apart alive = apart-frame w t g u _ apart alive
 apart-effect p w t g u f (instr.Forget h) apart alive = apart-frame w t g u _ apart alive
 apart-effect p w t g u f (instr.Bind k) apart alive = apart-frame w t g u _ apart alive
 apart-effect p w t g u f instr.Unbind apart alive = apart-frame w t g u _ apart alive
-apart-effect p w t g u f i apart alive = apart-frame w t g u _ apart alive
+apart-effect p w t g u f i apart alive = apart-frames w t g u (moved p (with_frame w t g) u f i) (moved p w u f i) (moved_apart p w t g u f i apart) apart alive
 
 -- ---- misuse
 

@@ -35,16 +35,16 @@ use Rattle.sts_model.specs.Living.{subtask_count, sub_state, parent}
 use Rattle.sts_model.specs.Standing.{stands_in}
 use Rattle.sts_model.specs.Environment.{bound_of}
 use Rattle.sts_model.specs.Cancelling.{marked, cancel}
-use Rattle.sts_model.specs.Misuse.{slot, is_scope, is_sub, is_binding, is_entry_of, innermost}
-use Rattle.sts_model.specs.Misuse.{IsFine}
-use Rattle.sts_model.specs.Effect.{effect, named, with_phase, open_scope, fork_task, forked}
+use Rattle.sts_model.specs.Misuse.{slot, is_scope, is_lent, is_sub, is_binding, is_entry_of}
+use Rattle.sts_model.specs.Misuse.{innermost, IsFine}
+use Rattle.sts_model.specs.Effect.{effect, moved, named, with_phase, open_scope, fork_task, forked}
 use Rattle.sts_model.specs.Effect.{subtask_of, joined, join_verdict, join_scope, is_of, cleared}
 use Rattle.sts_model.specs.Effect.{closed, close_scope, tally}
 use Rattle.sts_model.specs.Live.{Live, LiveTask, LiveScope, Alive, live, shown_scope}
 use Rattle.laws_runs.proofs.ListLemmas.{at_set, past}
 use Rattle.laws_runs.proofs.KeptLemmas.{kept-cancel}
 use Rattle.laws_runs.proofs.SoundLemmas.{Sound, sound-kept, born_open}
-use Rattle.laws_runs.proofs.FrameLemmas.{own_slot, at_own-is, leaves-local}
+use Rattle.laws_runs.proofs.FrameLemmas.{own_slot, at_own-is, leaves-moved}
 use Rattle.laws_runs.proofs.BirthLemmas.{born_alive, more_tasks, more_scopes, new_scope, opener}
 use Rattle.laws_runs.proofs.EffectLemmas.{first_no, frame-cancel}
 use Rattle.laws_runs.proofs.CompletionLemmas.{AllTold}
@@ -54,7 +54,7 @@ use Rattle.laws_live.specs.Reading.{live_task_at, with_alive, with_live_frame, w
 use Rattle.laws_live.specs.Reading.{live_any_lives, live_count}
 use Rattle.laws_live.specs.Effect.{live_effect, live_open, live_fork, live_subtask_of, live_child}
 use Rattle.laws_live.specs.Effect.{live_joined, live_verdict, live_join, is_live_of, live_cleared}
-use Rattle.laws_live.specs.Effect.{live_closed, live_close, live_state, live_tally}
+use Rattle.laws_live.specs.Effect.{live_closed, live_close, live_state, live_tally, live_moved}
 use Rattle.laws_live.proofs.ViewLemmas.{seen, tasks_born, scopes_born, scope_is, task_is, alive_is}
 use Rattle.laws_live.proofs.ViewLemmas.{any_is, count_is, stands_some, task_gone}
 use Rattle.laws_live.proofs.Changes.{seen-task, seen-scope, seen-cancel, seen-gone, seen-more_tasks}
@@ -269,40 +269,42 @@ unbound (entry.Scope r ∷ es) outer e = cc
 -- ---- every instruction
 
 -- the scope of a slot that owns one
-owned : (w : World) (t x : ℕ) → Facts w → lives (task_at w t) ≡ true → slot (task_at w t).frame x ≡ slots.Own (named (slot (task_at w t).frame x)) → is_closed (scope_at w (named (slot (task_at w t).frame x))).phase ≡ false
-owned w t x o alive e = open_some w (named (slot (task_at w t).frame x)) ((o.named t x alive).own (named (slot (task_at w t).frame x)) e)
+owned : (w : World) (t x : ℕ) → Facts w → lives (task_at w t) ≡ true → not (is_scope (slot (task_at w t).frame x)) ≡ false → is_lent (slot (task_at w t).frame x) ≡ false → is_closed (scope_at w (named (slot (task_at w t).frame x))).phase ≡ false
+owned w t x o alive is own =
+    let y : Slot = slot (task_at w t).frame x in
+    open_some w (named y) ((o.named t x alive).own (named y) (own_slot y is own))
+
+-- the state of the subtask that a slot names
+subtask_is : (w : World) (t x : ℕ) → Facts w → lives (task_at w t) ≡ true → not (is_sub (slot (task_at w t).frame x)) ≡ false → live_state (live w) (named (slot (task_at w t).frame x)) ≡ sub_state w (named (slot (task_at w t).frame x))
+subtask_is w t x o alive is = state_is w (named (slot (task_at w t).frame x)) (sub_named w t x (o.named t x alive) is)
+
+-- the readings of an instruction are the same in the view
+moved_is : (p : Program) (w : World) (t : ℕ) (i : Instr) → Facts w → lives (task_at w t) ≡ true → IsFine p w t (task_at w t).frame i → live_moved p (live w) t (task_at w t).frame i ≡ moved p w t (task_at w t).frame i
+moved_is p w t (Cancelled x) o alive is =
+    rw (scope_is w (named (slot (task_at w t).frame x)) (scope_named w t x (o.named t x alive) is.slots)) refl
+moved_is p w t (Case x success failed) o alive is = rw (subtask_is w t x o alive (first_no _ _ is.slots)) refl
+moved_is p w t (Get x) o alive is = rw (subtask_is w t x o alive (first_no _ _ is.slots)) refl
+moved_is p w t (Except x) o alive is = rw (subtask_is w t x o alive (first_no _ _ is.slots)) refl
+moved_is p w t (Tally x k) o alive is =
+    rw (tally_is w (named (slot (task_at w t).frame x)) k (owned w t x o alive (first_no _ _ (first_no _ _ is.slots)) is.own)) refl
+moved_is p w t (Total x) o alive is =
+    rw (scope_is w (named (slot (task_at w t).frame x)) (owned w t x o alive (first_no _ _ (first_no _ _ is.slots)) is.own)) refl
+moved_is p w t (Read k) o alive is = rw (alive_is w t o.sound alive) refl
+moved_is p w t (Bound k) o alive is = rw (alive_is w t o.sound alive) refl
+moved_is p w t (OrElse k) o alive is = rw (alive_is w t o.sound alive) refl
+moved_is p w t i o alive is = refl
 
 pub seen-effect : (p : Program) (w : World) (t : ℕ) (i : Instr) → Facts w → lives (task_at w t) ≡ true → IsFine p w t (task_at w t).frame i → live (effect p w t (task_at w t).frame i) ≡ live_effect p (live w) t (task_at w t).frame i
 seen-effect p w t (Open x joiner timed) o alive is = seen-open w t x joiner timed o alive
 seen-effect p w t (Fork x g h) o alive is =
-    let mine = own_slot (slot (task_at w t).frame x) (first_no _ _ (first_no _ _ is.slots)) is.own in
-    seen-fork p w t (named (slot (task_at w t).frame x)) g h o alive (owned w t x o alive mine)
+    seen-fork p w t (named (slot (task_at w t).frame x)) g h o alive (owned w t x o alive (first_no _ _ (first_no _ _ is.slots)) is.own)
 seen-effect p w t (Join x failed timeout interrupted) o alive is =
-    let mine = own_slot (slot (task_at w t).frame x) (first_no _ _ (first_no _ _ is.slots)) is.own in
-    seen-join w t (named (slot (task_at w t).frame x)) (unwrap_or failed 0) (unwrap_or timeout 0) interrupted o alive (owned w t x o alive mine)
+    seen-join w t (named (slot (task_at w t).frame x)) (unwrap_or failed 0) (unwrap_or timeout 0) interrupted o alive (owned w t x o alive (first_no _ _ (first_no _ _ is.slots)) is.own)
 seen-effect p w t (Close x) o alive is =
     let f : Frame = (task_at w t).frame in
-    let mine : slot f x ≡ slots.Own (named (slot f x)) = own_slot (slot f x) (first_no _ _ (first_no _ _ is.slots)) is.own in
-    let order : not (innermost (is_entry_of (named (slot f x))) f.entries) ≡ false = sym (at_own-is w (slot f x) (λ n scope. not (innermost (is_entry_of n) f.entries)) mine) ∙ is.structure in
-    seen-close w t (named (slot f x)) o alive (owned w t x o alive mine) order
-seen-effect p w t (Cancelled x) o alive is =
-    let still = scope_named w t x (o.named t x alive) is.slots in
-    rw (scope_is w (named (slot (task_at w t).frame x)) still) (seen-frame w t _ (born_alive w t alive) refl)
-seen-effect p w t (Case x success failed) o alive is =
-    let stands = sub_named w t x (o.named t x alive) (first_no _ _ is.slots) in
-    rw (state_is w (named (slot (task_at w t).frame x)) stands) (seen-frame w t _ (born_alive w t alive) refl)
-seen-effect p w t (Get x) o alive is =
-    let stands = sub_named w t x (o.named t x alive) (first_no _ _ is.slots) in
-    rw (state_is w (named (slot (task_at w t).frame x)) stands) (seen-frame w t _ (born_alive w t alive) refl)
-seen-effect p w t (Except x) o alive is =
-    let stands = sub_named w t x (o.named t x alive) (first_no _ _ is.slots) in
-    rw (state_is w (named (slot (task_at w t).frame x)) stands) (seen-frame w t _ (born_alive w t alive) refl)
-seen-effect p w t (Tally x k) o alive is =
-    let mine = own_slot (slot (task_at w t).frame x) (first_no _ _ (first_no _ _ is.slots)) is.own in
-    rw (tally_is w (named (slot (task_at w t).frame x)) k (owned w t x o alive mine)) (seen-frame w t _ (born_alive w t alive) refl)
-seen-effect p w t (Total x) o alive is =
-    let mine = own_slot (slot (task_at w t).frame x) (first_no _ _ (first_no _ _ is.slots)) is.own in
-    rw (scope_is w (named (slot (task_at w t).frame x)) (owned w t x o alive mine)) (seen-frame w t _ (born_alive w t alive) refl)
+    let scoped = first_no _ _ (first_no _ _ is.slots) in
+    let order : not (innermost (is_entry_of (named (slot f x))) f.entries) ≡ false = sym (at_own-is w (slot f x) (λ n scope. not (innermost (is_entry_of n) f.entries)) (own_slot (slot f x) scoped is.own)) ∙ is.structure in
+    seen-close w t (named (slot f x)) o alive (owned w t x o alive scoped is.own) order
 seen-effect p w t (Forget x) o alive is = seen-frame w t _ (born_alive w t alive) refl
 seen-effect p w t (Bind k) o alive is =
     let f : Frame = record (steps (task_at w t).frame 1 []) { entries = entry.Binding k (operand (task_at w t).frame 0) ∷ (task_at w t).frame.entries } in
@@ -311,15 +313,11 @@ seen-effect p w t Unbind o alive is =
     let f : Frame = record (steps (task_at w t).frame 0 []) { entries = drop 1 (task_at w t).frame.entries } in
     seen-task w t f (task_at w t).flag (λ alive. record alive { frame = f; environment = drop 1 alive.environment }) (born_alive w t alive)
     (rw (unbound (task_at w t).frame.entries (parent w (task_at w t).scope).environment is.structure) refl)
-seen-effect p w t (Read k) o alive is =
-    rw (alive_is w t o.sound alive) (seen-frame w t _ (born_alive w t alive) refl)
-seen-effect p w t (Bound k) o alive is =
-    rw (alive_is w t o.sound alive) (seen-frame w t _ (born_alive w t alive) refl)
-seen-effect p w t (OrElse k) o alive is =
-    rw (alive_is w t o.sound alive) (seen-frame w t _ (born_alive w t alive) refl)
 seen-effect p w t Interrupted o alive is =
     seen-task w t (steps (task_at w t).frame 0 (truth (task_at w t).flag ∷ [])) false (λ alive. record alive { frame = steps (task_at w t).frame 0 (truth alive.flag ∷ []); flag = false }) (born_alive w t alive) refl
 seen-effect p w t Ret o alive is = seen-end w t (task_at w t).frame (Success (operand (task_at w t).frame 0)) o.sound o.told alive
 seen-effect p w t Fail o alive is = seen-end w t (task_at w t).frame (Failed (operand (task_at w t).frame 0)) o.sound o.told alive
 seen-effect p w t i o alive is =
-    seen-frame w t (local (code p (task_at w t).frame) i (task_at w t).frame) (born_alive w t alive) (ap (filter_map bound_of) (leaves-local (code p (task_at w t).frame) i (task_at w t).frame).entries)
+    let f : Frame = (task_at w t).frame in
+    seen-frame w t (moved p w t f i) (born_alive w t alive) (ap (filter_map bound_of) (leaves-moved p w t f i).entries)
+    ∙ ap (λ (g : Frame). with_live_frame (live w) t g) (sym (moved_is p w t i o alive is))

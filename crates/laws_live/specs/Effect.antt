@@ -203,35 +203,31 @@ live_read v t k = read (alive_at v t).environment k
 
 -- ---- an instruction
 
+-- the frame after an instruction that reads what is around it, or only moves
+abbrev pub live_moved : Program → Live → ℕ → Frame → Instr → Frame
+live_moved p v t f (Cancelled s) =
+    steps f 0 (truth (live_scope_at v (named (slot f s))).cancelled ∷ [])
+live_moved p v t f (Case h success failed) =
+    goes f (case_target (live_state v (named (slot f h))) success failed (f.pc + 1)) 0 []
+live_moved p v t f (Get h) = steps f 0 (value_or_zero (live_state v (named (slot f h))) ∷ [])
+live_moved p v t f (Except h) = steps f 0 (value_or_zero (live_state v (named (slot f h))) ∷ [])
+live_moved p v t f (Tally s k) = steps f 0 (pos (live_tally v (named (slot f s)) k) ∷ [])
+live_moved p v t f (Total s) = steps f 0 ((live_scope_at v (named (slot f s))).told.total ∷ [])
+live_moved p v t f (Read k) = steps f 0 (unwrap_or (live_read v t k) (pos 0) ∷ [])
+live_moved p v t f (Bound k) = steps f 0 (truth (is_some (live_read v t k)) ∷ [])
+live_moved p v t f (OrElse k) = steps f 1 (unwrap_or (live_read v t k) (operand f 0) ∷ [])
+live_moved p v t f i = local (code p f) i f
+
 abbrev pub live_effect : Program → Live → ℕ → Frame → Instr → Live
 live_effect p v t f (Open s joiner timed) = live_open v t f s joiner timed
 live_effect p v t f (Fork s g h) = live_fork p v t f (named (slot f s)) g h
 live_effect p v t f (Join s failed timeout interrupted) =
     live_join v t f (named (slot f s)) (unwrap_or failed 0) (unwrap_or timeout 0) interrupted
 live_effect p v t f (Close s) = live_close v t f (named (slot f s))
-live_effect p v t f (Cancelled s) =
-    with_live_frame v t (steps f 0 (truth (live_scope_at v (named (slot f s))).cancelled ∷ []))
-live_effect p v t f (Case h success failed) =
-    with_live_frame v t
-    (goes f (case_target (live_state v (named (slot f h))) success failed (f.pc + 1)) 0 [])
-live_effect p v t f (Get h) =
-    with_live_frame v t (steps f 0 (value_or_zero (live_state v (named (slot f h))) ∷ []))
-live_effect p v t f (Except h) =
-    with_live_frame v t (steps f 0 (value_or_zero (live_state v (named (slot f h))) ∷ []))
-live_effect p v t f (Tally s k) =
-    with_live_frame v t (steps f 0 (pos (live_tally v (named (slot f s)) k) ∷ []))
-live_effect p v t f (Total s) =
-    with_live_frame v t (steps f 0 ((live_scope_at v (named (slot f s))).told.total ∷ []))
 live_effect p v t f (Forget h) = live_forget v t f h
 live_effect p v t f (Bind k) = live_bind v t f k
 live_effect p v t f Unbind = live_unbind v t f
-live_effect p v t f (Read k) =
-    with_live_frame v t (steps f 0 (unwrap_or (live_read v t k) (pos 0) ∷ []))
-live_effect p v t f (Bound k) =
-    with_live_frame v t (steps f 0 (truth (is_some (live_read v t k)) ∷ []))
-live_effect p v t f (OrElse k) =
-    with_live_frame v t (steps f 1 (unwrap_or (live_read v t k) (operand f 0) ∷ []))
 live_effect p v t f Interrupted = live_take_flag v t f
 live_effect p v t f Ret = live_end v t (Success (operand f 0))
 live_effect p v t f Fail = live_end v t (Failed (operand f 0))
-live_effect p v t f i = with_live_frame v t (local (code p f) i f)
+live_effect p v t f i = with_live_frame v t (live_moved p v t f i)

@@ -33,7 +33,7 @@ use Rattle.sts_model.specs.Joining.{cancels, result_of}
 use Rattle.sts_model.specs.Cancelling.{raised, marked, cancel}
 use Rattle.sts_model.specs.Environment.{environment_of}
 use Rattle.sts_model.specs.Effect.{named, with_phase, open_scope, with_slot, forked, subtask_of, fork_task, joined, join_verdict, join_scope, cleared, closed, close_scope}
-use Rattle.sts_model.specs.Effect.{told, decide, complete, tell, ended, end_task, tally, total, case_target, value_or_zero, effect}
+use Rattle.sts_model.specs.Effect.{told, decide, complete, tell, ended, end_task, tally, total, case_target, value_or_zero, moved, effect}
 use Rattle.sts_model.specs.Misuse.{slot, is_scope, is_sub, has_wrong_slot}
 use Rattle.laws_names.specs.Names.{Names, IsAlike, live_part, plain_part, named_slot, named_entry, named_frame, named_task, named_scope, named_completion, is_reading}
 use Rattle.laws_names.proofs.NameLemmas.{map_set, map_drop, map_push}
@@ -264,6 +264,23 @@ alike_end n w v a t f end alive =
 
 -- ---- an instruction that finds the slots that it needs
 
+state_at_slot : (n : Names) (w v : World) → IsAlike n w v → (f : Frame) (h : ℕ) → (false || not (is_sub (slot f h)) || false) ≡ false → sub_state v (named (slot (named_frame n f) h)) ≡ sub_state w (named (slot f h))
+state_at_slot n w v a f h slots = ap (sub_state v) (sub_at_slot n f h false false slots) ∙ sub_state_same n w v a (named (slot f h))
+
+moved_named : (p : Program) (n : Names) (w v : World) → IsAlike n w v → (t : ℕ) (f : Frame) (i : Instr) → has_wrong_slot f i ≡ false → is_reading i ≡ false → moved p v (n.tasks t) (named_frame n f) i ≡ named_frame n (moved p w t f i)
+moved_named p n w v a t f (instr.Cancelled s) slots quiet =
+    ap (λ (r : ℕ). steps (named_frame n f) 0 (truth (scope_at v r).cancelled ∷ [])) (ap named (slot_named n f s) ∙ scope_name n (slot f s) (yes (is_scope (slot f s)) slots))
+    ∙ ap (λ (b : Bool). steps (named_frame n f) 0 (truth b ∷ [])) (cancelled_same n w v a (named (slot f s)))
+moved_named p n w v a t f (instr.Case h success failed) slots quiet = ap (λ (o : Option End). goes (named_frame n f) (case_target o success failed (f.pc + 1)) 0 []) (state_at_slot n w v a f h slots)
+moved_named p n w v a t f (instr.Get h) slots quiet = ap (λ (o : Option End). steps (named_frame n f) 0 (value_or_zero o ∷ [])) (state_at_slot n w v a f h slots)
+moved_named p n w v a t f (instr.Except h) slots quiet = ap (λ (o : Option End). steps (named_frame n f) 0 (value_or_zero o ∷ [])) (state_at_slot n w v a f h slots)
+moved_named p n w v a t f (instr.Tally s k) slots quiet = ap (λ (m : ℕ). steps (named_frame n f) 0 (pos m ∷ [])) (ap (λ (r : ℕ). tally v r k) (scope_at_slot n f s _ _ slots) ∙ tally_same n w v a (named (slot f s)) k)
+moved_named p n w v a t f (instr.Total s) slots quiet = ap (λ (z : ℤ). steps (named_frame n f) 0 (z ∷ [])) (ap (total v) (scope_at_slot n f s _ _ slots) ∙ total_same n w v a (named (slot f s)))
+moved_named p n w v a t f (instr.Read k) slots quiet = cc
+moved_named p n w v a t f (instr.Bound k) slots quiet = cc
+moved_named p n w v a t f (instr.OrElse k) slots quiet = cc
+moved_named p n w v a t f i slots quiet = local_named n (code p f) f i
+
 pub alike_effect : (p : Program) (n : Names) (w v : World) → IsAlike n w v → (t : ℕ) (f : Frame) (i : Instr) → lives (task_at w t) ≡ true → has_wrong_slot f i ≡ false → is_reading i ≡ false
     → IsAlike n (effect p w t f i) (effect p v (n.tasks t) (named_frame n f) i)
 alike_effect p n w v a t f (instr.Open s joiner timed) alive slots quiet = alike_open n w v a t f s joiner timed alive
@@ -274,32 +291,6 @@ alike_effect p n w v a t f (instr.Join s failed timeout interrupted) alive slots
     (alike_join n w v a t f (named (slot f s)) (unwrap_or failed 0) (unwrap_or timeout 0) interrupted alive)
 alike_effect p n w v a t f (instr.Close s) alive slots quiet =
     subst (λ (r : ℕ). IsAlike n (close_scope w t f (named (slot f s))) (close_scope v (n.tasks t) (named_frame n f) r)) (sym (scope_at_slot n f s _ _ slots)) (alike_close n w v a t f (named (slot f s)) alive)
-alike_effect p n w v a t f (instr.Cancelled s) alive slots quiet =
-    let g = named_frame n f in
-    let name : named (slot g s) ≡ n.scopes (named (slot f s)) = ap named (slot_named n f s) ∙ scope_name n (slot f s) (yes (is_scope (slot f s)) slots) in
-    let same : (scope_at v (named (slot g s))).cancelled ≡ (scope_at w (named (slot f s))).cancelled = ap (λ (r : ℕ). (scope_at v r).cancelled) name ∙ cancelled_same n w v a (named (slot f s)) in
-    alike_frame n w v a t (steps f 0 (truth (scope_at w (named (slot f s))).cancelled ∷ [])) (steps g 0 (truth (scope_at v (named (slot g s))).cancelled ∷ [])) alive (ap (λ (b : Bool). steps g 0 (truth b ∷ [])) same)
-alike_effect p n w v a t f (instr.Case h success failed) alive slots quiet =
-    let g = named_frame n f in
-    let same : sub_state v (named (slot g h)) ≡ sub_state w (named (slot f h)) = ap (sub_state v) (sub_at_slot n f h false false slots) ∙ sub_state_same n w v a (named (slot f h)) in
-    alike_frame n w v a t (goes f (case_target (sub_state w (named (slot f h))) success failed (f.pc + 1)) 0 []) (goes g (case_target (sub_state v (named (slot g h))) success failed (g.pc + 1)) 0 []) alive
-    (ap (λ (o : Option End). goes g (case_target o success failed (g.pc + 1)) 0 []) same)
-alike_effect p n w v a t f (instr.Get h) alive slots quiet =
-    let g = named_frame n f in
-    let same : sub_state v (named (slot g h)) ≡ sub_state w (named (slot f h)) = ap (sub_state v) (sub_at_slot n f h false false slots) ∙ sub_state_same n w v a (named (slot f h)) in
-    alike_frame n w v a t (steps f 0 (value_or_zero (sub_state w (named (slot f h))) ∷ [])) (steps g 0 (value_or_zero (sub_state v (named (slot g h))) ∷ [])) alive (ap (λ (o : Option End). steps g 0 (value_or_zero o ∷ [])) same)
-alike_effect p n w v a t f (instr.Except h) alive slots quiet =
-    let g = named_frame n f in
-    let same : sub_state v (named (slot g h)) ≡ sub_state w (named (slot f h)) = ap (sub_state v) (sub_at_slot n f h false false slots) ∙ sub_state_same n w v a (named (slot f h)) in
-    alike_frame n w v a t (steps f 0 (value_or_zero (sub_state w (named (slot f h))) ∷ [])) (steps g 0 (value_or_zero (sub_state v (named (slot g h))) ∷ [])) alive (ap (λ (o : Option End). steps g 0 (value_or_zero o ∷ [])) same)
-alike_effect p n w v a t f (instr.Tally s k) alive slots quiet =
-    let g = named_frame n f in
-    let same : tally v (named (slot g s)) k ≡ tally w (named (slot f s)) k = ap (λ (r : ℕ). tally v r k) (scope_at_slot n f s _ _ slots) ∙ tally_same n w v a (named (slot f s)) k in
-    alike_frame n w v a t (steps f 0 (pos (tally w (named (slot f s)) k) ∷ [])) (steps g 0 (pos (tally v (named (slot g s)) k) ∷ [])) alive (ap (λ (m : ℕ). steps g 0 (pos m ∷ [])) same)
-alike_effect p n w v a t f (instr.Total s) alive slots quiet =
-    let g = named_frame n f in
-    let same : total v (named (slot g s)) ≡ total w (named (slot f s)) = ap (total v) (scope_at_slot n f s _ _ slots) ∙ total_same n w v a (named (slot f s)) in
-    alike_frame n w v a t (steps f 0 (total w (named (slot f s)) ∷ [])) (steps g 0 (total v (named (slot g s)) ∷ [])) alive (ap (λ (z : ℤ). steps g 0 (z ∷ [])) same)
 alike_effect p n w v a t f (instr.Forget h) alive slots quiet =
     let g = named_frame n f in
     alike_frame n w v a t (record (steps f 0 []) { slots = slice_set f.slots h Empty }) (record (steps g 0 []) { slots = slice_set g.slots h Empty }) alive
@@ -309,13 +300,10 @@ alike_effect p n w v a t f instr.Unbind alive slots quiet =
     let g = named_frame n f in
     alike_frame n w v a t (record (steps f 0 []) { entries = drop 1 f.entries }) (record (steps g 0 []) { entries = drop 1 g.entries }) alive
     (ap (λ (es : List Entry). record (steps g 0 []) { entries = es }) (sym (map_drop (named_entry n) 1 f.entries)))
-alike_effect p n w v a t f (instr.Read k) alive slots quiet = cc
-alike_effect p n w v a t f (instr.Bound k) alive slots quiet = cc
-alike_effect p n w v a t f (instr.OrElse k) alive slots quiet = cc
 alike_effect p n w v a t f instr.Interrupted alive slots quiet =
     let g = named_frame n f in
     let flag : (task_at v (n.tasks t)).flag ≡ (task_at w t).flag = ap (λ (z : Task). z.flag) (same_alive n (task_at w t) (task_at v (n.tasks t)) (a.task t) alive) in
     alike_unflagged n w v a t (steps f 0 (truth (task_at w t).flag ∷ [])) (steps g 0 (truth (task_at v (n.tasks t)).flag ∷ [])) alive (ap (λ (b : Bool). steps g 0 (truth b ∷ [])) flag)
 alike_effect p n w v a t f instr.Ret alive slots quiet = alike_end n w v a t f (Success (operand f 0)) alive
 alike_effect p n w v a t f instr.Fail alive slots quiet = alike_end n w v a t f (Failed (operand f 0)) alive
-alike_effect p n w v a t f i alive slots quiet = alike_frame n w v a t (local (code p f) i f) (local (code p f) i (named_frame n f)) alive (local_named n (code p f) f i)
+alike_effect p n w v a t f i alive slots quiet = alike_frame n w v a t (moved p w t f i) (moved p v (n.tasks t) (named_frame n f) i) alive (moved_named p n w v a t f i slots quiet)

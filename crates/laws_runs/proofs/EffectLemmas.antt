@@ -43,7 +43,7 @@ use Rattle.laws_runs.proofs.KeptLemmas.{kept-cond, at_raised}
 use Rattle.laws_runs.proofs.StillLemmas.{Still, Fits, still-refl, still-trans, still-cond}
 use Rattle.laws_runs.proofs.StillLemmas.{still-task, still-frame, still-scope, still-phase}
 use Rattle.laws_runs.proofs.StillLemmas.{still-cancel}
-use Rattle.laws_runs.proofs.FrameLemmas.{fits-refl, fits-local, fits-bind, fits-unbind, fits-close}
+use Rattle.laws_runs.proofs.FrameLemmas.{fits-refl, fits-leaves, leaves-moved, fits-bind, fits-unbind, fits-close}
 use Rattle.laws_runs.proofs.FrameLemmas.{owns-forget, own_slot, at_own-is}
 use Rattle.laws_runs.proofs.SoundLemmas.{Sound, sound-kept}
 
@@ -274,13 +274,4 @@ still-effect p w t (Forget h) o fine e =
 still-effect p w t (Bind k) o fine e = still-frame w t _ (fits-bind w (task_at w t).frame k)
 still-effect p w t Unbind o fine e = still-frame w t _ (fits-unbind w (task_at w t).frame fine.structure)
 still-effect p w t Interrupted o fine e = still-task w t _ false (record { own = λ i r q. q; entries = λ r still q. q })
-still-effect p w t (Cancelled x) o fine e = still-frame w t _ (record { own = λ i r q. q; entries = λ r still q. q })
-still-effect p w t (Case x a b) o fine e = still-frame w t _ (record { own = λ i r q. q; entries = λ r still q. q })
-still-effect p w t (Get x) o fine e = still-frame w t _ (record { own = λ i r q. q; entries = λ r still q. q })
-still-effect p w t (Except x) o fine e = still-frame w t _ (record { own = λ i r q. q; entries = λ r still q. q })
-still-effect p w t (Tally x k) o fine e = still-frame w t _ (record { own = λ i r q. q; entries = λ r still q. q })
-still-effect p w t (Total x) o fine e = still-frame w t _ (record { own = λ i r q. q; entries = λ r still q. q })
-still-effect p w t (Read k) o fine e = still-frame w t _ (record { own = λ i r q. q; entries = λ r still q. q })
-still-effect p w t (Bound k) o fine e = still-frame w t _ (record { own = λ i r q. q; entries = λ r still q. q })
-still-effect p w t (OrElse k) o fine e = still-frame w t _ (record { own = λ i r q. q; entries = λ r still q. q })
-still-effect p w t i o fine e = still-frame w t _ (fits-local w (code p (task_at w t).frame) i (task_at w t).frame)
+still-effect p w t i o fine e = still-frame w t _ (fits-leaves w (task_at w t).frame _ (leaves-moved p w t (task_at w t).frame i))

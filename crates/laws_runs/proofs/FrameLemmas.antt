@@ -8,7 +8,10 @@ use Rattle.std.specs.Prelude.{◌==◌, ◌-◌, nat_le, pos, unwrap_or}
 use Rattle.std.specs.Int.{int_wrapping_div, w64}
 use Rattle.std.specs.Ordering.{int_eq}
 use Rattle.sts_code.specs.declared.instr.Instr.{Instr}
-use Rattle.sts_code.specs.declared.instr.Instr.TheVariants.{Div, Times, Next}
+use Rattle.sts_code.specs.declared.instr.Instr.TheVariants.{Div, Times, Next, Cancelled, Case}
+use Rattle.sts_code.specs.declared.instr.Instr.TheVariants.{Get, Except, Tally, Total, Read, Bound}
+use Rattle.sts_code.specs.declared.instr.Instr.TheVariants.{OrElse}
+use Rattle.sts_code.specs.Program.{Program}
 use Rattle.sts_model.specs.declared.record.Slot.{Slot}
 use Rattle.sts_model.specs.declared.record.Slot.TheVariants as slots
 use Rattle.sts_model.specs.declared.record.Entry.{Entry}
@@ -16,12 +19,12 @@ use Rattle.sts_model.specs.declared.record.Entry.TheVariants as entry
 use Rattle.sts_model.specs.declared.record.Frame.{Frame}
 use Rattle.sts_model.specs.declared.record.Loop.{Loop}
 use Rattle.sts_model.specs.declared.record.Scope.{Scope}
-use Rattle.sts_model.specs.World.{World, scope_at}
+use Rattle.sts_model.specs.World.{World, scope_at, code}
 use Rattle.sts_model.specs.Local.{local, turns, enters, clipped, operand, goes, steps}
 use Rattle.sts_code.specs.Loops.{match_of}
 use Rattle.sts_model.specs.Living.{is_closed}
 use Rattle.sts_model.specs.Misuse.{is_scope, is_lent, is_binding, is_entry_of, innermost, at_own}
-use Rattle.sts_model.specs.Effect.{named, cleared, is_of, with_slot}
+use Rattle.sts_model.specs.Effect.{named, cleared, is_of, with_slot, moved}
 use Rattle.laws_runs.proofs.ListLemmas.{at_set}
 use Rattle.laws_runs.proofs.StillLemmas.{Fits}
 
@@ -62,9 +65,21 @@ leaves-local is (Times n) f = leaves-enters is f (clipped n (operand f 0))
 leaves-local is Next f = leaves-turns f f.loops
 leaves-local is _ f = record { function = refl; entries = refl; slots = refl }
 
-pub fits-local : (w : World) (is : List Instr) (i : Instr) (f : Frame) → Fits w f (local is i f)
-fits-local w is i f =
-    let same = leaves-local is i f in
+-- so does an instruction that reads
+pub leaves-moved : (p : Program) (w : World) (t : ℕ) (f : Frame) (i : Instr) → Leaves f (moved p w t f i)
+leaves-moved p w t f (Cancelled x) = record { function = refl; entries = refl; slots = refl }
+leaves-moved p w t f (Case x success failed) = record { function = refl; entries = refl; slots = refl }
+leaves-moved p w t f (Get x) = record { function = refl; entries = refl; slots = refl }
+leaves-moved p w t f (Except x) = record { function = refl; entries = refl; slots = refl }
+leaves-moved p w t f (Tally x k) = record { function = refl; entries = refl; slots = refl }
+leaves-moved p w t f (Total x) = record { function = refl; entries = refl; slots = refl }
+leaves-moved p w t f (Read k) = record { function = refl; entries = refl; slots = refl }
+leaves-moved p w t f (Bound k) = record { function = refl; entries = refl; slots = refl }
+leaves-moved p w t f (OrElse k) = record { function = refl; entries = refl; slots = refl }
+leaves-moved p w t f i = leaves-local (code p f) i f
+
+pub fits-leaves : (w : World) (f g : Frame) → Leaves f g → Fits w f g
+fits-leaves w f g same =
     record { own = λ j s e. ap (λ (xs : List Slot). get_or xs j slots.Empty) (sym same.slots) ∙ e; entries = λ s still e. subst (λ (es : List Entry). list_any (is_entry_of s) es ≡ true) (sym same.entries) e }
 
 -- ---- slots

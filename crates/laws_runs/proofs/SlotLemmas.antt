@@ -34,7 +34,7 @@ use Rattle.sts_model.specs.Living.{lives, is_in, any_lives, is_closed, ends, sub
 use Rattle.sts_model.specs.Standing.{stands_in}
 use Rattle.sts_model.specs.Cancelling.{raised, marked, cancel}
 use Rattle.sts_model.specs.Misuse.{slot, IsFine}
-use Rattle.sts_model.specs.Effect.{effect, named, with_phase, open_scope, fork_task, forked}
+use Rattle.sts_model.specs.Effect.{effect, moved, named, with_phase, open_scope, fork_task, forked}
 use Rattle.sts_model.specs.Effect.{with_slot, subtask_of, joined, join_verdict, join_scope, is_of}
 use Rattle.sts_model.specs.Effect.{cleared, closed, close_scope, told, decide, tell, ended}
 use Rattle.sts_model.specs.Effect.{end_task}
@@ -42,7 +42,7 @@ use Rattle.sts_model.specs.Outside.{interrupt, can_expire, expire}
 use Rattle.laws_runs.proofs.ListLemmas.{at_set, at_put, at_more, within}
 use Rattle.laws_runs.proofs.KeptLemmas.{kept-cancel, at_raised}
 use Rattle.laws_runs.proofs.SoundLemmas.{Sound, sound-kept, born_open, stands_alive}
-use Rattle.laws_runs.proofs.FrameLemmas.{own_slot, leaves-local}
+use Rattle.laws_runs.proofs.FrameLemmas.{own_slot, leaves-moved}
 use Rattle.laws_runs.proofs.BirthLemmas.{born_alive, more_tasks, more_scopes, new_scope, opener}
 use Rattle.laws_runs.proofs.EffectLemmas.{first_no, frame-cancel}
 use Rattle.std.proofs.Math.Bool.{and-false}
@@ -370,18 +370,9 @@ named-effect p w t (Forget x) o h alive is =
 named-effect p w t (Bind k) o h alive is = named-frame w t _ (task_at w t).flag h refl
 named-effect p w t Unbind o h alive is = named-frame w t _ (task_at w t).flag h refl
 named-effect p w t Interrupted o h alive is = named-frame w t _ false h refl
-named-effect p w t (Cancelled x) o h alive is = named-frame w t _ (task_at w t).flag h refl
-named-effect p w t (Case x a b) o h alive is = named-frame w t _ (task_at w t).flag h refl
-named-effect p w t (Get x) o h alive is = named-frame w t _ (task_at w t).flag h refl
-named-effect p w t (Except x) o h alive is = named-frame w t _ (task_at w t).flag h refl
-named-effect p w t (Tally x k) o h alive is = named-frame w t _ (task_at w t).flag h refl
-named-effect p w t (Total x) o h alive is = named-frame w t _ (task_at w t).flag h refl
-named-effect p w t (Read k) o h alive is = named-frame w t _ (task_at w t).flag h refl
-named-effect p w t (Bound k) o h alive is = named-frame w t _ (task_at w t).flag h refl
-named-effect p w t (OrElse k) o h alive is = named-frame w t _ (task_at w t).flag h refl
 named-effect p w t Ret o h alive is = named-end w t (task_at w t).frame (Success (operand (task_at w t).frame 0)) h
 named-effect p w t Fail o h alive is = named-end w t (task_at w t).frame (Failed (operand (task_at w t).frame 0)) h
-named-effect p w t i o h alive is = named-frame w t (local (code p (task_at w t).frame) i (task_at w t).frame) (task_at w t).flag h (leaves-local (code p (task_at w t).frame) i (task_at w t).frame).slots
+named-effect p w t i o h alive is = named-frame w t (moved p w t (task_at w t).frame i) (task_at w t).flag h (leaves-moved p w t (task_at w t).frame i).slots
 
 pub named-interrupt : (w : World) (t : ℕ) → Named w → Named (interrupt w t)
 named-interrupt w t h = named-cond (lives (task_at w t)) _ w (λ e. named-frame w t (task_at w t).frame true h refl) (λ e. h)

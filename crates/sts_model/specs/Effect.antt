@@ -207,34 +207,33 @@ takes_memory Ret = true
 takes_memory Fail = true
 takes_memory _ = false
 
+-- the frame after an instruction that reads what is around it, or only moves
+abbrev pub moved : Program → World → ℕ → Frame → Instr → Frame
+moved p w t f (Cancelled s) = steps f 0 (truth (scope_at w (named (slot f s))).cancelled ∷ [])
+moved p w t f (Case h success failed) =
+    goes f (case_target (sub_state w (named (slot f h))) success failed (f.pc + 1)) 0 []
+moved p w t f (Get h) = steps f 0 (value_or_zero (sub_state w (named (slot f h))) ∷ [])
+moved p w t f (Except h) = steps f 0 (value_or_zero (sub_state w (named (slot f h))) ∷ [])
+moved p w t f (Tally s k) = steps f 0 (pos (tally w (named (slot f s)) k) ∷ [])
+moved p w t f (Total s) = steps f 0 (total w (named (slot f s)) ∷ [])
+moved p w t f (Read k) =
+    steps f 0 (unwrap_or (read (environment_of (task_at w t) w) k) (pos 0) ∷ [])
+moved p w t f (Bound k) =
+    steps f 0 (truth (is_some (read (environment_of (task_at w t) w) k)) ∷ [])
+moved p w t f (OrElse k) =
+    steps f 1 (unwrap_or (read (environment_of (task_at w t) w) k) (operand f 0) ∷ [])
+moved p w t f i = local (code p f) i f
+
 abbrev pub effect : Program → World → ℕ → Frame → Instr → World
 effect p w t f (Open s joiner timed) = open_scope w t f s joiner timed
 effect p w t f (Fork s g h) = fork_task p w t f (named (slot f s)) g h
 effect p w t f (Join s failed timeout interrupted) =
     join_scope w t f (named (slot f s)) (unwrap_or failed 0) (unwrap_or timeout 0) interrupted
 effect p w t f (Close s) = close_scope w t f (named (slot f s))
-effect p w t f (Cancelled s) =
-    with_frame w t (steps f 0 (truth (scope_at w (named (slot f s))).cancelled ∷ []))
-effect p w t f (Case h success failed) =
-    with_frame w t (goes f
-    (case_target (sub_state w (named (slot f h))) success failed (f.pc + 1)) 0 [])
-effect p w t f (Get h) =
-    with_frame w t (steps f 0 (value_or_zero (sub_state w (named (slot f h))) ∷ []))
-effect p w t f (Except h) =
-    with_frame w t (steps f 0 (value_or_zero (sub_state w (named (slot f h))) ∷ []))
-effect p w t f (Tally s k) = with_frame w t (steps f 0 (pos (tally w (named (slot f s)) k) ∷ []))
-effect p w t f (Total s) = with_frame w t (steps f 0 (total w (named (slot f s)) ∷ []))
 effect p w t f (Forget h) = forget w t f h
 effect p w t f (Bind k) = bind w t f k
 effect p w t f Unbind = unbind w t f
-effect p w t f (Read k) =
-    with_frame w t (steps f 0 (unwrap_or (read (environment_of (task_at w t) w) k) (pos 0) ∷ []))
-effect p w t f (Bound k) =
-    with_frame w t (steps f 0 (truth (is_some (read (environment_of (task_at w t) w) k)) ∷ []))
-effect p w t f (OrElse k) =
-    with_frame w t (steps f 1
-    (unwrap_or (read (environment_of (task_at w t) w) k) (operand f 0) ∷ []))
 effect p w t f Interrupted = take_flag w t f
 effect p w t f Ret = end_task w t f (Success (operand f 0))
 effect p w t f Fail = end_task w t f (Failed (operand f 0))
-effect p w t f i = with_frame w t (local (code p f) i f)
+effect p w t f i = with_frame w t (moved p w t f i)
