@@ -22,30 +22,12 @@ use Rattle.sts_model.specs.Standing.{standing_scopes, standing_bindings}
 use Rattle.laws_runs.proofs.SoundLemmas.{Sound}
 use Rattle.laws_runs.proofs.BirthLemmas.{born_alive}
 use Rattle.laws_runs.proofs.EntryLemmas.{Has, times_in, times-cons}
-use Rattle.laws_runs.proofs.EnteredLemmas.{Entered}
+use Rattle.laws_runs.proofs.EnteredLemmas.{Entered, some_times, times_none}
 use Rattle.laws_accepted.specs.Costs.{Peak, tasks_peak, scopes_peak, binds_peak, share}
 use Rattle.laws_accepted.specs.Costs.{subtask_shares, entry_use, use_of, slack, room}
 use Rattle.laws_accepted.proofs.Sums.{upto, upto-same, upto-none, upto-only, sum-same, sum-none}
 use Rattle.laws_accepted.proofs.Sums.{sum-only, sum-add, sum-upto, sum-times, sum-once, sum-places}
 use Rattle.laws_accepted.proofs.Sums.{sum-cond}
-
--- ---- how often a scope stands in a list
-
-pub times-none : (es : List Entry) (s : ℕ) → list_any (is_entry_of s) es ≡ false → times_in s es ≡ 0
-times-none [] s e = refl
-times-none (x ∷ es) s e = by (is_entry_of s x) refl e (times-cons x es s) (times-none es s)
-  where
-    by : (b : Bool) → is_entry_of s x ≡ b → (b || list_any (is_entry_of s) es) ≡ false → times_in s (x ∷ es) ≡ cond (is_entry_of s x) 1 0 + times_in s es → (list_any (is_entry_of s) es ≡ false → times_in s es ≡ 0) → times_in s (x ∷ es) ≡ 0
-    by true h e k next = cc
-    by false h e k next = let c : cond {A = ℕ} (is_entry_of s x) 1 0 ≡ 0 = rw h refl in let n = next e in omega (arith, k, c, n)
-
-pub times-some : (es : List Entry) (s : ℕ) → Has s es → 0 < times_in s es
-times-some [] s has = cc
-times-some (x ∷ es) s has = by (is_entry_of s x) refl has (times-cons x es s) (times-some es s)
-  where
-    by : (b : Bool) → is_entry_of s x ≡ b → (b || list_any (is_entry_of s) es) ≡ true → times_in s (x ∷ es) ≡ cond (is_entry_of s x) 1 0 + times_in s es → (Has s es → 0 < times_in s es) → 0 < times_in s (x ∷ es)
-    by true h has e next = let c : cond {A = ℕ} (is_entry_of s x) 1 0 ≡ 1 = rw h refl in omega (arith, e, c)
-    by false h has e next = let n = next has in omega (arith, e, n)
 
 -- ---- what is known of a state
 
@@ -129,7 +111,7 @@ module _ (w : World) (o : Sound w) (e : Entered w) (idle : Idle w) where
 
   -- a task without an entry of the scope
   absent_task : (g : ℕ → ℕ) (s u : ℕ) → (Has s (task_at w u).frame.entries → ⊥) → in_task g s (task_at w u) ≡ 0
-  absent_task g s u never = sum-times (is_entry_of s) (g s) (task_at w u).frame.entries (times-none (task_at w u).frame.entries s (is_false (list_any (is_entry_of s) (task_at w u).frame.entries) never))
+  absent_task g s u never = sum-times (is_entry_of s) (g s) (task_at w u).frame.entries (times_none (task_at w u).frame.entries s (is_false (list_any (is_entry_of s) (task_at w u).frame.entries) never))
     where
       is_false : (b : Bool) → (b ≡ true → ⊥) → b ≡ false
       is_false true n = absurd (n refl)
@@ -143,7 +125,7 @@ module _ (w : World) (o : Sound w) (e : Entered w) (idle : Idle w) where
       let t : ℕ = (scope_at w s).owner in
       let held = o.held s born h in
       let once = e.once t s in
-      let some = times-some (task_at w t).frame.entries s held.entry in
+      let some = some_times (task_at w t).frame.entries s held.entry in
       let one : times_in s (task_at w t).frame.entries ≡ 1 = omega (arith, once, some) in
       let here : in_task g s (task_at w t) ≡ g s = sum-once (is_entry_of s) (g s) (task_at w t).frame.entries one in
       let alone : sum_by (in_task g s) w.tasks ≡ in_task g s (task_at w t) = sum-only (in_task g s) w.tasks t no_task (born_alive w t held.alive) (λ u less other. absent_task g s u (λ has. other (sym (e.opens u s (entered_lives u s has) has).owner.owner))) in

@@ -6,6 +6,7 @@ use Rattle.std.specs.Prelude.{ℤ, slice_set, ◌==◌}
 use Rattle.std.specs.List.{list_any}
 use Rattle.std.proofs.Math.Seq.{get_or-append_seam}
 use Rattle.std.proofs.lemmas.Bool.Decides.{nat_tests}
+use Rattle.std.proofs.lemmas.Bool.{not-false}
 use Rattle.sts_code.specs.Program.{Program, routine}
 use Rattle.sts_code.specs.declared.instr.Instr.TheVariants.{Open, Fork}
 use Rattle.sts_code.specs.declared.instr.Joiner.{Joiner}
@@ -37,7 +38,7 @@ use Rattle.laws_accepted.proofs.Zips.{zips-map, both-set}
 use Rattle.laws_accepted.proofs.Same.{Same, Onward, entry-on, slot-on, fits-same}
 use Rattle.laws_accepted.proofs.Stands.{Stands, Lands, lands-forward, not_closing}
 use Rattle.laws_accepted.proofs.LocalRows.{height-moved}
-use Rattle.laws_accepted.proofs.FrameRows.{kind-own, empty-owns_nothing, own-set, holds-not}
+use Rattle.laws_accepted.proofs.FrameRows.{kind-own, empty-owns_nothing, own-set}
 
 -- a slot that is to be filled owns nothing
 free-owns_nothing : (w : World) (f : Frame) (s : TypeState) (x : ℕ) (slots : (y : ℕ) → FitsSlot w f (slot f y) (kind s y)) → cause.is_empty (kind s x) ≡ true → (n : ℕ) → slot f x ≡ Own n → ⊥
@@ -106,7 +107,7 @@ lands-open p w t x joiner timed s st same covers less below =
     old = fits-same p w (more_scopes w (new_scope w t joiner timed)) (task_at w t).frame s same st.fits
 
     never : (n : ℕ) → slot (task_at w t).frame x ≡ Own n → ⊥
-    never = free-owns_nothing w (task_at w t).frame s x st.fits.slots (holds-not (cause.is_empty (kind s x)) st.clear.free)
+    never = free-owns_nothing w (task_at w t).frame s x st.fits.slots (not-false (cause.is_empty (kind s x)) st.clear.free)
 
     on : Onward p (task_at w t).frame (opener w (task_at w t).frame x)
     on = record { function = refl; own = own-set (task_at w t).frame.slots x (Own (length w.scopes)) never; still = not_closing p (task_at w t).frame (Open x joiner timed) st.at (λ y. refl) }
@@ -184,7 +185,7 @@ lands-fork p w m f x a n u h s st same own inside =
 
     free : (o : Option ℕ) → cause.at_slot s o (λ k. not (cause.is_empty k)) ≡ false → (y : ℕ) → o ≡ Some y → cause.is_empty (kind s y) ≡ true
     free None e y d = cc
-    free (Some z) e y d = let i : z ≡ y = cc in rw (← i) (holds-not (cause.is_empty (kind s z)) e)
+    free (Some z) e y d = let i : z ≡ y = cc in rw (← i) (not-false (cause.is_empty (kind s z)) e)
 
     on : Onward p f (forked f (routine p a).args h u)
     on =

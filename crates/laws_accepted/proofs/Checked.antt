@@ -15,7 +15,7 @@ use Rattle.sts_model.specs.declared.record.Frame.{Frame}
 use Rattle.sts_model.specs.World.{instr_at}
 use Rattle.sts_rules.specs.Causes.{needs}
 use Rattle.laws_runs.proofs.ListLemmas.{none_found}
-use Rattle.std.proofs.lemmas.Bool.{and_parts}
+use Rattle.std.proofs.lemmas.Bool.{and_parts, not-true}
 
 -- an instruction that is read is in the code
 stands_in : (code : List Instr) (n : ℕ) (i : Instr) → slice_get code n ≡ Some i → (slice_index_or code n Ret ≡ i) × (n < length code)
@@ -43,13 +43,9 @@ no_second false true x y rest e = refl
 no_second false false x y None e = cc
 no_second false false x y (Some z) e = cc
 
-is_false : (b : Bool) → not b ≡ true → b ≡ false
-is_false true e = cc
-is_false false e = refl
-
 -- there is a last function, and it needs nothing
 pub main_needs_nothing : (p : Program) → def.program_fault p.routines ≡ None → (length p.routines - 1 < length p.routines) × ((k : ℕ) → needs p (length p.routines - 1) k ≡ false)
 main_needs_nothing p checked =
     let main = last_is p.routines (length p.routines - 1) (no_second (nat_lt 64 (length p.routines)) (def.ends_with_main p.routines) _ _ (def.routines_fault [] p.routines) checked) in
-    let none = is_false _ (and_parts _ (not (list_any (λ needed. needed) (routine p (length p.routines - 1)).needs)) main.0).1 in
+    let none = not-true _ (and_parts _ (not (list_any (λ needed. needed) (routine p (length p.routines - 1)).needs)) main.0).1 in
     (main.1, λ k. none_found (λ (needed : Bool). needed) (routine p (length p.routines - 1)).needs k false refl none)

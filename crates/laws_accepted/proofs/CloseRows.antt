@@ -4,9 +4,10 @@ use Rattle.std.proofs.Common.{false, Some, refl, sym, ◌∙◌, ap, subst, cond
 use Rattle.std.proofs.Common.{◌||◌, ◌&&◌, length-set, get_or-set_same, get_or-set_other}
 use Rattle.std.specs.Prelude.{◌==◌}
 use Rattle.std.specs.List.{list_any}
-use Rattle.std.proofs.lemmas.Bool.{cond_both, or_parts}
+use Rattle.std.proofs.lemmas.Bool.{cond_both, or_parts, not-false}
 use Rattle.std.proofs.lemmas.Bool.Decides.{nat_tests}
 use Rattle.std.proofs.lemmas.List.{length-map}
+use Rattle.std.proofs.Math.ListN.{get_or-map}
 use Rattle.sts_code.specs.Program.{Program}
 use Rattle.sts_code.specs.declared.instr.Instr.TheVariants.{Close}
 use Rattle.sts_model.specs.declared.event.Phase.{Phase}
@@ -39,11 +40,11 @@ use Rattle.laws_runs.specs.Later.{Later}
 use Rattle.laws_runs.proofs.KeptLemmas.{kept-cancel}
 use Rattle.laws_runs.proofs.EffectLemmas.{frame-cancel}
 use Rattle.laws_accepted.specs.Typed.{closes, fits_phase, FitsOpen, FitsEntry, FitsSlot, Zips}
-use Rattle.laws_accepted.proofs.Zips.{zips-map, zips-without, zips-drop, mapped}
+use Rattle.laws_accepted.proofs.Zips.{zips-map, zips-without, zips-drop}
 use Rattle.laws_accepted.proofs.Same.{Knows, scope-on, slot-same}
 use Rattle.laws_accepted.proofs.Others.{knows-later}
 use Rattle.laws_accepted.proofs.Stands.{Stands, Lands, lands-forward}
-use Rattle.laws_accepted.proofs.FrameRows.{kind-own, holds-not}
+use Rattle.laws_accepted.proofs.FrameRows.{kind-own}
 use Rattle.laws_accepted.proofs.JoinRows.{Landed}
 
 -- ---- the other scopes
@@ -232,10 +233,10 @@ lands-closed p w t x n s h later =
     frame = ap (λ (y : Task). y.frame) (get_or-set_same (cancel w n).tasks t _ no_task (rw ((kept-cancel w n).tasks) h.alive))
 
     first : cause.innermost (cause.is_scope_in x) s.entries ≡ true
-    first = holds-not (cause.innermost (cause.is_scope_in x) s.entries) (or_parts (not (cause.innermost (cause.is_scope_in x) s.entries)) (cause.is_held s) (second (cause.is_own (kind s x)) (not (cause.innermost (cause.is_scope_in x) s.entries) || cause.is_held s) (kind-own w (task_at w t).frame (slot (task_at w t).frame x) (kind s x) n (h.stands.fits.slots x) h.own) h.stands.clear.structure)).0
+    first = not-false (cause.innermost (cause.is_scope_in x) s.entries) (or_parts (not (cause.innermost (cause.is_scope_in x) s.entries)) (cause.is_held s) (second (cause.is_own (kind s x)) (not (cause.innermost (cause.is_scope_in x) s.entries) || cause.is_held s) (kind-own w (task_at w t).frame (slot (task_at w t).frame x) (kind s x) n (h.stands.fits.slots x) h.own) h.stands.clear.structure)).0
 
     cleared_at : (y : ℕ) → get_or (cleared (cancel w n) n (task_at w t).frame.slots) y Empty ≡ clear_slot (cancel w n) n (slot (task_at w t).frame y)
-    cleared_at y = mapped (clear_slot (cancel w n) n) (task_at w t).frame.slots y Empty
+    cleared_at y = get_or-map (clear_slot (cancel w n) n) (task_at w t).frame.slots y Empty
 
     keeps : (y j : ℕ) → slot (task_at w t).frame y ≡ Own j → (j ≡ n → ⊥) → get_or (cleared (cancel w n) n (task_at w t).frame.slots) y Empty ≡ Own j
     keeps y j e never = cleared_at y ∙ still-own (cancel w n) n (slot (task_at w t).frame y) j e never
@@ -249,7 +250,7 @@ lands-closed p w t x n s h later =
         (λ e. rw (e, cleared_at x, h.own) gone)
         (λ other.
         subst (λ (q : Slot). FitsSlot v g q (get_or (map (clear_kind x) s.slots) y kind_of.Empty)) (sym (cleared_at y))
-        (subst (λ (k : SlotKind). FitsSlot v g (clear_slot (cancel w n) n (slot f y)) k) (sym (mapped (clear_kind x) s.slots y kind_of.Empty))
+        (subst (λ (k : SlotKind). FitsSlot v g (clear_slot (cancel w n) n (slot f y)) k) (sym (get_or-map (clear_kind x) s.slots y kind_of.Empty))
         (slot-cleared w (cancel w n) v f g x n (slot f y) (kind s y) (λ u i e. ((kept-cancel w n).task u).same.scope ∙ e) (knows-later w v later) h.own st.fits.apart keeps (λ j e same. other (st.fits.apart y x n (rw same at e) h.own)) (st.fits.slots y))))
       where
         wide : x < length (map (clear_kind x) s.slots)

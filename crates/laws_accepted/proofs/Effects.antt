@@ -4,7 +4,7 @@ use Rattle.std.proofs.Common.{Option, Some, None, refl, sym, ◌∙◌, ap, subs
 use Rattle.std.proofs.Common.{set, take, not, ◌||◌, ◌&&◌, drop, get_or-set_same, get_or-set_other}
 use Rattle.std.proofs.Common.{length-set}
 use Rattle.std.specs.Prelude.{nat_lt, unwrap_or, pos, is_some}
-use Rattle.std.proofs.lemmas.Bool.{cond_both, or_parts, and_parts}
+use Rattle.std.proofs.lemmas.Bool.{cond_both, or_parts, and_parts, not-false}
 use Rattle.std.proofs.lemmas.Bool.Decides.{nat_tests}
 use Rattle.std.proofs.lemmas.Option.{get_or_from_slice_get}
 use Rattle.std.proofs.lemmas.List.{length-map, get_or_append_left}
@@ -62,7 +62,7 @@ use Rattle.laws_accepted.proofs.Turns.{alike-trans, alike-scope, alike-cancel, t
 use Rattle.laws_accepted.proofs.Turns.{turned-then, turned-frame, waits-few, waits-stay}
 use Rattle.laws_accepted.proofs.Good.{IsCosted, Good, point_next, point_map, steps_left}
 use Rattle.laws_accepted.proofs.Good.{turned_lent, good_turn}
-use Rattle.laws_accepted.proofs.Moves.{Moves, not_false, moves_same, moves_next, case_among}
+use Rattle.laws_accepted.proofs.Moves.{Moves, moves_same, moves_next, case_among}
 use Rattle.laws_accepted.proofs.Moves.{moves_join, entering_bind, entering_unbind, entering_write}
 use Rattle.laws_accepted.proofs.Moves.{entering_open, entering_close}
 use Rattle.laws_accepted.proofs.Forks.{good_fork}
@@ -247,7 +247,7 @@ module _ (Typed : Type 0) (p : Program) (budgets : List Budgets) (w : World) (n 
         goes = next_place (Open x joiner timed) d refl;
         function = refl;
         size = length-set (task_at w t).frame.slots x (slots.Own (length w.scopes));
-        entries = entering_open budgets w (task_at w t).frame x joiner timed facts.right.sound q.size low (not_false (is_empty (slot (task_at w t).frame x)) d.fine.slots);
+        entries = entering_open budgets w (task_at w t).frame x joiner timed facts.right.sound q.size low (not-false (is_empty (slot (task_at w t).frame x)) d.fine.slots);
       }
 
   bind_moves : (k : ℕ) → Does p w t (Bind k) → Moves p budgets w (bind w t (task_at w t).frame k) t (Bind k)
@@ -280,7 +280,7 @@ module _ (Typed : Type 0) (p : Program) (budgets : List Budgets) (w : World) (n 
         goes = next_place (Forget x) d refl;
         function = refl;
         size = length-set (task_at w t).frame.slots x slots.Empty;
-        entries = entering_write budgets w.tasks (task_at w t).frame (record (steps (task_at w t).frame 0 []) { slots = set (task_at w t).frame.slots x slots.Empty }) (Forget x) x slots.Empty refl refl (λ s e. cc) (λ s e. no_scope_there (slot (task_at w t).frame x) s (not_false (is_sub (slot (task_at w t).frame x)) (or_parts (not (is_sub (slot (task_at w t).frame x))) false d.fine.slots).0) e) (λ os. refl);
+        entries = entering_write budgets w.tasks (task_at w t).frame (record (steps (task_at w t).frame 0 []) { slots = set (task_at w t).frame.slots x slots.Empty }) (Forget x) x slots.Empty refl refl (λ s e. cc) (λ s e. no_scope_there (slot (task_at w t).frame x) s (not-false (is_sub (slot (task_at w t).frame x)) (or_parts (not (is_sub (slot (task_at w t).frame x))) false d.fine.slots).0) e) (λ os. refl);
       }
     where
       no_scope_there : (q : Slot) (s : ℕ) → is_sub q ≡ true → q ≡ slots.Own s → ⊥
@@ -328,7 +328,7 @@ module _ (Typed : Type 0) (p : Program) (budgets : List Budgets) (w : World) (n 
     where
       empty : (k : Option ℕ) → at_slot (task_at w t).frame k (λ q. not (is_empty q)) ≡ false → (y : ℕ) → k ≡ Some y → is_empty (slot (task_at w t).frame y) ≡ true
       empty None e y q = cc
-      empty (Some z) e y q = let same : z ≡ y = cc in rw (← same) (not_false (is_empty (slot (task_at w t).frame z)) e)
+      empty (Some z) e y q = let same : z ≡ y = cc in rw (← same) (not-false (is_empty (slot (task_at w t).frame z)) e)
 
       same_frame : (u : ℕ) → (u ≡ t → ⊥) → u < length w.tasks → (task_at (fork_task p w t (task_at w t).frame (named (slot (task_at w t).frame x)) g h) u).frame ≡ (task_at w u).frame
       same_frame u other low =

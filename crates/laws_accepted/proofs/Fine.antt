@@ -44,7 +44,7 @@ use Rattle.sts_model.specs.Misuse.{slot, fault_of, IsFine}
 use Rattle.sts_rules.specs.TypeState.{TypeState, kind, scope_in}
 use Rattle.sts_rules.specs.Causes as cause
 use Rattle.sts_model.specs.Effect.{named}
-use Rattle.std.proofs.lemmas.Bool.{or_parts}
+use Rattle.std.proofs.lemmas.Bool.{or_parts, not-false, and_from, not_from_true}
 use Rattle.laws_runs.proofs.FrameLemmas.{own_slot, at_own-is}
 use Rattle.laws_runs.proofs.EffectLemmas.{first_no}
 use Rattle.laws_accepted.specs.Typed.{closes, fits_phase, crowds, is_due, Covers, FitsEntry}
@@ -52,7 +52,7 @@ use Rattle.laws_accepted.specs.Typed.{FitsSlot, Zips, is_known}
 use Rattle.laws_accepted.proofs.Zips.{zips-length}
 use Rattle.laws_accepted.proofs.Stands.{Stands, not_closing}
 use Rattle.laws_accepted.proofs.Checked.{instr_checked}
-use Rattle.laws_accepted.proofs.FrameRows.{kind-own, holds-not}
+use Rattle.laws_accepted.proofs.FrameRows.{kind-own}
 use Rattle.laws_accepted.proofs.Phases.{InSlot, in-slot}
 use Rattle.laws_accepted.proofs.JoinRows.{own-scope}
 use Rattle.laws_accepted.proofs.CloseRows.{second}
@@ -68,10 +68,6 @@ not-both : (a b : Bool) → (a ≡ true → b ≡ false) → (a && b) ≡ false
 not-both true b h = h refl
 not-both false b h = refl
 
-denied : (b : Bool) → b ≡ true → not b ≡ false
-denied true e = refl
-denied false e = cc
-
 first-of : (a b : Bool) → (a && b) ≡ true → a ≡ true
 first-of true b e = refl
 first-of false b e = cc
@@ -79,10 +75,6 @@ first-of false b e = cc
 second-of : (a b : Bool) → (a && b) ≡ true → b ≡ true
 second-of true b e = e
 second-of false b e = cc
-
-both-hold : (a b : Bool) → a ≡ true → b ≡ true → (a && b) ≡ true
-both-hold true b d e = e
-both-hold false b d e = cc
 
 -- ---- slots and their kinds
 
@@ -226,7 +218,7 @@ fine-readable p w f i x n s st none legal own =
 sub-known : (p : Program) (w : World) (f : Frame) (i : Instr) (s : TypeState) (q : Slot) (k : SlotKind) (u : ℕ) (test : Known → Bool) → Stands p w f i s → ((y : ℕ) → closes (Some i) y ≡ false) → FitsSlot w f q k → cause.at_sub s.entries k (λ scope state. not (cause.passes (cause.is_readable p.profile) scope && test state)) ≡ false → q ≡ Sub u → (state : Known) × ((test state ≡ true) × (is_known state (sub_state w u) ≡ true) × (misuse.is_readable p.profile (scope_of w u) ≡ true))
 sub-known p w f i s (Sub v) (kind_of.Sub y state) u test st none h legal e =
     let same : v ≡ u = cc in
-    let all = holds-not (cause.passes (cause.is_readable p.profile) (scope_in s.entries y) && test state) legal in
+    let all = not-false (cause.passes (cause.is_readable p.profile) (scope_in s.entries y) && test state) legal in
     let readable = first-of (cause.passes (cause.is_readable p.profile) (scope_in s.entries y)) (test state) all in
     let r = own-scope p w f s y h.scope (cause.is_readable p.profile) st.fits h.own (denied-own (cause.is_own (kind s y)) (cause.passes (cause.is_readable p.profile) (scope_in s.entries y)) readable) in
     let fine = readable-phase p.profile r.0.phase (scope_at w h.scope).phase (scope_at w h.scope).expired r.1.1 (not-at-close p w f i y h.scope r.0 st.at none r.1.2) in
@@ -234,7 +226,7 @@ sub-known p w f i s (Sub v) (kind_of.Sub y state) u test st none h legal e =
     (state, (second-of (cause.passes (cause.is_readable p.profile) (scope_in s.entries y)) (test state) all, h.known, rw (h.inside) fine))
   where
     denied-own : (a b : Bool) → b ≡ true → (a && not b) ≡ false
-    denied-own true b e = denied b e
+    denied-own true b e = not_from_true b e
     denied-own false b e = refl
 sub-known p w f i s Empty k u test st none h legal e = cc
 sub-known p w f i s (Own n) k u test st none h legal e = cc
@@ -267,7 +259,7 @@ innermost-scope (typed.Scope r ∷ rs) x e = (r, rw e refl)
 
 innermost-own : (p : Program) (w : World) (f : Frame) (s : TypeState) (x n : ℕ) → Stands p w f (Close x) s → slot f x ≡ Own n → cause.innermost (cause.is_scope_in x) s.entries ≡ true
 innermost-own p w f s x n st own =
-    holds-not (cause.innermost (cause.is_scope_in x) s.entries)
+    not-false (cause.innermost (cause.is_scope_in x) s.entries)
     (or_parts (not (cause.innermost (cause.is_scope_in x) s.entries)) (cause.is_held s) (second (cause.is_own (kind s x)) (not (cause.innermost (cause.is_scope_in x) s.entries) || cause.is_held s) (kind-own w f (slot f x) (kind s x) n (st.fits.slots x) own) st.clear.structure)).0
 
 fine-close : (p : Program) (w : World) (f : Frame) (s : TypeState) (x n : ℕ) → Stands p w f (Close x) s → slot f x ≡ Own n → misuse.is_opened (scope_at w n).phase ≡ false
@@ -282,27 +274,27 @@ fine-legal p w f (Fork x g q) s st =
     at_own-fails w (slot f x) (λ _ scope. not (misuse.is_opened scope.phase))
     (λ n own.
     let r = own-scope p w f s x n cause.is_opened st.fits own st.clear.legal in
-    denied _ (opened-phase r.0.phase (scope_at w n).phase (scope_at w n).expired r.1.1 (not-at-close p w f (Fork x g q) x n r.0 st.at (λ y. refl) r.1.2)))
+    not_from_true _ (opened-phase r.0.phase (scope_at w n).phase (scope_at w n).expired r.1.1 (not-at-close p w f (Fork x g q) x n r.0 st.at (λ y. refl) r.1.2)))
 fine-legal p w f (Join x failed timeout interrupted) s st =
     at_own-fails w (slot f x) (λ _ scope. not (misuse.can_join scope.phase))
     (λ n own.
     let r = own-scope p w f s x n cause.can_join st.fits own st.clear.legal in
-    denied _ (joining-phase r.0.phase (scope_at w n).phase (scope_at w n).expired r.1.1 (not-at-close p w f (Join x failed timeout interrupted) x n r.0 st.at (λ y. refl) r.1.2)))
+    not_from_true _ (joining-phase r.0.phase (scope_at w n).phase (scope_at w n).expired r.1.1 (not-at-close p w f (Join x failed timeout interrupted) x n r.0 st.at (λ y. refl) r.1.2)))
 fine-legal p w f (Close x) s st =
     at_own-fails w (slot f x) (λ n scope. misuse.is_opened scope.phase && nat_lt 0 (subtask_count w n))
     (λ n own. not-both (misuse.is_opened (scope_at w n).phase) (nat_lt 0 (subtask_count w n)) (λ opened. let never = fine-close p w f s x n st own in cc))
-fine-legal p w f (Tally x k) s st = at_own-fails w (slot f x) (λ _ scope. not (misuse.is_readable p.profile scope)) (λ n own. denied _ (fine-readable p w f (Tally x k) x n s st (λ y. refl) st.clear.legal own))
-fine-legal p w f (Total x) s st = at_own-fails w (slot f x) (λ _ scope. not (misuse.is_readable p.profile scope)) (λ n own. denied _ (fine-readable p w f (Total x) x n s st (λ y. refl) st.clear.legal own))
+fine-legal p w f (Tally x k) s st = at_own-fails w (slot f x) (λ _ scope. not (misuse.is_readable p.profile scope)) (λ n own. not_from_true _ (fine-readable p w f (Tally x k) x n s st (λ y. refl) st.clear.legal own))
+fine-legal p w f (Total x) s st = at_own-fails w (slot f x) (λ _ scope. not (misuse.is_readable p.profile scope)) (λ n own. not_from_true _ (fine-readable p w f (Total x) x n s st (λ y. refl) st.clear.legal own))
 fine-legal p w f (Get x) s st =
     at_sub-fails w (slot f x) (λ u scope. not (misuse.is_readable p.profile scope && misuse.has_succeeded (sub_state w u)))
     (λ u e.
     let h = sub-known p w f (Get x) s (slot f x) (kind s x) u cause.is_known_success st (λ y. refl) (st.fits.slots x) st.clear.legal e in
-    denied _ (both-hold _ _ h.1.2 (success-known h.0 (sub_state w u) h.1.0 h.1.1)))
+    not_from_true _ (and_from _ _ h.1.2 (success-known h.0 (sub_state w u) h.1.0 h.1.1)))
 fine-legal p w f (Except x) s st =
     at_sub-fails w (slot f x) (λ u scope. not (misuse.is_readable p.profile scope && misuse.has_failed (sub_state w u)))
     (λ u e.
     let h = sub-known p w f (Except x) s (slot f x) (kind s x) u cause.is_known_failed st (λ y. refl) (st.fits.slots x) st.clear.legal e in
-    denied _ (both-hold _ _ h.1.2 (failed-known h.0 (sub_state w u) h.1.0 h.1.1)))
+    not_from_true _ (and_from _ _ h.1.2 (failed-known h.0 (sub_state w u) h.1.0 h.1.1)))
 fine-legal p w f i s st = refl
 
 -- ---- the structure list
@@ -352,7 +344,7 @@ fine-structure p w f (Fork x g q) s st =
     (λ n own. same-after p w f f.entries s.entries x n st.fits.apart own st.fits.entries (second (cause.is_own (kind s x)) (cause.binds_after x s.entries) (kind-own w f (slot f x) (kind s x) n (st.fits.slots x) own) st.clear.structure))
 fine-structure p w f (Close x) s st =
     at_own-fails w (slot f x) (λ n _. not (misuse.innermost (misuse.is_entry_of n) f.entries))
-    (λ n own. denied _ (same-innermost p w f f.entries s.entries x n own st.fits.entries (innermost-own p w f s x n st own)))
+    (λ n own. not_from_true _ (same-innermost p w f f.entries s.entries x n own st.fits.entries (innermost-own p w f s x n st own)))
 fine-structure p w f Unbind s st = ap not (same-binding p w f f.entries s.entries st.fits.entries) ∙ (or_parts (not (cause.innermost cause.is_binding s.entries)) (cause.is_held s) st.clear.structure).0
 fine-structure p w f Ret s st = rw (zips-length (FitsEntry p w f) f.entries s.entries st.fits.entries) st.clear.structure
 fine-structure p w f Fail s st = rw (zips-length (FitsEntry p w f) f.entries s.entries st.fits.entries) st.clear.structure
@@ -367,7 +359,7 @@ some-is-there (Some x) e = refl
 fine-bound : (p : Program) (w : World) (t : ℕ) (i : Instr) (s : TypeState) → program_fault p.routines ≡ None → Stands p w (task_at w t).frame i s → Covers p (task_at w t).frame.function [] (parent w (task_at w t).scope).environment → misuse.is_unbound w t i ≡ false
 fine-bound p w t (Read k) s checked st bound =
     let range = (instr_checked p (task_at w t).frame (Read k) checked st.inside st.at).1 in
-    some-is-there (read (environment_of (task_at w t) w) k) (covers-environment p w t s (Read k) st bound k (grind (arith, nat_tests, range)) (holds-not (is_due p (task_at w t).frame.function s.entries k) st.clear.bound))
+    some-is-there (read (environment_of (task_at w t) w) k) (covers-environment p w t s (Read k) st bound k (grind (arith, nat_tests, range)) (not-false (is_due p (task_at w t).frame.function s.entries k) st.clear.bound))
 fine-bound p w t i s checked st bound = refl
 
 -- ---- all rows

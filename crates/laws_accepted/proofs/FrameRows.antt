@@ -27,7 +27,7 @@ use Rattle.sts_rules.specs.Edges.{follows, moved, known_as, with_known}
 use Rattle.sts_model.specs.Effect.{named, case_target}
 use Rattle.sts_rules.specs.Flow.{Leads}
 use Rattle.laws_runs.proofs.ListLemmas.{at_set}
-use Rattle.std.proofs.lemmas.Bool.{or_parts}
+use Rattle.std.proofs.lemmas.Bool.{or_parts, not-false}
 use Rattle.laws_runs.proofs.FrameLemmas.{owns-set}
 use Rattle.laws_accepted.specs.Typed.{closes, is_known, FitsEntry, FitsSlot}
 use Rattle.laws_accepted.proofs.Zips.{zips-map, zips-drop, both-set}
@@ -53,10 +53,6 @@ sub-owns_nothing _ d e = cc
 pub empty-owns_nothing : (k : SlotKind) → cause.is_empty k ≡ true → cause.is_own k ≡ true → ⊥
 empty-owns_nothing kind_of.Own d e = cc
 empty-owns_nothing _ d e = cc
-
-pub holds-not : (b : Bool) → not b ≡ false → b ≡ true
-holds-not true e = refl
-holds-not false e = cc
 
 -- a write to a slot that owns nothing leaves the others
 pub own-set : (xs : List Slot) (h : ℕ) (new : Slot) → ((n : ℕ) → get_or xs h Empty ≡ Own n → ⊥) → (x n : ℕ) → get_or xs x Empty ≡ Own n → get_or (set xs h new) x Empty ≡ Own n
@@ -148,7 +144,7 @@ lands-forget p w f h s st =
 
     never : (n : ℕ) → slot f h ≡ Own n → ⊥
     never n e =
-        let sub : cause.is_sub (kind s h) ≡ true = holds-not (cause.is_sub (kind s h)) (or_parts false (not (cause.is_sub (kind s h))) st.clear.slots).1 in
+        let sub : cause.is_sub (kind s h) ≡ true = not-false (cause.is_sub (kind s h)) (or_parts false (not (cause.is_sub (kind s h))) st.clear.slots).1 in
         sub-owns_nothing (kind s h) sub (kind-own w f (slot f h) (kind s h) n (st.fits.slots h) e)
 
     on : Onward p f (record (steps f 0 []) { slots = slice_set f.slots h Empty })

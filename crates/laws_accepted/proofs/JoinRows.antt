@@ -5,9 +5,10 @@ use Rattle.std.proofs.Common.{arith, not, ◌||◌, ◌&&◌, unwrap_or, length-
 use Rattle.std.proofs.Common.{get_or-set_other}
 use Rattle.std.specs.Prelude.{ℤ, pos, ◌==◌, is_some, find, option_map}
 use Rattle.std.specs.List.{list_any}
-use Rattle.std.proofs.lemmas.Bool.{cond_both, or_parts}
+use Rattle.std.proofs.lemmas.Bool.{cond_both, or_parts, not-false}
 use Rattle.std.proofs.lemmas.Bool.Decides.{nat_tests}
 use Rattle.std.proofs.lemmas.List.{length-map}
+use Rattle.std.proofs.Math.ListN.{get_or-map}
 use Rattle.sts_code.specs.Program.{Program, routine}
 use Rattle.sts_code.specs.declared.instr.Instr.{Instr}
 use Rattle.sts_code.specs.declared.instr.Instr.TheVariants.{Join}
@@ -54,11 +55,11 @@ use Rattle.laws_runs.proofs.ScopeLemmas.{has_ended}
 use Rattle.laws_runs.proofs.OrderlyLemmas.{Orderly}
 use Rattle.laws_runs.specs.Scopes.{is_leaving, is_asked}
 use Rattle.laws_accepted.specs.Typed.{closes, fits_phase, FitsEntry, FitsSlot, Fits}
-use Rattle.laws_accepted.proofs.Zips.{zips-mapped, mapped}
+use Rattle.laws_accepted.proofs.Zips.{zips-mapped}
 use Rattle.laws_accepted.proofs.Same.{Knows, SameScope, samescope-refl, slot-same, slot-on}
 use Rattle.laws_accepted.proofs.Others.{knows-later}
 use Rattle.laws_accepted.proofs.Stands.{Stands, Lands, not_closing, onward-slots}
-use Rattle.laws_accepted.proofs.FrameRows.{kind-own, holds-not}
+use Rattle.laws_accepted.proofs.FrameRows.{kind-own}
 use Rattle.laws_accepted.proofs.Phases.{InSlot, in-slot, Moved, entry-phase}
 
 -- ---- a phase and operands
@@ -285,7 +286,7 @@ succeeds p w t x n failed timeout interrupted s pushed h e long all later =
     (λ y.
     cond_both (is_all_success j) (succeeded x s.slots) s.slots (λ (ks : List SlotKind). FitsSlot w f (slot f y) (get_or ks y kind_of.Empty))
     (λ is.
-    subst (λ (k : SlotKind). FitsSlot w f (slot f y) k) (sym (mapped (λ (k : SlotKind). cond (is_sub_of x k) (kind_of.Sub x known.Success) k) s.slots y kind_of.Empty))
+    subst (λ (k : SlotKind). FitsSlot w f (slot f y) k) (sym (get_or-map (λ (k : SlotKind). cond (is_sub_of x k) (kind_of.Sub x known.Success) k) s.slots y kind_of.Empty))
     (slot-succeeded w f x n (slot f y) (kind s y) h.own (all is) (st.fits.slots y)))
     (λ is. st.fits.slots y))
     (cond_both (is_all_success j) (succeeded x s.slots) s.slots (λ (ks : List SlotKind). length ks ≡ 16) (λ is. length-map s.slots _ ∙ st.fits.typed_wide) (λ is. st.fits.typed_wide))
@@ -310,7 +311,7 @@ lands-join p w t x n failed timeout interrupted s h =
 
 passed : (test : TypedScope → Bool) (o : Option TypedScope) → not (cause.passes test o) ≡ false → (r : TypedScope) × ((o ≡ Some r) × (test r ≡ true))
 passed test None e = cc
-passed test (Some r) e = (r, (refl, holds-not (test r) e))
+passed test (Some r) e = (r, (refl, not-false (test r) e))
 
 -- the scope of a slot that is owned, if the typestate has one that passes a test
 pub own-scope : (p : Program) (w : World) (f : Frame) (s : TypeState) (x n : ℕ) (test : TypedScope → Bool) → Fits p w f s → slot f x ≡ Own n → cause.at_own s x (λ scope. not (cause.passes test scope)) ≡ false → (r : TypedScope) × ((scope_in s.entries x ≡ Some r) × (test r ≡ true) × InSlot p w f x n r)
@@ -323,7 +324,7 @@ own-scope p w f s x n test h own e =
     second true b d e = e
     second false b d e = cc
 
-as_same : (a b : Bool) → not (same a b) ≡ false → b ≡ true → a ≡ true
+pub as_same : (a b : Bool) → not (same a b) ≡ false → b ≡ true → a ≡ true
 as_same true b e h = refl
 as_same false true e h = cc
 as_same false false e h = cc
@@ -341,5 +342,5 @@ at-join p w t x n failed timeout interrupted s h timely alive st own legal right
       failing = as_same (is_some failed) (can_fail (scope_at w n).joiner) (or_parts _ (not (same (is_some failed) (can_fail (scope_at w n).joiner))) targets.0).1;
       timing = λ e. as_same (is_some timeout) (scope_at w n).timed targets.1 (timely e);
       joiner = ap joiner_of r.1.0 ∙ sym r.1.2.fits.scope.joiner;
-      succeeded = all_succeeded w n h born (holds-not (can_join (scope_at w n).phase) legal);
+      succeeded = all_succeeded w n h born (not-false (can_join (scope_at w n).phase) legal);
     }

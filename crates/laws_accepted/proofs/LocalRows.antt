@@ -5,7 +5,7 @@ use Rattle.std.proofs.Common.{not, arith, unwrap_or, length-append, length-drop}
 use Rattle.std.specs.Prelude.{ℤ, pos, is_none, nat_le, option_map, option_to_list, ◌==◌}
 use Rattle.std.specs.Int.{int_wrapping_div, w64}
 use Rattle.std.specs.Ordering.{int_eq}
-use Rattle.std.proofs.lemmas.Bool.{cond_both, or_parts}
+use Rattle.std.proofs.lemmas.Bool.{cond_both, or_parts, not-false}
 use Rattle.std.proofs.lemmas.Bool.Decides.{nat_tests}
 use Rattle.sts_code.specs.Program.{Program, routine}
 use Rattle.sts_code.specs.declared.instr.Instr.{Instr}
@@ -100,10 +100,6 @@ tails xs (y ∷ ys) x e = cc
 bounded : (is : List Instr) (at pc : ℕ) (o : Option ℕ) → match_of is at ≡ o → is_at o pc ≡ true → at + 1 < length is
 bounded is at pc None e h = cc
 bounded is at pc (Some m) e h = match_of_bound is at m e
-
-not-false : (b : Bool) → not b ≡ false → b ≡ true
-not-false true e = refl
-not-false false e = cc
 
 -- the innermost loop ends here
 closes_here : (p : Program) (w : World) (f : Frame) (s : TypeState) → Stands p w f Next s → cause.closes_loop (routine p f.function).code f.pc s.loops ≡ true

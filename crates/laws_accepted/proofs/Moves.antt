@@ -5,7 +5,7 @@ use Rattle.std.proofs.Common.{Bool, true, false, Option, Some, None, refl, sym, 
 use Rattle.std.proofs.Common.{length, arith, cond, get_or, set, drop, take, not, ◌||◌}
 use Rattle.std.proofs.Common.{get_or-set_same}
 use Rattle.std.specs.Prelude.{◌==◌, is_some, unwrap_or, option_to_list, slice_index_or}
-use Rattle.std.proofs.lemmas.Bool.{cond_both, or_parts}
+use Rattle.std.proofs.lemmas.Bool.{cond_both, or_parts, not-false}
 use Rattle.std.proofs.lemmas.Bool.Decides.{nat_tests}
 use Rattle.sts_code.specs.Program.{Program, instr_at}
 use Rattle.sts_code.specs.declared.instr.Instr.{Instr}
@@ -46,6 +46,7 @@ use Rattle.laws_accepted.proofs.Flow.{GoesOn, goes_to, Same}
 use Rattle.laws_accepted.proofs.Points.{zips_map, not_in_rest}
 use Rattle.laws_accepted.proofs.Turns.{Turned, alike-scope, turned-frame}
 use Rattle.laws_accepted.proofs.Good.{Entering}
+use Rattle.laws_accepted.proofs.JoinRows.{as_same}
 
 -- the task t goes on with another frame, at the next point of a path
 pub record Moves (p : Program) (budgets : List Budgets) (w v : World) (t : ℕ) (i : Instr) : Type 0 where
@@ -118,11 +119,6 @@ failed_can AwaitAll es n c e = cc
 failed_can (Until q) es n c e = cc
 failed_can _ es n c e = refl
 
-as_said : (a b : Bool) → not (same a b) ≡ false → b ≡ true → a ≡ true
-as_said true b e h = refl
-as_said false true e h = cc
-as_said false false e h = cc
-
 module _ (p : Program) (budgets : List Budgets) (w : World) (t x : ℕ) (failed timeout : Option ℕ) (interrupted : ℕ) (born : t < length w.tasks) (at : instr_at (code p (task_at w t).frame) (task_at w t).frame.pc ≡ Join x failed timeout interrupted) where
   moves_join_to : (v : World) (g : Frame) → Turned w v t (record (task_at w t) { frame = g }) → Among (Targets failed timeout interrupted ((task_at w t).frame.pc + 1)) g.pc → g.loops ≡ (task_at w t).frame.loops → Same (task_at w t).frame g → Moves p budgets w v t (Join x failed timeout interrupted)
   moves_join_to v g turned among loops h =
@@ -148,10 +144,10 @@ module _ (p : Program) (budgets : List Budgets) (w : World) (t x : ℕ) (failed 
       let b = or_parts _ (not (same (is_some failed) (can_fail (scope_at w s).joiner))) a.0 in
       let q : Verdict = result_of (scope_at w s).joiner (ends (scope_at w s)) (subtask_count w s) in
       cond_both (scope_at w s).expired _ _ (λ (v : World). Moves p budgets w v t (Join x failed timeout interrupted))
-      (λ e. moves_joined s (goes (task_at w t).frame (unwrap_or timeout 0) 0 []) (among_timeout failed timeout interrupted ((task_at w t).frame.pc + 1) (as_said (is_some timeout) (scope_at w s).timed a.1 (timely e))) refl (record { function = refl; entries = refl; slots = refl }))
+      (λ e. moves_joined s (goes (task_at w t).frame (unwrap_or timeout 0) 0 []) (among_timeout failed timeout interrupted ((task_at w t).frame.pc + 1) (as_same (is_some timeout) (scope_at w s).timed a.1 (timely e))) refl (record { function = refl; entries = refl; slots = refl }))
       (λ e.
       cond_both ((scope_at w s).cancelled || not (any_lives w s)) _ _ (λ (v : World). Moves p budgets w v t (Join x failed timeout interrupted))
-      (λ h. moves_verdict s q (λ c k. as_said (is_some failed) (can_fail (scope_at w s).joiner) b.1 (failed_can (scope_at w s).joiner (ends (scope_at w s)) (subtask_count w s) c k)))
+      (λ h. moves_verdict s q (λ c k. as_same (is_some failed) (can_fail (scope_at w s).joiner) b.1 (failed_can (scope_at w s).joiner (ends (scope_at w s)) (subtask_count w s) c k)))
       (λ h. moves_join_to _ (goes (task_at w t).frame interrupted 0 [])
       (turned-frame w (with_phase w s Attempted) t (goes (task_at w t).frame interrupted 0 []) false born (alike-scope w s (record (scope_at w s) { phase = Attempted })))
       (among_interrupted failed timeout interrupted ((task_at w t).frame.pc + 1)) refl (record { function = refl; entries = refl; slots = refl })))
@@ -168,12 +164,8 @@ unbind_zips budgets earlier tasks own (entry.Binding k y ∷ es) [] first z sl =
 unbind_zips budgets earlier tasks own (entry.Binding k y ∷ es) (OpenScope x fs ∷ os) first z sl = absurd z.0
 unbind_zips budgets earlier tasks own (entry.Binding k y ∷ es) (OpenBinding ∷ os) first z sl = (z.1, sl)
 
-pub not_false : (b : Bool) → not b ≡ false → b ≡ true
-not_false true e = refl
-not_false false e = cc
-
 pub entering_unbind : (budgets : List Budgets) (tasks : List Task) (f : Frame) → not (innermost is_binding f.entries) ≡ false → Entering budgets tasks f Unbind (record (steps f 0 []) { entries = drop 1 f.entries })
-entering_unbind budgets tasks f first os z sl = unbind_zips budgets (take f.function budgets) tasks (slot f) f.entries os (not_false (innermost is_binding f.entries) first) z sl
+entering_unbind budgets tasks f first os z sl = unbind_zips budgets (take f.function budgets) tasks (slot f) f.entries os (not-false (innermost is_binding f.entries) first) z sl
 
 -- ---- slots that are written
 
@@ -276,4 +268,4 @@ close_zips budgets earlier w xs s (entry.Scope r ∷ es) (OpenScope y fs ∷ os)
     rest x q mine other (inr h) = h
 
 pub entering_close : (budgets : List Budgets) (w u : World) (f : Frame) (x s : ℕ) → not (innermost (is_entry_of s) f.entries) ≡ false → times_in s f.entries ≤ 1 → Entering budgets w.tasks f (Close x) (record (steps f 0 []) { entries = drop 1 f.entries; slots = cleared u s f.slots })
-entering_close budgets w u f x s first once os z sl = close_zips budgets (take f.function budgets) w f.slots s f.entries os (not_false (innermost (is_entry_of s) f.entries) first) once z sl u
+entering_close budgets w u f x s first once os z sl = close_zips budgets (take f.function budgets) w f.slots s f.entries os (not-false (innermost (is_entry_of s) f.entries) first) once z sl u

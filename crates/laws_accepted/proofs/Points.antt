@@ -17,7 +17,7 @@ use Rattle.sts_rules.specs.Budget.{Measure, budget_at, entry_sum, entries_sum, f
 use Rattle.laws_runs.proofs.EntryLemmas.{Has, times_in, times-cons}
 use Rattle.laws_accepted.specs.Costs.{Peak, subtask_shares, entry_use}
 use Rattle.laws_accepted.specs.Points.{Matches, Zips, Opens}
-use Rattle.laws_accepted.proofs.Balance.{times-some}
+use Rattle.laws_runs.proofs.EnteredLemmas.{some_times}
 
 -- ---- what an entry uses
 
@@ -96,7 +96,7 @@ zips_has budgets earlier tasks own x s mine (entry.Scope r ∷ es) (OpenScope y 
 pub not_in_rest : (s : ℕ) (es : List Entry) → times_in s (entry.Scope s ∷ es) ≤ 1 → Has s es → ⊥
 not_in_rest s es once has =
     let a = times-cons (entry.Scope s) es s in
-    let b = times-some es s has in
+    let b = some_times es s has in
     let here : (s == s) ≡ true = grind (arith, nat_tests) in
     let one : cond {A = ℕ} (s == s) 1 0 ≡ 1 = rw here refl in
     omega (arith, a, b, one, once)

@@ -1,22 +1,17 @@
 -- The program checks bound the slot of an `open`.
 use Rattle.std.proofs.Common.{◌≡◌, ℕ, ◌+◌, ◌<◌, List, [], ◌∷◌, length, Bool, true}
 use Rattle.std.proofs.Common.{◌≤◌, ◌⊎◌, inl, inr, false, None, ◌||◌, refl, arith}
-use Rattle.std.proofs.lemmas.Bool.{cases_lt, ltb-false}
+use Rattle.std.proofs.lemmas.Bool.{cases_lt, ltb-false, or_parts}
 use Rattle.sts_code.specs.Checks as def
 use Rattle.sts_code.specs.Program.{Program, Routine, routine, instr_at}
 use Rattle.sts_code.specs.declared.instr.Instr.TheVariants.{Open}
 use Rattle.sts_code.specs.declared.instr.Joiner.{Joiner}
 use Rattle.sts_code.proofs.InstrLemmas.{sound_at}
 
-first_false : (a b : Bool) → (a || b) ≡ false → a ≡ false
-first_false true b e = cc
-first_false false b e = refl
-
--- there are 16 slots
 pub opens_in_range : (p : Program) (f pc x : ℕ) (j : Joiner) (timed : Bool) → def.program_fault p.routines ≡ None → f < length p.routines → instr_at (routine p f).code pc ≡ Open x j timed → x < 16
 opens_in_range p f pc x j timed e low is =
     let sound = sound_at p f pc (Open x j timed) e low is (λ z. (cc)) in
-    let few = ltb-false 15 x (first_false (def.is_past x) (def.has_bad_count j) sound.range) in
+    let few = ltb-false 15 x (or_parts (def.is_past x) (def.has_bad_count j) sound.range).0 in
     omega (arith, few)
 
 some_of : (rs : List Routine) → def.program_fault rs ≡ None → 0 < length rs

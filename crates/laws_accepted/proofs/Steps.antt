@@ -6,6 +6,7 @@ use Rattle.std.specs.Prelude.{nat_lt}
 use Rattle.std.proofs.lemmas.Bool.Decides.{nat_tests}
 use Rattle.std.proofs.lemmas.List.{get_or_append_left}
 use Rattle.std.proofs.Math.Seq.{get_or-append_seam}
+use Rattle.std.proofs.lemmas.Bool.{not_from_true}
 use Rattle.sts_code.specs.Checks.{program_fault}
 use Rattle.sts_code.specs.Program.{Program, routine}
 use Rattle.sts_code.specs.declared.instr.Instr.{Instr}
@@ -104,12 +105,8 @@ landed-open p w t x joiner timed s sound alive st bound less =
     in
     framed p w m t (opener w (task_at w t).frame x) (task_at w t).flag alive (lands-open p w t x joiner timed s st same (covers-environment p w t s (Open x joiner timed) st bound) less below)
 
-not-true : (b : Bool) → b ≡ true → not b ≡ false
-not-true true e = refl
-not-true false e = cc
-
 fresh-child : (p : Program) (w : World) (f : Frame) (n a : ℕ) → IsFresh w (subtask_of p w f n a)
-fresh-child p w f n a r inside cancelled = let same : n ≡ r = cc in not-true (scope_at w n).cancelled (rw same cancelled)
+fresh-child p w f n a r inside cancelled = let same : n ≡ r = cc in not_from_true (scope_at w n).cancelled (rw same cancelled)
 
 landed-fork : (p : Program) (w : World) (t x a n : ℕ) (h : Option ℕ) (s : TypeState) → t < length w.tasks → Stands p w (task_at w t).frame (Fork x a h) s → slot (task_at w t).frame x ≡ slots.Own n → Lands p (fork_task p w t (task_at w t).frame n a h) (task_at w t).frame (task_at (fork_task p w t (task_at w t).frame n a h) t).frame
 unfolding fork_task

@@ -50,9 +50,3 @@ both-set P (x ∷ xs) (y ∷ ys) (suc h) zero a d b e same new old = old zero
 both-set P (x ∷ xs) (y ∷ ys) (suc h) (suc i) a d b e same new old = both-set P xs ys h i a d b e (omega (arith, same)) new (λ j. old (suc j))
 both-set P [] (y ∷ ys) h i a d b e same new old = absurd (omega (arith, same))
 both-set P (x ∷ xs) [] h i a d b e same new old = absurd (omega (arith, same))
-
--- an element of a list that a function was applied to
-pub mapped : {X Y : Type 0} (g : X → Y) (xs : List X) (y : ℕ) (d : X) → get_or (map g xs) y (g d) ≡ g (get_or xs y d)
-mapped g [] y d = refl
-mapped g (x ∷ xs) zero d = refl
-mapped g (x ∷ xs) (suc y) d = mapped g xs y d

@@ -7,6 +7,7 @@ use Rattle.std.proofs.lemmas.List.{map-append}
 use Rattle.std.proofs.lemmas.List.Folds.{find-append}
 use Rattle.std.specs.Option.{option_or}
 use Rattle.std.specs.Prelude.{option_map, find, ◌==◌}
+use Rattle.std.proofs.Math.Bool.{and-false}
 use Rattle.sts_model.specs.declared.event.End.{End}
 use Rattle.sts_model.specs.declared.event.End.TheVariants.{Success}
 use Rattle.sts_model.specs.declared.record.Frame.{Frame}
@@ -33,7 +34,7 @@ use Rattle.laws_live.specs.Reading.{task_in, scope_in, live_scope_at}
 use Rattle.laws_live.specs.Effect.{live_told, live_decide, live_complete, live_tell, live_ended}
 use Rattle.laws_live.specs.Effect.{live_end}
 use Rattle.laws_live.specs.Cancelling.{live_cancel}
-use Rattle.laws_live.proofs.ListLemmas.{map_kept, and_false}
+use Rattle.laws_live.proofs.ListLemmas.{map_kept}
 use Rattle.laws_live.proofs.ViewLemmas.{shown, seen_of, seen, seen_scope, tasks_born, scopes_born}
 use Rattle.laws_live.proofs.ViewLemmas.{task_here, scope_here, same_view, scope_is, task_is}
 use Rattle.laws_live.proofs.Changes.{seen-written, seen-cancel}
@@ -47,7 +48,7 @@ no_longer_lives false o q a = refl
 pub seen-ended : (w : World) (t : ℕ) (f : Frame) (end : End) → t < length w.tasks → live (ended w t f end) ≡ live_ended (live w) t end
 seen-ended w t f end born =
     seen-written w t x (option_map (λ (task : LiveTask). record task { alive = None }) (task_in (live w) t)) (cond (t == 0) (Some end) (task_at w 0).outcome) born
-    (rw (task_here w t born, and_false (task_at w t).started) (no_longer_lives (stands_in w (task_at w t).scope) (task_at w t).scope _ _))
+    (rw (task_here w t born, and-false (task_at w t).started) (no_longer_lives (stands_in w (task_at w t).scope) (task_at w t).scope _ _))
     (root (t == 0) refl)
   where
     x : Task

@@ -2,6 +2,7 @@
 use Rattle.std.proofs.Common.{◌≡◌, ℕ, Bool, true, false, refl, sym, ◌∙◌, ap, cond, ◌&&◌, not}
 use Rattle.std.proofs.Common.{get_or-set_same}
 use Rattle.std.specs.Prelude.{unwrap_or}
+use Rattle.std.proofs.Math.Bool.{and-false}
 use Rattle.sts_model.specs.declared.event.Phase.{Phase}
 use Rattle.sts_model.specs.declared.event.Phase.TheVariants.{Opened, Attempted, Joined, Closing}
 use Rattle.sts_model.specs.declared.event.Phase.TheVariants.{Closed}
@@ -17,7 +18,6 @@ use Rattle.laws_runs.proofs.BirthLemmas.{born_alive}
 use Rattle.laws_live.specs.Reading.{no_live_scope, live_scope_at, with_alive, with_live_scope}
 use Rattle.laws_live.specs.Cancelling.{live_cancel}
 use Rattle.laws_live.specs.Outside.{live_interrupt, live_can_expire, live_expire}
-use Rattle.laws_live.proofs.ListLemmas.{and_false}
 use Rattle.laws_live.proofs.ViewLemmas.{scope_is, lives_is, scope_gone}
 use Rattle.laws_live.proofs.Changes.{seen-task, seen-scope, seen-cancel}
 use Rattle.laws_live.proofs.EffectLemmas.{seen-cond}
@@ -42,7 +42,7 @@ can_expire_is w s = by (is_closed (scope_at w s).phase) refl
     by false still = ap live_can_expire (scope_is w s still)
     by true closed =
         let shut : can_join (scope_at w s).phase ≡ false = shut_joins (scope_at w s).phase closed in
-        let none : can_expire (scope_at w s) ≡ false = rw shut (and_false ((scope_at w s).timed && not (scope_at w s).expired)) in
+        let none : can_expire (scope_at w s) ≡ false = rw shut (and-false ((scope_at w s).timed && not (scope_at w s).expired)) in
         ap (λ o. live_can_expire (unwrap_or o no_live_scope)) (scope_gone w s closed) ∙ sym none
 
 -- a scope that can expire isn't closed
@@ -53,7 +53,7 @@ open_timely w s can = by (is_closed (scope_at w s).phase) refl
     by false e = refl
     by true e =
         let shut : can_join (scope_at w s).phase ≡ false = shut_joins (scope_at w s).phase e in
-        let none : can_expire (scope_at w s) ≡ false = rw shut (and_false ((scope_at w s).timed && not (scope_at w s).expired)) in
+        let none : can_expire (scope_at w s) ≡ false = rw shut (and-false ((scope_at w s).timed && not (scope_at w s).expired)) in
         cc
 
 pub seen-expire : (w : World) (s : ℕ) → live (expire w s) ≡ live_expire (live w) s

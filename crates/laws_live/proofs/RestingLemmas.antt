@@ -103,8 +103,8 @@ rests-flag v t u b =
     by None = same-refl None
     by (Some task) = flag-same b task
 
--- a list after a function, at one place
-mapped : {X : Type 0} (f : Option X → Option X) (xs : List (Option X)) (u : ℕ) → f None ≡ None → get_or (map f xs) u None ≡ f (get_or xs u None)
+-- a list after a function that keeps holes, at one place
+pub mapped : {X : Type 0} (f : Option X → Option X) (xs : List (Option X)) (u : ℕ) → f None ≡ None → get_or (map f xs) u None ≡ f (get_or xs u None)
 mapped f [] u none = sym none
 mapped f (x ∷ xs) zero none = refl
 mapped f (x ∷ xs) (suc u) none = mapped f xs u none

@@ -4,7 +4,7 @@ use Rattle.std.proofs.Common.{sym, ◌∙◌, ap, subst, set, cond, ◌||◌, no
 use Rattle.std.proofs.Common.{arith, is_some, take}
 use Rattle.std.proofs.Math.Seq.{get_or-append_seam}
 use Rattle.std.proofs.lemmas.Bool.Decides.{nat_tests}
-use Rattle.std.proofs.lemmas.Bool.{and_parts}
+use Rattle.std.proofs.lemmas.Bool.{and_parts, eqb-false}
 use Rattle.std.specs.Prelude.{unwrap_or, ◌==◌, reverse}
 use Rattle.sts_code.specs.Program.{Program, routine}
 use Rattle.sts_code.specs.declared.instr.Instr.{Instr}
@@ -49,7 +49,6 @@ use Rattle.laws_live.specs.Stands.{IsUnmoved, EffectsMoveOne, InterruptsMoveNone
 use Rattle.laws_live.specs.Stands.{IdleStandFree, is_stand_at, StandsAreOwned, StandsStay}
 use Rattle.laws_live.proofs.Order as order
 use Rattle.laws_live.proofs.Safe as safe
-use Rattle.laws_live.proofs.Waking.{apart}
 use Rattle.laws_live.proofs.RestingLemmas.{Rests, rests-refl, rests-trans, rests-cond, rests-other}
 use Rattle.laws_live.proofs.RestingLemmas.{rests-more_tasks, rests-flag, rests-scope, IsAlien}
 use Rattle.laws_live.proofs.RestingLemmas.{rests-alien, rests-more_scopes, alien_of, rests-cancel}
@@ -234,7 +233,7 @@ owner_at : (v : Live) (t x : ℕ) → InOrder v → slot (alive_at v t).frame x 
 owner_at v t x o e = (owned v t x (named (slot (alive_at v t).frame x)) o e).owner
 
 pub effects_move_one : EffectsMoveOne
-effects_move_one p v o t u (Open x joiner timed) alive is e = unmoved p v _ u o (rests-open v t u x (alive_at v t).frame joiner timed (apart u t e))
+effects_move_one p v o t u (Open x joiner timed) alive is e = unmoved p v _ u o (rests-open v t u x (alive_at v t).frame joiner timed (eqb-false u t e))
 effects_move_one p v o t u (Fork x g h) alive is e = by (u == length v.tasks) refl
   where
     s : ℕ
@@ -244,19 +243,19 @@ effects_move_one p v o t u (Fork x g h) alive is e = by (u == length v.tasks) re
     by true d =
         let same : length v.tasks ≡ u = grind (arith, nat_tests) in
         subst (λ n. IsUnmoved p v (live_fork p v t (alive_at v t).frame (named (slot (alive_at v t).frame x)) g h) n) same
-        (newborn p v t (named (slot (alive_at v t).frame x)) g (alive_at v t).frame h (λ f. apart u t e (sym same ∙ f)))
-    by false d = unmoved p v _ u o (rests-fork p v t u (named (slot (alive_at v t).frame x)) g (alive_at v t).frame h (apart u t e) (apart u (length v.tasks) d))
+        (newborn p v t (named (slot (alive_at v t).frame x)) g (alive_at v t).frame h (λ f. eqb-false u t e (sym same ∙ f)))
+    by false d = unmoved p v _ u o (rests-fork p v t u (named (slot (alive_at v t).frame x)) g (alive_at v t).frame h (eqb-false u t e) (eqb-false u (length v.tasks) d))
 effects_move_one p v o t u (Join x failed timeout interrupted) alive is e =
     let f : Frame = (alive_at v t).frame in
     let mine = own_slot (slot f x) (first_no _ _ (first_no _ _ is.slots)) is.own in
-    unmoved p v _ u o (rests-join v t u (named (slot f x)) f (unwrap_or failed 0) (unwrap_or timeout 0) interrupted (apart u t e) (owner_at v t x o mine))
+    unmoved p v _ u o (rests-join v t u (named (slot f x)) f (unwrap_or failed 0) (unwrap_or timeout 0) interrupted (eqb-false u t e) (owner_at v t x o mine))
 effects_move_one p v o t u (Close x) alive is e =
     let f : Frame = (alive_at v t).frame in
     let mine = own_slot (slot f x) (first_no _ _ (first_no _ _ is.slots)) is.own in
-    unmoved p v _ u o (rests-close v t u (named (slot f x)) f (apart u t e) (owner_at v t x o mine))
-effects_move_one p v o t u Ret alive is e = unmoved p v _ u o (rests-end v t u (Success (operand (alive_at v t).frame 0)) (apart u t e))
-effects_move_one p v o t u Fail alive is e = unmoved p v _ u o (rests-end v t u (Failed (operand (alive_at v t).frame 0)) (apart u t e))
-effects_move_one p v o t u i alive is e = unmoved p v _ u o (rests-other v t u _ (apart u t e))
+    unmoved p v _ u o (rests-close v t u (named (slot f x)) f (eqb-false u t e) (owner_at v t x o mine))
+effects_move_one p v o t u Ret alive is e = unmoved p v _ u o (rests-end v t u (Success (operand (alive_at v t).frame 0)) (eqb-false u t e))
+effects_move_one p v o t u Fail alive is e = unmoved p v _ u o (rests-end v t u (Failed (operand (alive_at v t).frame 0)) (eqb-false u t e))
+effects_move_one p v o t u i alive is e = unmoved p v _ u o (rests-other v t u _ (eqb-false u t e))
 
 -- ---- from outside
 

@@ -37,7 +37,8 @@ use Rattle.sts_model.specs.Run.{apply, stepped, perform}
 use Rattle.sts_model.specs.Live.{live}
 use Rattle.laws_runs.specs.Runs.{In}
 use Rattle.laws_runs.proofs.ListLemmas.{at_set}
-use Rattle.std.proofs.lemmas.Bool.{and_parts}
+use Rattle.std.proofs.lemmas.Bool.{and_parts, eqb-false}
+use Rattle.std.proofs.Math.Bool.{and-false}
 use Rattle.laws_runs.proofs.KeptLemmas.{kept-cancel, at_raised}
 use Rattle.laws_runs.proofs.FrameLemmas.{own_slot}
 use Rattle.laws_runs.proofs.EffectLemmas.{first_no}
@@ -46,14 +47,13 @@ use Rattle.laws_runs.specs.Runs.{NeverFaults}
 use Rattle.laws_live.specs.Reading.{alive_at, lives_in}
 use Rattle.laws_live.specs.Waiting.{live_stands_at_join, live_stands_at_close, live_stand_at_instr}
 use Rattle.laws_live.specs.Waiting.{live_can_go, live_can_step}
-use Rattle.laws_live.proofs.ListLemmas.{and_false}
 use Rattle.laws_live.proofs.ViewLemmas.{scope_is, alive_is, any_is, lives_is, tasks_born}
 use Rattle.laws_live.proofs.EndLemmas.{open_some}
 use Rattle.laws_live.proofs.EffectLemmas.{Facts}
 use Rattle.laws_live.proofs.WaitingLemmas.{frame_is}
 use Rattle.laws_live.specs.Waking.{is_step_of, ReadyStays}
 use Rattle.laws_live.proofs.Looks.{Looks, looks-refl, same-scope-owned}
-use Rattle.laws_live.proofs.Waking.{between, apart, looks-phase, looks-effect, owner_of}
+use Rattle.laws_live.proofs.Waking.{between, looks-phase, looks-effect, owner_of}
 use Rattle.laws_live.proofs.Looks as looks
 
 -- ---- what wakes
@@ -263,7 +263,7 @@ unfolding end_task
 wakes-end w t u f end other =
     wakes-trans w (ended w t f end) _ u
     (wakes-task w t u (record (task_at w t) { frame = steps f 1 []; outcome = Some end }) other
-    (λ s e. let dead = and_false (task_at w t).started in let h = (and_parts (is_in s (task_at w t).scope) _ e).1 in let never : true ≡ false = sym h ∙ dead in cc))
+    (λ s e. let dead = and-false (task_at w t).started in let h = (and_parts (is_in s (task_at w t).scope) _ e).1 in let never : true ≡ false = sym h ∙ dead in cc))
     (wakes-tell (ended w t f end) t u (task_at w t).scope end)
 
 wakes-effect : (p : Program) (w : World) (t u : ℕ) (i : Instr) → Facts w → lives (task_at w t) ≡ true → IsFine p w t (task_at w t).frame i → (u ≡ t → ⊥) → u < length w.tasks → Wakes w (effect p w t (task_at w t).frame i) u
@@ -310,7 +310,7 @@ event_wakes p w (event.Step t) u o born h = by (can_step p w t) refl
   where
     by : (b : Bool) → can_step p w t ≡ b → In (λ v. Wakes w v u) (cond b (stepped (misuse p w t) p w t (task_at w t).frame) (Running w))
     by false e = wakes-refl w u
-    by true e = step_wakes p w t u o (and_parts (lives (task_at w t)) _ e).0 (apart u t h) born (misuse p w t) refl
+    by true e = step_wakes p w t u o (and_parts (lives (task_at w t)) _ e).0 (eqb-false u t h) born (misuse p w t) refl
 event_wakes p w (event.Interrupt t) u o born h = wakes-cond w u (lives (task_at w t)) _ w (λ e. interrupt_wakes w t u) (λ e. wakes-refl w u)
 event_wakes p w (event.Expire s) u o born h =
     let y : Scope = record (scope_at w s) { expired = true } in

@@ -8,6 +8,7 @@ use Rattle.std.proofs.lemmas.List.FromFn.{get_or-map-range_with_len, length-map-
 use Rattle.std.specs.Prelude.{is_some, unwrap_or, count_by, filter_map}
 use Rattle.std.specs.List.{enumerate_from, cons_option}
 use Rattle.std.proofs.lemmas.List.Sums.{sum_by-cons}
+use Rattle.std.proofs.Math.Bool.{and-false}
 use Rattle.sts_model.specs.declared.event.End.{End}
 use Rattle.sts_model.specs.declared.record.Task.{Task}
 use Rattle.sts_model.specs.declared.record.Scope.{Scope}
@@ -24,7 +25,7 @@ use Rattle.laws_runs.proofs.SoundLemmas.{Sound, born_open, dead_around, stands_a
 use Rattle.laws_live.specs.Reading.{task_in, scope_in, no_live_task, no_live_scope, no_alive}
 use Rattle.laws_live.specs.Reading.{live_task_at, live_scope_at, alive_at, lives_in, live_count}
 use Rattle.laws_live.specs.Reading.{is_live_living, live_any_lives}
-use Rattle.laws_live.proofs.ListLemmas.{alike, any_alike, count_alike, and_false}
+use Rattle.laws_live.proofs.ListLemmas.{alike, any_alike, count_alike}
 
 -- ---- one task, one scope
 
@@ -196,7 +197,7 @@ living_is w s u o = by (stands_in w (task_at w u).scope) refl
   where
     by : (b : Bool) → stands_in w (task_at w u).scope ≡ b → is_live_living s (cond b (Some (shown w (task_at w u).scope u (task_at w u))) None) ≡ (is_in s (task_at w u).scope && lives (task_at w u))
     by true f = ap (λ b. is_in s (task_at w u).scope && b) (some_if (lives (task_at w u)) (had w (task_at w u).scope (task_at w u)))
-    by false f = let dead = dead_around w u o f in rw (dead, and_false (is_in s (task_at w u).scope)) refl
+    by false f = let dead = dead_around w u o f in rw (dead, and-false (is_in s (task_at w u).scope)) refl
 
 pub any_is : (w : World) (s : ℕ) → Sound w → live_any_lives (live w) s ≡ any_lives w s
 any_is w s o =

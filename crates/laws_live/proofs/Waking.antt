@@ -41,7 +41,7 @@ use Rattle.sts_model.specs.Run.{apply, stepped, perform}
 use Rattle.sts_model.specs.Live.{Live, LiveTask, LiveScope, live}
 use Rattle.laws_runs.specs.Runs.{In}
 use Rattle.laws_runs.proofs.ListLemmas.{at_set}
-use Rattle.std.proofs.lemmas.Bool.{or_parts, and_parts}
+use Rattle.std.proofs.lemmas.Bool.{or_parts, and_parts, eqb-false}
 use Rattle.laws_runs.proofs.KeptLemmas.{kept-cancel}
 use Rattle.laws_runs.proofs.FrameLemmas.{own_slot}
 use Rattle.laws_runs.proofs.EffectLemmas.{first_no}
@@ -66,9 +66,6 @@ use Rattle.laws_live.proofs.Looks.{can-same}
 
 -- ---- who is concerned
 
-pub apart : (a b : ℕ) → (a == b) ≡ false → a ≡ b → ⊥
-apart a b e same = grind (arith, nat_tests)
-
 -- u is in no open scope s
 outside_is : (w : World) (s u : ℕ) → is_closed (scope_at w s).phase ≡ false → is_in s (live_task_at (live w) u).scope ≡ false → is_in s (task_at w u).scope ≡ false
 outside_is w s u still e = sym (of_is w s (slots.Sub u) still) ∙ e
@@ -82,7 +79,7 @@ apart_is : (w : World) (s u : ℕ) → is_closed (scope_at w s).phase ≡ false 
 apart_is w s u still e =
     let h = or_parts ((live_scope_at (live w) s).owner == u) (is_in s (live_task_at (live w) u).scope) e in
     let is : (live_scope_at (live w) s).owner ≡ (scope_at w s).owner = ap (λ (scope : LiveScope). scope.owner) (scope_is w s still) in
-    record { owner = λ same. apart (live_scope_at (live w) s).owner u h.0 (is ∙ same); outside = outside_is w s u still h.1 }
+    record { owner = λ same. eqb-false (live_scope_at (live w) s).owner u h.0 (is ∙ same); outside = outside_is w s u still h.1 }
 
 -- ---- effects
 
@@ -179,7 +176,7 @@ looks-end w t u f end other h =
 pub owner_of : (p : Program) (w : World) (t x : ℕ) (i : Instr) → Facts w → slot (task_at w t).frame x ≡ slots.Own (named (slot (task_at w t).frame x)) → (scope_at w (named (slot (task_at w t).frame x))).owner ≡ t
 owner_of p w t x i o mine = (o.sound.own t x (named (slot (task_at w t).frame x)) mine).owner
 
--- u is apart from the scope of a task that ends
+-- u is eqb-false from the scope of a task that ends
 apart_around : (w : World) (t u : ℕ) → Facts w → lives (task_at w t) ≡ true → is_around (live w) (live_task_at (live w) t).scope u ≡ false → (s : ℕ) → (task_at w t).scope ≡ Some s → IsApart w s u
 apart_around w t u o alive e s inside =
     let stands = stands_alive w t o.sound alive in
@@ -192,7 +189,7 @@ looks-effect p w t u (Open x joiner timed) o alive is other e = looks-open w t u
 looks-effect p w t u (Fork x g h) o alive is other e =
     let mine = own_slot (slot (task_at w t).frame x) (first_no _ _ (first_no _ _ is.slots)) is.own in
     let n = tasks_born w in
-    looks-fork p w t u (named (slot (task_at w t).frame x)) g h other (owner_of p w t x (Fork x g h) o mine) (λ same. apart u (length (live w).tasks) e (same ∙ sym n))
+    looks-fork p w t u (named (slot (task_at w t).frame x)) g h other (owner_of p w t x (Fork x g h) o mine) (λ same. eqb-false u (length (live w).tasks) e (same ∙ sym n))
 looks-effect p w t u (Join x failed timeout interrupted) o alive is other e =
     let mine = own_slot (slot (task_at w t).frame x) (first_no _ _ (first_no _ _ is.slots)) is.own in
     looks-join w t u (named (slot (task_at w t).frame x)) (task_at w t).frame (unwrap_or failed 0) (unwrap_or timeout 0) interrupted other (owner_of p w t x (Join x failed timeout interrupted) o mine)
@@ -226,10 +223,10 @@ event_looks p w (event.Step t) u o h = by (can_step p w t) refl
     by true e =
         let alive = (and_parts (lives (task_at w t)) _ e).0 in
         let k = or_parts (u == t) (touches (live w) t (instr_at p (alive_at (live w) t).frame) u) h in
-        step_looks p w t u o alive (apart u t k.0) (ap (λ (g : Frame). touches (live w) t (instr_at p g) u) (sym (frame_is w t o alive)) ∙ k.1) (misuse p w t) refl
+        step_looks p w t u o alive (eqb-false u t k.0) (ap (λ (g : Frame). touches (live w) t (instr_at p g) u) (sym (frame_is w t o alive)) ∙ k.1) (misuse p w t) refl
 event_looks p w (event.Interrupt t) u o h =
     looks-cond w u (lives (task_at w t)) _ w
-    (λ e. looks-frame w t u (task_at w t).frame true (apart u t h))
+    (λ e. looks-frame w t u (task_at w t).frame true (eqb-false u t h))
     (λ e. looks-refl w u)
 event_looks p w (event.Expire s) u o h =
     looks-cond w u (can_expire (scope_at w s)) (cancel v s) w
@@ -257,4 +254,4 @@ between p events v n e never h R law =
 pub others_stay : (p : Program) → NeverFaults p → OthersStay p
 others_stay p never events v n h e u =
     between p events v n e never h (λ a b. concerns p a e u ≡ false → live_can_step p b u ≡ live_can_step p a u)
-    (λ w x o q next apart. can-same p w x u o q (subst (In (λ v. Looks w v u)) next (event_looks p w e u o apart)))
+    (λ w x o q next eqb-false. can-same p w x u o q (subst (In (λ v. Looks w v u)) next (event_looks p w e u o eqb-false)))

@@ -7,6 +7,7 @@ use Rattle.std.specs.List.{list_any}
 use Rattle.std.proofs.lemmas.List.{get_or_append_left}
 use Rattle.std.proofs.Math.Seq.{get_or-append_seam}
 use Rattle.std.proofs.lemmas.Bool.Decides.{nat_tests}
+use Rattle.std.proofs.lemmas.Bool.{not_from_true, or_right}
 use Rattle.sts_code.specs.Program.{Program, routine}
 use Rattle.sts_code.specs.declared.instr.Joiner.{Joiner}
 use Rattle.sts_model.specs.declared.record.Slot.{Slot}
@@ -21,6 +22,7 @@ use Rattle.sts_model.specs.Living.{lives, is_closed}
 use Rattle.sts_model.specs.Environment.{environment_of}
 use Rattle.sts_model.specs.Misuse.{slot, is_entry_of}
 use Rattle.sts_model.specs.Effect.{open_scope, fork_task, subtask_of, forked}
+pub use Rattle.sts_model.proofs.LivesLemmas.{born_alive}
 use Rattle.laws_runs.proofs.ListLemmas.{at_set, at_more, within}
 use Rattle.laws_runs.specs.Later.{Later}
 use Rattle.laws_runs.proofs.LaterLemmas.{later_task-refl, later_scope-refl, later-trans, none_fresh}
@@ -28,10 +30,6 @@ use Rattle.laws_runs.proofs.KeptLemmas.{Holds, kept-later}
 use Rattle.laws_runs.proofs.StillLemmas.{Still, still-frame}
 use Rattle.laws_runs.proofs.FrameLemmas.{owns-with_slot}
 use Rattle.laws_runs.proofs.SoundLemmas.{Sound, Owner, sound-kept}
-
--- a living task was born
-pub born_alive : (w : World) (t : ℕ) → lives (task_at w t) ≡ true → t < length w.tasks
-born_alive w t alive = within lives w.tasks t no_task refl alive
 
 -- ---- fork
 
@@ -122,17 +120,13 @@ sound-fork p w t s g h o mine alive still =
     let x : Task = subtask_of p w (task_at w t).frame s g in
     sound-kept (more_tasks w x) _ (sound-more_tasks w x s o (child-of p w t s g mine alive still)) (still-forker p w t s g h alive).kept
 
-not_true : (b : Bool) → b ≡ true → not b ≡ false
-not_true true e = refl
-not_true false e = cc
-
 pub later-fork : (p : Program) (w : World) (t s g : ℕ) (h : Option ℕ) → lives (task_at w t) ≡ true → Later w (fork_task p w t (task_at w t).frame s g h)
 later-fork p w t s g h alive =
     let x : Task = subtask_of p w (task_at w t).frame s g in
     let fresh : IsFresh w x =
     λ r inside cancelled.
     let same : s ≡ r = cc in
-    not_true (scope_at w s).cancelled (rw same cancelled)
+    not_from_true (scope_at w s).cancelled (rw same cancelled)
     in
     later-trans w (more_tasks w x) _ (later-more_tasks w x fresh) (kept-later (more_tasks w x) _ (still-forker p w t s g h alive).kept)
 
@@ -175,10 +169,6 @@ owner-new xs x =
 -- a task with another frame, which has all its entries and perhaps more
 pub holds-more : (task : Task) (f : Frame) (s : ℕ) → (list_any (is_entry_of s) task.frame.entries ≡ true → list_any (is_entry_of s) f.entries ≡ true) → Holds task s → Holds (record task { frame = f }) s
 holds-more task f s more h = record { alive = h.alive; entry = more h.entry }
-
-or_true : (a b : Bool) → b ≡ true → (a || b) ≡ true
-or_true true b e = refl
-or_true false b e = e
 
 first_true : (a b : Bool) → a ≡ true → (a || b) ≡ true
 first_true true b e = refl
@@ -234,7 +224,7 @@ sound-open w t x joiner timed o alive =
         let h : Holds (task_at w (scope_at w s).owner) s = o.held s before (rw at at still) in
         rw at
         (at_set (λ (task : Task). Holds task s) w.tasks t (scope_at w s).owner (record (task_at w t) { frame = opener w (task_at w t).frame x }) no_task
-        (λ e. holds-more (task_at w t) (opener w (task_at w t).frame x) s (or_true (length w.scopes == s) _) (rw e at h))
+        (λ e. holds-more (task_at w t) (opener w (task_at w t).frame x) s (or_right (length w.scopes == s) _) (rw e at h))
         h)
 
     empty : (s u : ℕ) → is_closed (get_or (w.scopes ++ new_scope w t joiner timed ∷ []) s no_scope).phase ≡ true → (task_at w u).scope ≡ Some s → lives (get_or (set w.tasks t (record (task_at w t) { frame = opener w (task_at w t).frame x })) u no_task) ≡ false

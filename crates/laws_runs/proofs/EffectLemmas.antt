@@ -35,7 +35,7 @@ use Rattle.sts_model.specs.Effect.{closed, close_scope, told, decide, tell, ende
 use Rattle.sts_model.specs.Outside.{interrupt, can_expire, expire}
 use Rattle.laws_runs.specs.Later.{stage}
 use Rattle.laws_runs.proofs.ListLemmas.{at_set, found, none_found}
-use Rattle.std.proofs.lemmas.Bool.{and_parts, or_parts}
+use Rattle.std.proofs.lemmas.Bool.{and_parts, or_parts, eq-eqb}
 use Rattle.std.specs.Cmp.Derive.{both_true}
 use Rattle.laws_runs.proofs.LaterLemmas.{moves_on-same, completes-refl}
 use Rattle.laws_runs.proofs.KeptLemmas.{Kept, kept-refl, kept-trans, kept-task, kept-scope}
@@ -104,11 +104,8 @@ still-join w t s failed timeout interrupted before =
 
 -- ---- close
 
-self : (s : ℕ) → (s == s) ≡ true
-self s = grind (arith, nat_tests)
-
 pub is_in-some : (s : ℕ) (o : Option ℕ) → o ≡ Some s → is_in s o ≡ true
-is_in-some s o e = rw e (self s)
+is_in-some s o e = rw e (eq-eqb s s refl)
 
 pub some-is_in : (s : ℕ) (o : Option ℕ) → is_in s o ≡ true → o ≡ Some s
 some-is_in s None e = cc

@@ -23,6 +23,7 @@ use Rattle.sts_model.specs.Cancelling.{marked, cancel}
 use Rattle.sts_model.specs.Misuse.{is_entry_of, innermost}
 use Rattle.sts_model.specs.Effect.{with_phase, closed, close_scope, cleared, open_scope, fork_task}
 use Rattle.sts_model.specs.Effect.{subtask_of, forked}
+use Rattle.sts_model.proofs.LivesLemmas.{cancel_alive}
 use Rattle.laws_runs.proofs.ListLemmas.{at_set, at_put, at_more}
 use Rattle.laws_runs.proofs.KeptLemmas.{Kept, kept-cancel, at_raised}
 use Rattle.laws_runs.proofs.EffectLemmas.{frame-cancel}
@@ -65,7 +66,7 @@ none_if true e = cc
 none_if false e = refl
 
 -- what is in a list is counted there
-some_times : (es : List Entry) (s : ℕ) → Has s es → 0 < times_in s es
+pub some_times : (es : List Entry) (s : ℕ) → Has s es → 0 < times_in s es
 some_times [] s has = cc
 some_times (x ∷ es) s has = by (is_entry_of s x) refl has (times-cons x es s) (some_times es s)
   where
@@ -74,7 +75,7 @@ some_times (x ∷ es) s has = by (is_entry_of s x) refl has (times-cons x es s) 
     by false h has e next = let n = next has in omega (arith, e, n)
 
 -- what isn't in a list is counted nowhere
-times_none : (es : List Entry) (s : ℕ) → list_any (is_entry_of s) es ≡ false → times_in s es ≡ 0
+pub times_none : (es : List Entry) (s : ℕ) → list_any (is_entry_of s) es ≡ false → times_in s es ≡ 0
 times_none [] s e = refl
 times_none (x ∷ es) s e = by (is_entry_of s x) refl e (times-cons x es s) (times_none es s)
   where
@@ -127,12 +128,6 @@ entered-closed w v t s f o mine alive same first =
         let at = get_or-set_other v.scopes s r (record (scope_at v s) { phase = Closed }) no_scope other in
         record { owner = record { born = rw (length-set v.scopes s (record (scope_at v s) { phase = Closed })) h.owner.born; owner = rw at h.owner.owner }; still = rw at h.still }
 
-lives-cancel : (w : World) (s t : ℕ) → lives (task_at (cancel w s) t) ≡ lives (task_at w t)
-lives-cancel w s t =
-    cond_both (scope_at w s).cancelled w (marked w s) (λ (v : World). lives (task_at v t) ≡ lives (task_at w t))
-    (λ e. refl)
-    (λ e. at_raised (λ (task : Task). lives task ≡ lives (task_at w t)) s w.tasks t refl refl)
-
 -- another phase of a scope that isn't closed
 entered-closing : (w : World) (s : ℕ) → Entered w → Entered (with_phase w s Closing)
 entered-closing w s o =
@@ -156,7 +151,7 @@ entered-close w t s o mine alive first =
     let mine_v : Owner v.scopes s t = record { born = rw scopes mine.born; owner = (k.scope s).same.owner ∙ mine.owner } in
     cond_both (any_lives v s) _ _ (λ (x : World). Entered x)
     (λ e. entered-closing v s o_v)
-    (λ e. entered-closed w v t s (task_at w t).frame o_v mine_v (lives-cancel w s t ∙ alive) (frame-cancel w s t) first)
+    (λ e. entered-closed w v t s (task_at w t).frame o_v mine_v (cancel_alive w s t ∙ alive) (frame-cancel w s t) first)
 
 -- ---- open
 

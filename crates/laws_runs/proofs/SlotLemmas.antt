@@ -39,6 +39,7 @@ use Rattle.sts_model.specs.Effect.{with_slot, subtask_of, joined, join_verdict, 
 use Rattle.sts_model.specs.Effect.{cleared, closed, close_scope, told, decide, tell, ended}
 use Rattle.sts_model.specs.Effect.{end_task}
 use Rattle.sts_model.specs.Outside.{interrupt, can_expire, expire}
+use Rattle.sts_model.proofs.LivesLemmas.{cancel_alive}
 use Rattle.laws_runs.proofs.ListLemmas.{at_set, at_put, at_more, within}
 use Rattle.laws_runs.proofs.KeptLemmas.{kept-cancel, at_raised}
 use Rattle.laws_runs.proofs.SoundLemmas.{Sound, sound-kept, born_open, stands_alive}
@@ -314,13 +315,6 @@ named-closed w t s f o h born alive same mine = named-shut v s named shuns
 owner-cancel : (w : World) (s r : ℕ) → (scope_at (cancel w s) r).owner ≡ (scope_at w r).owner
 owner-cancel w s r = ((kept-cancel w s).scope r).same.owner
 
-alive-cancel : (w : World) (s u : ℕ) → lives (task_at (cancel w s) u) ≡ lives (task_at w u)
-alive-cancel w s u = by (scope_at w s).cancelled
-  where
-    by : (b : Bool) → lives (task_at (cond b w (marked w s)) u) ≡ lives (task_at w u)
-    by true = refl
-    by false = at_raised (λ (task : Task). lives task ≡ lives (task_at w u)) s w.tasks u refl refl
-
 named-close : (w : World) (t s : ℕ) → Sound w → Named w → lives (task_at w t) ≡ true → (scope_at w s).owner ≡ t → Named (close_scope w t (task_at w t).frame s)
 unfolding close_scope
 named-close w t s o h alive mine =
@@ -330,7 +324,7 @@ named-close w t s o h alive mine =
     let born = born_alive w t alive in
     named-cond (any_lives v s) _ _
     (λ e. named-phase v s Closing (named-cancel w s h) refl)
-    (λ e. named-closed v t s (task_at w t).frame (sound-kept w v o k) (named-cancel w s h) (omega (arith, tasks, born)) (alive-cancel w s t ∙ alive) (frame-cancel w s t) (owner-cancel w s s ∙ mine))
+    (λ e. named-closed v t s (task_at w t).frame (sound-kept w v o k) (named-cancel w s h) (omega (arith, tasks, born)) (cancel_alive w s t ∙ alive) (frame-cancel w s t) (owner-cancel w s s ∙ mine))
 
 -- ---- the end of a task
 

@@ -84,7 +84,7 @@ same_budgets : (a b : Budgets) → a.steps ≡ b.steps → a.tasks ≡ b.tasks �
 same_budgets a b e f g h =
     let same : record { steps = a.steps; tasks = a.tasks; scopes = a.scopes; binds = a.binds } ≡ record { steps = b.steps; tasks = b.tasks; scopes = b.scopes; binds = b.binds } = rw (e, f, g, h) refl in same
 
-one_budget : (earlier : List Budgets) (code : List Instr) (a b : Budgets) → IsBudget earlier code a → IsBudget earlier code b → a ≡ b
+pub one_budget : (earlier : List Budgets) (code : List Instr) (a b : Budgets) → IsBudget earlier code a → IsBudget earlier code b → a ≡ b
 one_budget earlier code a b x y =
     same_budgets a b (one_greatest _ _ _ x.steps y.steps) (one_peak _ _ _ _ x.tasks y.tasks) (one_peak _ _ _ _ x.scopes y.scopes) (one_peak _ _ _ _ x.binds y.binds)
 
@@ -99,7 +99,7 @@ module _ (p : Program) (xs ys : List Budgets) (long : length xs ≡ length ys) (
       let more : take (k + 1) xs ≡ take (k + 1) ys = take_more_same xs ys k no_budget lt lt' before here in
       let next : k + 1 ≡ suc k = omega arith in subst (λ n. take n xs ≡ take n ys) next more
 
-  are_one : xs ≡ ys
+  pub are_one : xs ≡ ys
   are_one =
       let all : take (length xs) xs ≡ take (length xs) ys = fronts (length xs) (omega arith) in
       sym (take_all (length xs) xs (omega arith)) ∙ all ∙ take_all (length xs) ys (omega (arith, long))

@@ -9,6 +9,7 @@ use Rattle.sts_code.specs.declared.instr.Pred.TheVariants as pred
 use Rattle.sts_code.specs.declared.instr.Joiner.{Joiner}
 use Rattle.sts_code.specs.declared.instr.Joiner.TheVariants.{Until}
 use Rattle.std.specs.contracts.prelude.BoolPartialEq.TheImpl as bool_eq
+use Rattle.std.proofs.lemmas.Bool.{and_parts}
 use Rattle.sts_code.specs.contracts.instr.PredPartialEq.TheImpl as pred_eq
 use Rattle.sts_code.specs.contracts.instr.JoinerPartialEq.TheImpl as joiner_eq
 use Rattle.sts_rules.specs.declared.typing.SlotKind.{SlotKind}
@@ -27,10 +28,6 @@ use Rattle.sts_rules.specs.contracts.typing.SlotKindPartialEq.TheImpl as slot_eq
 abbrev pub IsSame : {X : Type 0} → (X → X → Bool) → Type 0
 IsSame {X} E = ((a b : X) → E a b ≡ true → a ≡ b) × ((a : X) → E a a ≡ true)
 
-pub both : (a b : Bool) → (a && b) ≡ true → (a ≡ true) × (b ≡ true)
-both true b e = (refl, e)
-both false b e = cc
-
 pub lists_same : {X : Type 0} (E : X → X → Bool) → IsSame E → IsSame (pointwise E)
 lists_same {X} E h = (to, from)
   where
@@ -38,7 +35,7 @@ lists_same {X} E h = (to, from)
     to [] [] e = refl
     to [] (y ∷ ys) e = cc
     to (x ∷ xs) [] e = cc
-    to (x ∷ xs) (y ∷ ys) e = let p = both (E x y) (pointwise E xs ys) e in let a = h.0 x y p.0 in let b = to xs ys p.1 in cc
+    to (x ∷ xs) (y ∷ ys) e = let p = and_parts (E x y) (pointwise E xs ys) e in let a = h.0 x y p.0 in let b = to xs ys p.1 in cc
 
     from : (xs : List X) → pointwise E xs xs ≡ true
     from [] = refl
@@ -99,9 +96,9 @@ scopes_same = (to, from)
   where
     to : (a b : TypedScope) → scope_eq.eq-value.it a b ≡ true → a ≡ b
     to a b e =
-        let p = both (eqb a.slot b.slot) _ e in
-        let q = both (joiner_eq.eq-value.it a.joiner b.joiner) _ p.1 in
-        let r = both _ (phase_eq.eq-value.it a.phase b.phase) q.1 in
+        let p = and_parts (eqb a.slot b.slot) _ e in
+        let q = and_parts (joiner_eq.eq-value.it a.joiner b.joiner) _ p.1 in
+        let r = and_parts _ (phase_eq.eq-value.it a.phase b.phase) q.1 in
         same_scope a.slot b.slot a.joiner b.joiner a.timed b.timed a.phase b.phase (eqb-true a.slot b.slot p.0) (joiners_same.0 a.joiner b.joiner q.0) (bools_same.0 a.timed b.timed r.0) (phases_same.0 a.phase b.phase r.1)
 
     from : (a : TypedScope) → scope_eq.eq-value.it a a ≡ true

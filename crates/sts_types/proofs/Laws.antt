@@ -4,6 +4,7 @@ use Rattle.std.proofs.Common.{List, [], ◌∷◌, ◌++◌, map, Option, Some, 
 use Rattle.std.proofs.Common.{option_to_list, slice_get, Ok, leb, cond, eqb-true, leb-false, refl}
 use Rattle.std.proofs.Common.{sym, ap, subst, arith}
 use Rattle.std.specs.List.{list_any}
+use Rattle.std.proofs.lemmas.Bool.{not-false}
 use Rattle.sts_code.specs.Program.{Program, routine, instr_at}
 use Rattle.sts_code.specs.declared.instr.Instr.{Instr}
 use Rattle.sts_code.specs.declared.instr.Instr.TheVariants.{Div, Jmp, Jz, Times, Next, Join, Case}
@@ -151,10 +152,6 @@ ends_before code pc (l ∷ ls) q e b = by (match_of code l.at) refl e
         let after = (ends code l.at end m).after in
         omega arith
 
-not_false : (b : Bool) → not b ≡ false → b ≡ true
-not_false true e = refl
-not_false false e = cc
-
 first_false : (a b : Bool) → a || b ≡ false → a ≡ false
 first_false true b e = cc
 first_false false b e = refl
@@ -162,7 +159,7 @@ first_false false b e = refl
 pub back_down : (p : Program) (f pc : ℕ) (i : Instr) (s : TypeState) (q : ℕ) → Fits p f pc i s → back_of i s ≡ Some q → q ≤ pc
 back_down p f pc Next s q fit b =
     let matched = first_false _ _ (first_false _ _ fit.loops) in
-    ends_before (routine p f).code pc s.loops q (not_false (closes_loop (routine p f).code pc s.loops) matched) b
+    ends_before (routine p f).code pc s.loops q (not-false (closes_loop (routine p f).code pc s.loops) matched) b
 back_down p f pc _ s q fit b = cc
 
 -- the edges of a function go forward and stay inside it, and a loop goes back to no later place

@@ -3,6 +3,7 @@ use Rattle.std.proofs.Common.{◌≡◌, ℕ, ◌<◌, ◌⊎◌, inl, inr, Bool
 use Rattle.std.proofs.Common.{◌∷◌, ◌++◌, map, drop, Option, Some, None, Ok, bytes_eq, refl, sym, ap}
 use Rattle.std.proofs.Common.{◌∙◌, subst}
 use Rattle.std.specs.List.{list_any}
+use Rattle.std.proofs.lemmas.Bool.{or_parts}
 use lib.Pointwise.{bytes_decides}
 use Rattle.sts_code.specs.Program.{Program, routine, instr_at}
 use Rattle.sts_code.specs.Checks.{program_fault}
@@ -74,10 +75,6 @@ opens p code pc Ret s to x l = elim l [ ]
 opens p code pc Fail s to x l = elim l [ ]
 opens p code pc i s to x l = plain code pc i (heads s.loops) to x refl (follow_leads p code pc i s to x l) (kept (heads s.loops) (follows p code pc i s) to x (refl, tt) l)
 
-neither : (a b : Bool) → a || b ≡ false → (a ≡ false) × (b ≡ false)
-neither true b e = cc
-neither false b e = (refl, e)
-
 not_other : (code : List Instr) (loops : List ℕ) (to : ℕ) → is_other_loop code loops to ≡ false → around code to ≡ loops
 not_other code loops to e = (bytes_decides (around code to) loops).0 (by (bytes_eq (around code to) loops) e)
   where
@@ -87,10 +84,10 @@ not_other code loops to e = (bytes_decides (around code to) loops).0 (by (bytes_
 
 -- if no cause holds, the loops that an edge leaves open are those around its place
 opened : (p : Program) (f pc : ℕ) (i : Instr) (s : TypeState) (to : ℕ) (after : List ℕ) → Fits p f pc i s → OpensAt (routine p f).code pc i (heads s.loops) to after → after ≡ around (routine p f).code to
-opened p f pc i s to after fit o = by (neither _ _ fit.loops) o
+opened p f pc i s to after fit o = by (or_parts _ _ fit.loops) o
   where
     by : (is_unmatched (routine p f).code pc i s || list_any (is_other_loop (routine p f).code (heads s.loops)) (targets i ++ skipped_to (routine p f).code pc i) ≡ false) × (list_any (is_other_loop (routine p f).code (open_after pc i (heads s.loops))) (next_place pc i) ≡ false) → OpensAt (routine p f).code pc i (heads s.loops) to after → after ≡ around (routine p f).code to
-    by h (inl m) = m.1 ∙ sym (not_other (routine p f).code (heads s.loops) to (none_passes (is_other_loop (routine p f).code (heads s.loops)) (targets i ++ skipped_to (routine p f).code pc i) to (neither (is_unmatched (routine p f).code pc i s) _ h.0).1 m.0))
+    by h (inl m) = m.1 ∙ sym (not_other (routine p f).code (heads s.loops) to (none_passes (is_other_loop (routine p f).code (heads s.loops)) (targets i ++ skipped_to (routine p f).code pc i) to (or_parts (is_unmatched (routine p f).code pc i s) _ h.0).1 m.0))
     by h (inr m) = m.1 ∙ sym (not_other (routine p f).code (open_after pc i (heads s.loops)) to (none_passes (is_other_loop (routine p f).code (open_after pc i (heads s.loops))) (next_place pc i) to h.1 m.0))
 
 pub loops_around : (p : Program) (f pc : ℕ) (s : TypeState) → Reaches (typing p f) pc s → heads s.loops ≡ around (routine p f).code pc

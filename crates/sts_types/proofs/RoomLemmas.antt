@@ -2,6 +2,7 @@
 use Rattle.std.proofs.Common.{◌≡◌, ℕ, ◌+◌, ◌-◌, ◌<◌, ◌≤◌, Bool, true, false, ◌&&◌, ◌||◌, not}
 use Rattle.std.proofs.Common.{Option, Some, None, IfSome, is_some, leb, ltb, refl, arith, leb-false}
 use Rattle.std.proofs.Common.{ltb-false}
+use Rattle.std.proofs.lemmas.Bool.{not-false, or_parts}
 use Rattle.sts_code.specs.Program.{Program}
 use Rattle.sts_code.specs.declared.instr.Instr.{Instr}
 use Rattle.sts_code.specs.declared.instr.Instr.TheVariants.{Join}
@@ -18,11 +19,7 @@ use Rattle.sts_rules.specs.Edges.{joiner_of, ok_pushes}
 use Rattle.sts_rules.specs.Fits.{Fits}
 use Rattle.sts_types.specs.Room.{HasRoom, JoinHasRoom}
 
-neither : (a b : Bool) → a || b ≡ false → (a ≡ false) × (b ≡ false)
-neither true b e = cc
-neither false b e = (refl, e)
-
--- a slot that is neither of the others is the task's own
+-- a slot that is or_parts of the others is the task's own
 is_owned : (k : SlotKind) → not (is_own k || is_lent k) ≡ false → is_lent k ≡ false → is_own k ≡ true
 is_owned Empty a b = cc
 is_owned Own a b = refl
@@ -59,16 +56,12 @@ room_failed h (Some to) AwaitOk e f = less h (leb 32 h) refl e
 room_failed h (Some to) AwaitAll e f = cc
 room_failed h (Some to) (Until p) e f = cc
 
-not_not : (b : Bool) → not b ≡ false → b ≡ true
-not_not true e = refl
-not_not false e = cc
-
 joins : (h : ℕ) (failed timeout : Option ℕ) (o : Option TypedScope) → h ≤ 32 → leb 32 h && passes (λ scope. not (is_await_all scope.joiner)) o ≡ false → passes can_join o ≡ true
     → passes (λ scope. not (same (is_some failed) (can_fail scope.joiner)) || not (same (is_some timeout) scope.timed)) o ≡ false
     → (h + ok_pushes (joiner_of o) ≤ 32) × IfSome failed (λ _. h < 32)
 joins h failed timeout None le room legal fit = cc
 joins h failed timeout (Some r) le room legal fit =
-    (room_for h r.joiner le room, room_failed h failed r.joiner room (not_not _ (neither (not (same (is_some failed) (can_fail r.joiner))) _ fit).0))
+    (room_for h r.joiner le room, room_failed h failed r.joiner room (not-false _ (or_parts (not (same (is_some failed) (can_fail r.joiner))) _ fit).0))
 
 swapped : (a b c : Bool) → b ≡ true → a && (b && c) ≡ false → a && c ≡ false
 swapped a true c e f = f
@@ -76,17 +69,17 @@ swapped a false c e f = cc
 
 outcomes : (p : Program) (f pc : ℕ) (i : Instr) (s : TypeState) → Fits p f pc i s → JoinHasRoom i s
 outcomes p f pc (Join x failed timeout interrupted) s fit =
-    let few : s.height ≤ 32 = omega (arith, ltb-false 32 (s.height - 0 + 0) (neither (ltb 32 (s.height - 0 + 0)) _ fit.room).0) in
-    let own : is_own (kind s x) ≡ true = is_owned (kind s x) (neither _ false fit.slots).0 fit.own in
+    let few : s.height ≤ 32 = omega (arith, ltb-false 32 (s.height - 0 + 0) (or_parts (ltb 32 (s.height - 0 + 0)) _ fit.room).0) in
+    let own : is_own (kind s x) ≡ true = is_owned (kind s x) (or_parts _ false fit.slots).0 fit.own in
     let legal : passes can_join (scope_in s.entries x) ≡ true = holds_not (is_own (kind s x)) _ own fit.legal in
-    let room : leb 32 s.height && passes (λ scope. not (is_await_all scope.joiner)) (scope_in s.entries x) ≡ false = swapped (leb 32 s.height) (is_own (kind s x)) _ own (neither (ltb 32 (s.height - 0 + 0)) _ fit.room).1 in
+    let room : leb 32 s.height && passes (λ scope. not (is_await_all scope.joiner)) (scope_in s.entries x) ≡ false = swapped (leb 32 s.height) (is_own (kind s x)) _ own (or_parts (ltb 32 (s.height - 0 + 0)) _ fit.room).1 in
     joins s.height failed timeout (scope_in s.entries x) few room legal (not_true (is_own (kind s x)) _ own fit.joins)
 outcomes p f pc _ s fit = tt
 
 pub has_room : (p : Program) (f pc : ℕ) (i : Instr) (s : TypeState) → Fits p f pc i s → HasRoom p i s
 has_room p f pc i s fit =
     record {
-      operands = ltb-false 32 (s.height - pops p i + pushes i) (neither (ltb 32 (s.height - pops p i + pushes i)) (join_overflows s i) fit.room).0;
+      operands = ltb-false 32 (s.height - pops p i + pushes i) (or_parts (ltb 32 (s.height - pops p i + pushes i)) (join_overflows s i) fit.room).0;
       outcomes = outcomes p f pc i s fit;
       loops = fit.depth;
       entries = fit.nesting;

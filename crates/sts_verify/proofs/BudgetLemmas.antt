@@ -9,9 +9,9 @@ use Rattle.std.proofs.Math.Seq.{take-append_seam, get_or-append_seam, take-lengt
 use Rattle.sts_code.specs.Program.{Program, routine}
 use Rattle.sts_code.specs.declared.instr.Instr.{Instr}
 use Rattle.sts_rules.specs.declared.budget.Budgets.{Budgets}
-use Rattle.sts_rules.specs.ControlPaths.{Skeleton, OpenEntry, IsGreatest, IsPeak}
 use Rattle.sts_rules.specs.Budget.{AreBudgets, IsBudget, budget_at, no_budget}
 use Rattle.sts_rules.specs.Refusal.{IsBudgetOf}
+use Rattle.sts_rules.proofs.VerdictLemmas.{are_one, one_budget}
 
 take_twice : {A : Type 0} (xs : List A) (n m : ℕ) → n ≤ m → take n (take m xs) ≡ take n xs
 take_twice [] zero m le = refl
@@ -53,47 +53,7 @@ budget_is p bs f lt right b is = (
   ),
 )
 
--- ---- a function has only one
-
-greatest-one : (c : Skeleton) (m n : ℕ) → IsGreatest c m → IsGreatest c n → m ≡ n
-greatest-one c m n h k =
-    let a = k.1 m h.0 in
-    let b = h.1 n k.0 in
-    omega (arith, a, b)
-
-peak-one : (c : Skeleton) (sum : List OpenEntry → ℕ) (m n : ℕ) → IsPeak c sum m → IsPeak c sum n → m ≡ n
-peak-one c sum m n h k =
-    let a = k.1 m h.0 in
-    let b = h.1 n k.0 in
-    omega (arith, a, b)
-
-budget-one : (earlier : List Budgets) (code : List Instr) (b c : Budgets) → IsBudget earlier code b → IsBudget earlier code c → b ≡ c
-budget-one earlier code b c h k =
-    let steps = greatest-one _ b.steps c.steps h.steps k.steps in
-    let tasks = peak-one _ _ b.tasks c.tasks h.tasks k.tasks in
-    let scopes = peak-one _ _ b.scopes c.scopes h.scopes k.scopes in
-    let binds = peak-one _ _ b.binds c.binds h.binds k.binds in
-    ap (λ n. record b { steps = n }) steps
-    ∙ ap (λ n. record b { steps = c.steps; tasks = n }) tasks
-    ∙ ap (λ n. record b { steps = c.steps; tasks = c.tasks; scopes = n }) scopes
-    ∙ ap (λ n. record c { binds = n }) binds
-
--- two lists of budgets agree on their first functions
-fronts-one : (p : Program) (bs cs : List Budgets) → AreBudgets p bs → AreBudgets p cs → (f : ℕ) → f ≤ length bs → f ≤ length cs → take f bs ≡ take f cs
-fronts-one p bs cs h k zero le less = refl
-fronts-one p bs cs h k (suc f) le less =
-    let before = fronts-one p bs cs h k f (omega arith) (omega arith) in
-    let same = budget-one (take f bs) (routine p f).code (budget_at bs f) (budget_at cs f) (h f (omega arith)) (subst (λ xs. IsBudget xs (routine p f).code (budget_at cs f)) (sym before) (k f (omega arith))) in
-    take-more bs f (omega arith) ∙ ap (λ xs. xs ++ budget_at bs f ∷ []) before ∙ ap (λ b. take f cs ++ b ∷ []) same ∙ sym (take-more cs f (omega arith))
-  where
-    take-more : (xs : List Budgets) (n : ℕ) → n < length xs → take (suc n) xs ≡ take n xs ++ budget_at xs n ∷ []
-    take-more [] n lt = absurd (omega arith)
-    take-more (x ∷ xs) zero lt = refl
-    take-more (x ∷ xs) (suc n) lt = ap (λ (l : List Budgets). x ∷ l) (take-more xs n (omega arith))
-
 -- two budgets of a function are the same
 pub budget_of-one : (p : Program) (f : ℕ) (b c : Budgets) → IsBudgetOf p f b → IsBudgetOf p f c → b ≡ c
 budget_of-one p f b c (bs, (long, right, is)) (cs, (size, good, has)) =
-    let front = fronts-one p bs cs right good f (omega (arith, long)) (omega (arith, size)) in
-    let whole : bs ≡ cs = sym (take-length bs) ∙ ap (λ n. take n bs) long ∙ front ∙ ap (λ n. take n cs) (sym size) ∙ take-length cs in
-    budget-one cs (routine p f).code b c (subst (λ xs. IsBudget xs (routine p f).code b) whole is) has
+    one_budget cs (routine p f).code b c (subst (λ xs. IsBudget xs (routine p f).code b) (are_one p bs cs (long ∙ sym size) right good) is) has
