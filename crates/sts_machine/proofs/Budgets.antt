@@ -4,25 +4,16 @@ use Rattle.sts_code.specs.Program.{Program, routine}
 use Rattle.sts_rules.specs.declared.budget.Budgets.{Budgets}
 use Rattle.sts_rules.specs.declared.typing.Cause.TheVariants.{TooManyTasks}
 use Rattle.sts_rules.specs.ControlPaths.{PointHolds}
-use Rattle.sts_rules.specs.Budget.{AreBudgets, budget_at, no_budget, skeleton, tasks_sum}
+use Rattle.sts_rules.specs.Budget.{skeleton, tasks_sum}
 use Rattle.sts_rules.specs.Refusal.{IsAccepted, IsBudgetOf}
-use Rattle.sts_verify.proofs.BudgetLemmas.{budget_is, budget_of-one}
-use Rattle.laws_live.proofs.ListLemmas.{alike}
+use Rattle.sts_rules.proofs.VerdictLemmas.{are_one}
 use Rattle.laws_accepted.specs.Accepted.{main_of}
 use Rattle.laws_accepted.proofs.RangeLemmas.{not_more}
-
--- the functions before one have one list of budgets
-earlier-one : (p : Program) (bs cs : List Budgets) → length bs ≡ length cs → AreBudgets p bs → AreBudgets p cs → bs ≡ cs
-earlier-one p bs cs long right good =
-    alike bs cs no_budget long
-    (λ f less.
-    budget_of-one p f (budget_at bs f) (budget_at cs f) (budget_is p bs f less right (budget_at bs f) refl)
-    (budget_is p cs f (omega (arith, less, long)) good (budget_at cs f) refl))
 
 pub few_tasks : (p : Program) (b : Budgets) → IsAccepted p → 0 < length p.routines → IsBudgetOf p (main_of p) b → b.tasks ≤ 65536
 few_tasks p b accepted some (earlier, (long, right, is)) =
     let s = accepted.sound (main_of p) (omega (arith, some)) in
-    let same : earlier ≡ s.earlier = earlier-one p earlier s.earlier (long ∙ sym s.long) right s.right in
+    let same : earlier ≡ s.earlier = are_one p earlier s.earlier (long ∙ sym s.long) right s.right in
     let holds : PointHolds (skeleton s.earlier (routine p (main_of p)).code) (tasks_sum s.earlier) b.tasks =
     subst (λ es. PointHolds (skeleton es (routine p (main_of p)).code) (tasks_sum es) b.tasks) same is.tasks.0 in
     not_more 65536 b.tasks (λ more. s.within TooManyTasks (b.tasks, (holds, more)))

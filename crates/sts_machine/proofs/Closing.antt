@@ -25,7 +25,7 @@ use Rattle.sts_store.specs.Parts.{Unseen, stand_in, stood_unseen}
 use Rattle.sts_store.proofs.CloseLemmas.{close_begins, close_ends}
 use Rattle.sts_machine.specs.Changing.{Changes}
 use Rattle.sts_machine.specs.Room.{is_living}
-use Rattle.sts_machine.proofs.Lists.{mapped}
+use Rattle.laws_live.proofs.RestingLemmas.{mapped}
 use Rattle.sts_machine.proofs.Quiet.{quiet-trans, quiet-scope, quiet-cancel, quiet-alive}
 use Rattle.sts_machine.proofs.Changing.{life_is, lives_quiet, lives_written, changes-quiet, then-quiet, stood_before, stood_after}
 

@@ -1,6 +1,7 @@
 -- Facts that an instruction may rely on if it is no misuse.
 use Rattle.std.proofs.Common.{◌≡◌, ℕ, length, Bool, true, false, ◌&&◌, not, Option, refl, sym, ◌∙◌, is_some}
 use Rattle.std.specs.Prelude.{nat_le}
+use Rattle.std.proofs.lemmas.Bool.{not-false}
 use Rattle.sts_code.specs.Program.{Program}
 use Rattle.sts_code.specs.Facts.{is_await_all}
 use Rattle.sts_code.specs.declared.instr.Instr.{Instr}
@@ -25,10 +26,6 @@ use Rattle.laws_live.specs.Order.{InOrder}
 own_test : (v : Live) (y : Slot) (test : ℕ → LiveScope → Bool) → y ≡ Own (named y) → live_at_own v y test ≡ test (named y) (live_scope_at v (named y))
 own_test v (Own s) test e = refl
 own_test v _ test e = cc
-
-pub holds : (b : Bool) → not b ≡ false → b ≡ true
-holds true e = refl
-holds false e = cc
 
 -- the frame of a task, and the scope that its slot names
 abbrev pub frame_in : Live → ℕ → Frame
@@ -66,7 +63,7 @@ module _ (p : Program) (v : Live) (t x : ℕ) (lives : lives_in v t ≡ true) (o
 
   pub close_entry : IsLiveFine p v t (frame_in v t) (Close x) → innermost (is_entry_of (scope_at v t x)) (frame_in v t).entries ≡ true
   close_entry fine =
-      holds (innermost (is_entry_of (scope_at v t x)) (frame_in v t).entries)
+      not-false (innermost (is_entry_of (scope_at v t x)) (frame_in v t).entries)
       (sym (own_test v (slot (frame_in v t) x) (λ n _. not (innermost (is_entry_of n) (frame_in v t).entries)) (close_own fine)) ∙ fine.structure)
 
   pub tally_stands : (k : Kind) → IsLiveFine p v t (frame_in v t) (Tally x k) → is_some (scope_in v (scope_at v t x)) ≡ true

@@ -18,9 +18,3 @@ same_sums f d (x ∷ xs) (y ∷ ys) e h =
     let one = sum_by-cons f x xs in
     let other = sum_by-cons f y ys in
     omega (arith, rest, first, one, other)
-
--- a list after a function that keeps holes, at one place
-pub mapped : {X : Type 0} (f : Option X → Option X) (xs : List (Option X)) (u : ℕ) → f None ≡ None → get_or (map f xs) u None ≡ f (get_or xs u None)
-mapped f [] u none = sym none
-mapped f (x ∷ xs) zero none = refl
-mapped f (x ∷ xs) (suc u) none = mapped f xs u none

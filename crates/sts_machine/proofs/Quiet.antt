@@ -27,7 +27,7 @@ use Rattle.laws_live.specs.Outside.{live_can_expire, live_expire, live_interrupt
 use Rattle.laws_accepted.specs.Views.{bindings_in}
 use Rattle.sts_machine.specs.Changing.{is_quiet, may_wait}
 use Rattle.sts_machine.specs.Room.{is_living}
-use Rattle.sts_machine.proofs.Lists.{mapped}
+use Rattle.laws_live.proofs.RestingLemmas.{mapped}
 
 -- the change of what a task has, if it lives
 abbrev pub changed : (Alive → Alive) → LiveTask → LiveTask

@@ -6,6 +6,7 @@ use Rattle.sts_tree.specs.Forest.{root}
 use Rattle.sts_tree.specs.declared.record.TaskNode.{TaskNode}
 use Rattle.std.specs.Prelude.{filter_map, replicate, slice_index_or}
 use Rattle.std.specs.List.{list_any}
+use Rattle.std.proofs.lemmas.Option.{same_Some}
 use Rattle.sts_model.specs.Environment.{bound_of}
 use Rattle.sts_model.specs.Live.{Live}
 use Rattle.sts_model.specs.Misuse.{is_binding, is_entry_of, slot}
@@ -19,7 +20,7 @@ use Rattle.sts_store.specs.declared.running.Running.{Running}
 use Rattle.sts_store.specs.Parts.{Parts, no_running}
 use Rattle.sts_store.specs.Sharing.{Shares, Holder, holder_of, home_at, inherited, Holds}
 use Rattle.sts_store.specs.Stored.{IsStore}
-use Rattle.sts_store.proofs.Views.{just, lives_of}
+use Rattle.sts_store.proofs.Views.{lives_of}
 
 -- the root task at a frame, with nothing bound
 abbrev pub root_running : Frame → Running
@@ -31,7 +32,7 @@ module _ (frame : Frame) (fresh : frame.entries ≡ []) where
 
   -- a fact of the root is a fact of every living task, since only the root lives
   alone : (P : ℕ → Holder → Type 0) → P zero (holder_of (root_running frame)) → (t : ℕ) (h : Holder) → Holds root_held t h → P t h
-  alone P one zero h e = subst (P zero) (just (holder_of (root_running frame)) h e) one
+  alone P one zero h e = subst (P zero) (same_Some (holder_of (root_running frame)) h e) one
   alone P one (suc t) h e = cc
 
   pub root_shares : (c : Records) → Shares c root_held [] (Some None ∷ []) (λ _. []) (λ _. [])

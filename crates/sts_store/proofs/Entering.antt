@@ -4,6 +4,7 @@ use Rattle.std.proofs.lemmas.Bool.Decides.{nat_tests}
 use Rattle.std.proofs.lemmas.List.{length-map, map-set, map-append, length-set}
 use Rattle.std.proofs.lemmas.List.Sums.{sum_by-cons}
 use Rattle.std.specs.Prelude.{option_map, slice_set, count_by}
+use Rattle.std.proofs.lemmas.Option.{same_Some}
 use Rattle.sts_env.specs.Environments.{list_of}
 use Rattle.sts_code.specs.declared.instr.Joiner.{Joiner}
 use Rattle.sts_env.specs.declared.env.Env.{Env}
@@ -29,7 +30,7 @@ use Rattle.sts_store.specs.declared.running.Running.{Running}
 use Rattle.sts_store.specs.Parts.{Parts, live_of, beside, frame_of}
 use Rattle.sts_store.specs.Sharing.{AreShared, Holder, holder_of, keeper_of, holders, keepers, homes, home_at, behind}
 use Rattle.sts_store.specs.Stored.{IsStore}
-use Rattle.sts_store.proofs.Views.{Lived, alive_of, just, same_frame, frame_seen, with_running}
+use Rattle.sts_store.proofs.Views.{Lived, alive_of, same_frame, frame_seen, with_running}
 use Rattle.sts_store.proofs.Keeping.{still_some}
 use Rattle.sts_store.proofs.Housed.{home_seen}
 use Rattle.sts_store.proofs.Seeing.{scope_stands}
@@ -39,7 +40,7 @@ use Rattle.sts_store.proofs.Shared.{instead}
 -- a living task, by the record in its slot
 abbrev pub with_run : (m : Parts) (t : ℕ) (r : Running) → Lived m t → get_or m.frames.slots t None ≡ Some r → Lived m t
 with_run m t r l at =
-    let same : l.run ≡ r = just l.run r (sym l.runs ∙ at) in
+    let same : l.run ≡ r = same_Some l.run r (sym l.runs ∙ at) in
     record l {
       run = r;
       runs = at;

@@ -28,7 +28,7 @@ use Rattle.sts_store.specs.declared.running.Running.{Running}
 use Rattle.sts_store.specs.Parts.{Parts, live_of, beside, frame_of, running_at, no_running, stand_of, unseen_of}
 use Rattle.sts_store.specs.Sharing.{Holder, Keeper, holder_of, keeper_of, home_of, holders, keepers}
 use Rattle.sts_store.specs.Stored.{IsStore}
-use Rattle.sts_store.proofs.Views.{Lived, Same, lives_of, same_frame, frame_seen, with_running, tasks_same}
+use Rattle.sts_store.proofs.Views.{Lived, Same, lives_of, same_frame, frame_seen, with_running, tasks_same, length_from}
 use Rattle.sts_store.proofs.Keeping.{kept_frame, store_seen, rest_seen}
 use Rattle.sts_store.proofs.Housed.{housed}
 use Rattle.sts_store.proofs.Opening.{fork_shares}
@@ -45,10 +45,6 @@ before (x ∷ xs) y d (suc u) ne = before xs y d u (λ e. ne (ap suc e))
 last : {X : Type 0} (xs : List X) (y d : X) → get_or (xs ++ y ∷ []) (length xs) d ≡ y
 last [] y d = refl
 last (x ∷ xs) y d = last xs y d
-
-length_from : {E : Type 0} (b : Beside E) (n : ℕ) (xs : List (Option TaskNode)) → length (tasks_from b n xs) ≡ length xs
-length_from b n [] = refl
-length_from b n (x ∷ xs) = ap suc (length_from b (suc n) xs)
 
 -- the tree with a subtask more
 abbrev pub with_subtask : Forest Env → ℕ → Bool → List ℕ → ℕ → Forest Env

@@ -1,6 +1,7 @@
 -- In a view in order the owner of a scope lives, and the scope of a living task isn't closed.
 use Rattle.std.proofs.Common.{◌≡◌, ℕ, ◌<◌, true, false, Option, Some, None, refl, sym, ◌∙◌, ap, subst, get_or}
 use Rattle.std.specs.Prelude.{option_map, is_some}
+use Rattle.std.proofs.lemmas.Option.{same_Some}
 use Rattle.sts_env.specs.declared.env.Env.{Env}
 use Rattle.sts_tree.specs.declared.record.TaskNode.{TaskNode}
 use Rattle.sts_tree.specs.declared.record.ScopeNode.{ScopeNode}
@@ -13,7 +14,7 @@ use Rattle.sts_store.proofs.ViewingLemmas.{scope_is, scope_there}
 use Rattle.sts_store.specs.Parts.{Parts, live_of, beside}
 use Rattle.sts_store.specs.Sharing.{Holder, Keeper, holder_of, keeper_of, home_of, holders, keepers, homes, home_at}
 use Rattle.sts_store.specs.Stored.{IsStore}
-use Rattle.sts_store.proofs.Views.{lives_is, just}
+use Rattle.sts_store.proofs.Views.{lives_is}
 use Rattle.sts_store.proofs.Seeing.{home_is, scope_of}
 use Rattle.sts_store.proofs.Unsharing.{AreHoused}
 
@@ -51,7 +52,7 @@ module _ (m : Parts) (is : IsStore m) (order : InOrder (live_of m)) where
           let none : get_or (keepers m) s None ≡ None = map_at keeper_of m.tree.scopes s ∙ ap (option_map keeper_of) f in
           cc
       by (Some x) f =
-          let same : k ≡ keeper_of x = just k (keeper_of x) (sym e ∙ kept_of m s x f) in
+          let same : k ≡ keeper_of x = same_Some k (keeper_of x) (sym e ∙ kept_of m s x f) in
           let stands : is_some (scope_in (live_of m) s) ≡ true = ap (λ (o : Option LiveScope). is_some o) (scope_is (beside m) m.tree s ∙ ap (option_map (scope_seen (beside m))) f) in
           holds k.owner ∙ ap (lives_in (live_of m)) (ap (λ (z : Keeper). z.owner) same ∙ sym (owner_seen s x f)) ∙ (order.held s stands).alive
 

@@ -2,15 +2,15 @@
 use Rattle.std.proofs.Common.{◌≡◌, ◌≢◌, ℕ, zero, suc, List, [], ◌∷◌, ◌++◌, length, Bool, true, false, Option, Some, None, refl, sym, ◌∙◌, ap, subst, get_or, set, nat_eq, arith}
 use Rattle.std.proofs.lemmas.Bool.Decides.{nat_tests}
 use Rattle.std.specs.Prelude.{count_by}
+use Rattle.std.proofs.lemmas.Option.{same_Some}
 use Rattle.sts_env.specs.Environments.{Records, IsWhole, keys_of, NotIn}
 use Rattle.sts_model.specs.Misuse.{is_binding}
 use Rattle.sts_store.specs.Sharing.{Shares, Holder, Keeper, keys_kept, inherited, home_at, behind}
-use Rattle.sts_store.proofs.Views.{just}
 use Rattle.sts_store.proofs.Shared.{by_place, there, instead, instead_here, instead_there}
 
 -- an element at r of a list with one more element is the new one, or was there before
 by_new : {X : Type 0} (Q : ℕ → X → Type 0) (xs : List (Option X)) (y : X) → Q (length xs) y → ((r : ℕ) (z : X) → r ≢ length xs → get_or xs r None ≡ Some z → Q r z) → (r : ℕ) (z : X) → get_or (xs ++ Some y ∷ []) r None ≡ Some z → Q r z
-by_new Q [] y one others zero z e = subst (Q zero) (just y z e) one
+by_new Q [] y one others zero z e = subst (Q zero) (same_Some y z e) one
 by_new Q [] y one others (suc r) z e = cc
 by_new Q (x ∷ xs) y one others zero z e = others zero z (λ q. cc) e
 by_new Q (x ∷ xs) y one others (suc r) z e = by_new (λ i. Q (suc i)) xs y one (λ i w ne. others (suc i) w (λ q. ne (less i (length xs) q))) r z e

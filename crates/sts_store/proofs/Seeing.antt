@@ -5,6 +5,7 @@ use Rattle.sts_tree.specs.Births.{has}
 use Rattle.sts_records.specs.Holes.{key_at}
 use Rattle.sts_links.specs.Lists.{first_or}
 use Rattle.std.specs.Prelude.{option_map, is_some, unwrap_or}
+use Rattle.std.proofs.lemmas.Option.{same_Some}
 use Rattle.sts_code.specs.declared.instr.Kind.{Kind}
 use Rattle.sts_code.specs.declared.instr.Kind.TheVariants.{S, F, U}
 use Rattle.sts_env.specs.declared.env.Env.{Env}
@@ -23,7 +24,7 @@ use Rattle.laws_live.specs.Waiting.{live_can_go}
 use Rattle.sts_store.specs.View.{scope_seen, task_seen}
 use Rattle.sts_store.proofs.ViewingLemmas.{task_is, scope_is, scope_there, words}
 use Rattle.sts_store.specs.Parts.{Parts, live_of, beside, stand_of, stand_in, unseen_of, can_go_on}
-use Rattle.sts_store.proofs.Views.{just, lives_is, lives_of, some_not}
+use Rattle.sts_store.proofs.Views.{lives_is, lives_of, some_not}
 
 -- ---- tasks
 
@@ -102,7 +103,7 @@ going_is m now t same list = sym (ap (λ (x : Parts). can_go_on x t) same) ∙ s
 
 pub front_has : (ks : List ℕ) (t : ℕ) → first_or ks None ≡ Some t → has t ks ≡ true
 front_has [] t e = cc
-front_has (k ∷ ks) t e = let same : t ≡ k = sym (just k t e) in let is : nat_eq t k ≡ true = grind (arith, nat_tests) in rw is refl
+front_has (k ∷ ks) t e = let same : t ≡ k = sym (same_Some k t e) in let is : nat_eq t k ≡ true = grind (arith, nat_tests) in rw is refl
 
 pub none_has : (ks : List ℕ) (t : ℕ) → first_or ks None ≡ None → has t ks ≡ false
 none_has [] t e = refl

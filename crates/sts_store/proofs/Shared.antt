@@ -2,13 +2,13 @@
 use Rattle.std.proofs.Common.{◌≡◌, ◌≢◌, ℕ, zero, suc, ◌≤◌, List, [], ◌∷◌, ◌++◌, length, Bool, true, false, Option, Some, None, refl, sym, ◌∙◌, ap, subst, get_or, set, cond, nat_eq, arith}
 use Rattle.std.proofs.lemmas.Bool.Decides.{nat_tests}
 use Rattle.std.specs.Prelude.{count_by}
+use Rattle.std.proofs.lemmas.Option.{same_Some}
 use Rattle.sts_env.specs.Environments.{Records, IsWhole, keys_of, record_at, NotIn, Stays}
 use Rattle.sts_env.specs.declared.env.Env.{Env}
 use Rattle.sts_env.proofs.UnsharedLemmas.{not_front}
 use Rattle.sts_env.proofs.ChangeLemmas.{vacant_to}
 use Rattle.sts_model.specs.Misuse.{is_binding}
 use Rattle.sts_store.specs.Sharing.{Shares, Holder, Keeper, keys_kept, inherited, home_at, behind}
-use Rattle.sts_store.proofs.Views.{just}
 
 -- ---- look-ups
 
@@ -41,7 +41,7 @@ by_place P xs t x y at one others u z e = by (nat_eq u t) refl
     by : (b : Bool) → nat_eq u t ≡ b → P u z
     by true q =
         let same : u ≡ t = grind (arith, nat_tests) in
-        let is : y ≡ z = just y z (sym (here xs t x y at) ∙ subst (λ i. get_or (set xs t (Some y)) i None ≡ Some z) same e) in
+        let is : y ≡ z = same_Some y z (sym (here xs t x y at) ∙ subst (λ i. get_or (set xs t (Some y)) i None ≡ Some z) same e) in
         subst (λ i. P i z) (sym same) (subst (P t) is one)
     by false q = let ne : u ≢ t = grind (arith, nat_tests) in others u z ne (sym (there xs t u (Some y) ne) ∙ e)
 

@@ -3,6 +3,7 @@ use Rattle.std.proofs.Common.{◌≡◌, ◌≢◌, ℕ, zero, suc, ◌<◌, Lis
 use Rattle.std.proofs.lemmas.Bool.Decides.{nat_tests}
 use Rattle.std.proofs.lemmas.List.{ext_get_or, length-set, get_or-set_same, get_or-set_other}
 use Rattle.std.specs.Prelude.{option_map, is_some, unwrap_or}
+use Rattle.std.proofs.lemmas.Option.{same_Some}
 use Rattle.sts_env.specs.Environments.{Records, list_of}
 use Rattle.sts_env.specs.declared.env.Env.{Env}
 use Rattle.sts_tree.specs.Forest.{Forest}
@@ -18,9 +19,6 @@ use Rattle.sts_store.proofs.ViewingLemmas.{task_is, lives_same}
 use Rattle.sts_store.specs.declared.running.Running.{Running}
 use Rattle.sts_store.specs.Parts.{Parts, live_of, beside, running_at, no_running}
 use Rattle.sts_store.specs.Stored.{IsStore}
-
-pub just : {X : Type 0} (x y : X) → Some x ≡ Some y → x ≡ y
-just x y e = cc
 
 pub some_not : {X : Type 0} (o : Option X) (x : X) → o ≡ Some x → o ≢ None
 some_not o x e none = cc
@@ -46,7 +44,7 @@ pub record Same {E : Type 0} (b d : Beside E) (u : ℕ) : Type 0 where
 abbrev pub kept_alive : {E : Type 0} → Beside E → ℕ → Bool → Alive
 kept_alive b t flag = record { frame = b.frame t; flag = flag; environment = b.bindings t }
 
-length_from : {E : Type 0} (b : Beside E) (n : ℕ) (xs : List (Option TaskNode)) → length (tasks_from b n xs) ≡ length xs
+pub length_from : {E : Type 0} (b : Beside E) (n : ℕ) (xs : List (Option TaskNode)) → length (tasks_from b n xs) ≡ length xs
 length_from b n [] = refl
 length_from b n (x ∷ xs) = ap suc (length_from b (suc n) xs)
 
@@ -177,7 +175,7 @@ lived m is t lives = by (get_or m.tree.tasks t None) refl (get_or m.frames.slots
 
 -- the frame in the record is the frame in the view
 pub same_frame : (m : Parts) (t : ℕ) (r : Running) → Lived m t → get_or m.frames.slots t None ≡ Some r → (alive_at (live_of m) t).frame ≡ r.frame
-same_frame m t r l e = ap (λ (a : Alive). a.frame) l.at ∙ ap (λ (q : Running). q.frame) (just l.run r (sym l.runs ∙ e))
+same_frame m t r l e = ap (λ (a : Alive). a.frame) l.at ∙ ap (λ (q : Running). q.frame) (same_Some l.run r (sym l.runs ∙ e))
 
 -- ---- what a living task has is written, and its bindings may change
 

@@ -45,7 +45,7 @@ frame_kept m t r f is at entries = kept_frame m t r (record r { frame = f }) is 
 
 -- ---- what was looked up is written
 
-as_truth : (b : Bool) → pos (bool_byte b) ≡ truth b
+pub as_truth : (b : Bool) → pos (bool_byte b) ≡ truth b
 as_truth true = refl
 as_truth false = refl
 

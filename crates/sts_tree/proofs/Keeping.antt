@@ -3,6 +3,7 @@ use Rattle.std.proofs.Common.{◌≡◌, ◌≢◌, ℕ, zero, suc, ◌<◌, Lis
 use Rattle.std.proofs.lemmas.Bool.Decides.{nat_tests}
 use Rattle.std.proofs.lemmas.List.{get_or_append_left, get_or_past}
 use Rattle.std.specs.Prelude.{option_map}
+use Rattle.std.proofs.lemmas.Option.{same_Some}
 use Rattle.sts_model.specs.declared.event.Stand.{Stand}
 use Rattle.sts_model.specs.declared.event.Stand.TheVariants.{Free, AtJoin, AtClose}
 use Rattle.sts_links.specs.Lists.{first_or}
@@ -22,9 +23,6 @@ lives_same tasks t s x y is scope lives = ap (λ l. is_some (first_or l None)) (
 
 pub own_stand : (s : ℕ) → stands_at s (AtJoin s) ≡ true
 own_stand s = grind (arith, nat_tests)
-
-pub some_same : (x y : TaskNode) → Some x ≡ Some y → x ≡ y
-some_same x y e = cc
 
 lives_more : (tasks : List (Option TaskNode)) (r s : ℕ) (y : TaskNode) → y.scope ≡ Some s → r ≢ s → any_lives (tasks ++ Some y ∷ []) r ≡ any_lives tasks r
 lives_more tasks r s y scope ne =
@@ -152,7 +150,7 @@ module _ {E : Type 0} where
       by : (o : Option TaskNode) → get_or f.tasks u None ≡ o → option_map unmarked o ≡ Some (unmarked z) → (c : ScopeNode E) × (get_or g.scopes s None ≡ Some c) × (c.owner ≡ u)
       by None q e = cc
       by (Some x) q e =
-          let m = some_same (unmarked x) (unmarked z) e in
+          let m = same_Some (unmarked x) (unmarked z) e in
           let l : x.lives ≡ true = ap (λ (y : TaskNode). y.lives) m ∙ lives in
           let st : stands_at s x.stand ≡ true = ap (λ (y : TaskNode). stands_at s y.stand) m ∙ stands in
           let o = owned u s x q l st in

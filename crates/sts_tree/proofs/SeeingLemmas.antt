@@ -3,6 +3,7 @@ use Rattle.std.proofs.Common.{◌≡◌, ◌≢◌, ℕ, suc, List, [], ◌∷�
 use Rattle.std.proofs.lemmas.Bool.Decides.{nat_tests}
 use Rattle.std.specs.Prelude.{option_map, option_copied}
 use Rattle.std.specs.Borrow.{Bor}
+use Rattle.std.proofs.lemmas.Option.{same_Some}
 use Rattle.sts_model.specs.declared.event.Stand.{Stand}
 use Rattle.sts_model.specs.declared.event.Stand.TheVariants.{Free, AtJoin, AtClose}
 use Rattle.sts_tree.specs.Births.{births, has, without}
@@ -25,13 +26,10 @@ pub some_task : (o : Option TaskNode) → o ≢ None → (x : TaskNode) × (o �
 some_task None h = absurd (h refl)
 some_task (Some x) h = (x, refl)
 
-just : {X : Type 0} → (x y : X) → Some x ≡ Some y → x ≡ y
-just x y e = cc
-
 -- what a reference to a scope shows
 pub copied : {X : Type 0} → (o : Option (Bor X)) (r : Bor X) (x : X) → o ≡ Some r → option_copied o ≡ Some x → r.now ≡ x
 copied None r x e f = cc
-copied (Some q) r x e f = let s : q ≡ r = cc in rw s at (just q.now x f)
+copied (Some q) r x e f = let s : q ≡ r = cc in rw s at (same_Some q.now x f)
 
 pub some_scope : {E : Type 0} → (o : Option (ScopeNode E)) → o ≢ None → (c : ScopeNode E) × (o ≡ Some c)
 some_scope None h = absurd (h refl)

@@ -3,6 +3,7 @@ use Rattle.std.proofs.Common.{◌≡◌, ◌≢◌, ℕ, ◌<◌, List, [], ◌�
 use Rattle.std.proofs.lemmas.Bool.Decides.{nat_tests}
 use Rattle.std.proofs.lemmas.List.{map-set, get_or_past, get_or_append_left}
 use Rattle.std.specs.Prelude.{option_map}
+use Rattle.std.proofs.lemmas.Option.{same_Some}
 use Rattle.sts_links.specs.Lists.{NotIn, IsList, BecomesList}
 use Rattle.sts_links.specs.declared.links.Ends.{Ends}
 use Rattle.sts_links.proofs.ChainLemmas.{without_link, list_stays}
@@ -40,16 +41,13 @@ relinked slots t r q is same m k = by (nat_eq k t) refl
 pub task_at : (slots : List (Option TaskRecord)) (t : ℕ) (r : TaskRecord) → get_or slots t None ≡ Some r → get_or (tasks_of slots) t None ≡ Some r.task
 task_at slots t r is = map_at task_of slots t ∙ ap (option_map task_of) is
 
-some_same : (a b : TaskNode) → Some a ≡ Some b → a ≡ b
-some_same a b e = cc
-
 -- a task that is seen has a record
 pub record_at : (slots : List (Option TaskRecord)) (t : ℕ) (x : TaskNode) → get_or (tasks_of slots) t None ≡ Some x → (r : TaskRecord) × (get_or slots t None ≡ Some r) × (r.task ≡ x)
 record_at slots t x is = by (get_or slots t None) refl (sym (map_at task_of slots t) ∙ is)
   where
     by : (o : Option TaskRecord) → get_or slots t None ≡ o → option_map task_of o ≡ Some x → (r : TaskRecord) × (get_or slots t None ≡ Some r) × (r.task ≡ x)
     by None e f = cc
-    by (Some r) e f = (r, e, some_same r.task x f)
+    by (Some r) e f = (r, e, same_Some r.task x f)
 
 pub seen_set : (slots : List (Option TaskRecord)) (t : ℕ) (q : TaskRecord) → tasks_of (set slots t (Some q)) ≡ set (tasks_of slots) t (Some q.task)
 seen_set slots t q = map-set (option_map task_of) slots t (Some q)
@@ -107,7 +105,7 @@ drops slots new families ready ready2 room t r q i is same tasks list =
 
 -- the task that was read is the record's
 pub own_task : (slots : List (Option TaskRecord)) (t : ℕ) (r : TaskRecord) (x : TaskNode) → get_or slots t None ≡ Some r → get_or (tasks_of slots) t None ≡ Some x → r.task ≡ x
-own_task slots t r x is e = some_same r.task x (sym (task_at slots t r is) ∙ e)
+own_task slots t r x is e = same_Some r.task x (sym (task_at slots t r is) ∙ e)
 
 -- the whole value, if tasks and ready list are known
 pub seen_is : {E : Type 0} → (f : Forest E) (tasks : List (Option TaskNode)) (ready : List ℕ) → f.tasks ≡ tasks → f.ready ≡ ready → f ≡ record f { tasks = tasks; ready = ready }

@@ -1,4 +1,5 @@
 use Rattle.std.proofs.Common.{◌≡◌, ◌++◌, ◌∷◌, [], sym, ◌∙◌, ap, subst, arith, rules, true, false, is_some, ℕ}
+use Rattle.std.proofs.lemmas.Bool.{not-false}
 use Rattle.sts_model.specs.declared.record.Frame.{Frame}
 use Rattle.sts_model.specs.Effect.{named}
 use Rattle.sts_model.specs.Misuse.{slot, innermost, is_entry_of, is_binding}
@@ -11,7 +12,7 @@ use Rattle.sts_machine.specs.Changing.{ends_task, may_wait}
 use Rattle.sts_machine.specs.Room.{HasRoomLeft}
 use Rattle.sts_machine.proofs.Changing.{as_are, changes-quiet, lives_quiet, living, opens, opener_lives, forks, forker_lives, forker_stands, binds, binder_lives, unbinds, unbinder_lives, ends, ended_dead, none_bound}
 use Rattle.sts_machine.proofs.Closing.{closes, closer_lives}
-use Rattle.sts_machine.proofs.Fine.{holds, scope_at, fork_own, close_stands, close_entry}
+use Rattle.sts_machine.proofs.Fine.{scope_at, fork_own, close_stands, close_entry}
 use Rattle.sts_machine.proofs.Quiet.{quiet-effect}
 use Rattle.sts_machine.proofs.Stood.{stands_born}
 use Rattle.sts_machine.proofs.effect.effect.Goals as goal
@@ -61,7 +62,7 @@ returns-in-Unbind-clause-rest c =
     let t = c.args.t in
     let fine = subst (IsLiveFine c.args.program.now v t (frame_of m t)) c.in-Unbind.is c.requires.fine in
     as_are v _ _ (unseen_of m) _ _ t c.unbind.ensures.live c.unbind.ensures.unseen
-    (unbinds v t (living v t c.requires.lives) (unseen_of m) (holds (innermost is_binding (frame_of m t).entries) fine.structure))
+    (unbinds v t (living v t c.requires.lives) (unseen_of m) (not-false (innermost is_binding (frame_of m t).entries) fine.structure))
 
 pub returns-in-Ret-clause-rest : goal.returns-in-Ret-clause-rest
 returns-in-Ret-clause-rest c =

@@ -1,5 +1,6 @@
 use Rattle.std.proofs.Common.{◌≡◌, ◌<◌, ◌≤◌, ◌+◌, ◌-◌, ◌^◌, [], ◌∷◌, ◌++◌, Bool, true, false, Some, refl, sym, ◌∙◌, ap, subst, length, not, arith, cond, take}
 use Rattle.std.specs.Prelude.{reverse, is_some}
+use Rattle.std.proofs.lemmas.Option.{same_Some}
 use Rattle.sts_code.specs.Program.{routine}
 use Rattle.sts_model.specs.Effect.{forked}
 use Rattle.sts_model.specs.World.{entry_frame}
@@ -15,7 +16,7 @@ use Rattle.sts_store.specs.contracts.store.Store.{the_view}
 use Rattle.sts_store.specs.declared.running.Running.{Running}
 use Rattle.sts_store.specs.Parts.{Parts, live_of, frame_of, unseen_of, beside}
 use Rattle.sts_store.specs.Stored.{IsStore}
-use Rattle.sts_store.proofs.Views.{just, same_frame, with_running}
+use Rattle.sts_store.proofs.Views.{same_frame, with_running}
 use Rattle.sts_store.proofs.Writing.{living, has_frame}
 use Rattle.sts_store.proofs.Seeing.{scope_stands}
 use Rattle.sts_store.proofs.Forks.{tasks_born, born_if, still_there, fork_kept, fork_live, fork_unseen}
@@ -28,7 +29,7 @@ pub entry_frame-frame-requires-clause-enough : goal.entry_frame-frame-requires-c
 entry_frame-frame-requires-clause-enough c =
     let m = the_view c.self.inside in
     let l = living m c.args.self.now c.self.invariant c.self.view_is c.args.t c.requires.lives in
-    let run : c.record-forker.result.now ≡ l.run = just _ _ (sym c.record-forker.ensures ∙ l.runs) in
+    let run : c.record-forker.result.now ≡ l.run = same_Some _ _ (sym c.record-forker.ensures ∙ l.runs) in
     let frame : frame_of c.args.self.now c.args.t ≡ c.record-forker.result.now.frame = ap (λ n. frame_of n c.args.t) (sym c.self.view_is) ∙ same_frame m c.args.t l.run l l.runs ∙ ap (λ (r : Running). r.frame) (sym run) in
     let enough : (routine c.args.program.now c.args.function).args ≤ length c.record-forker.result.now.frame.operands = subst (λ (f : Frame). (routine c.args.program.now c.args.function).args ≤ length f.operands) frame c.requires.enough in
     let args = c.args-args.ensures.value in
@@ -57,7 +58,7 @@ leave_fork-requires c =
     let child : Running = record { frame = c.entry_frame-frame.result; env = c.env-env.result.now } in
     let slots = c.place.ensures.slots ∙ ap (λ b. m.frames.slots ++ born_if b child ∷ []) (c.add_subtask-child.ensures.lives p.0 p.1) in
     let there = still_there m c.self.invariant (subst (λ n. InOrder (live_of n)) (sym c.self.view_is) c.requires.order) c.args.t c.args.s p.0 p.1 child c.add_subtask-child.new.self.task_keys (m.tree.task_room - 1) c.place.new.frames slots l c.add_subtask-child.new.self (c.add_subtask-child.ensures.added p.0 p.1) in
-    let run : c.at.result.now ≡ l.run = just c.at.result.now l.run (sym c.at.ensures.value ∙ there) in
+    let run : c.at.result.now ≡ l.run = same_Some c.at.result.now l.run (sym c.at.ensures.value ∙ there) in
     let frame : frame_of c.args.self.now c.args.t ≡ c.at.result.now.frame = ap (λ n. frame_of n c.args.t) (sym c.self.view_is) ∙ same_frame m c.args.t l.run l l.runs ∙ ap (λ (r : Running). r.frame) (sym run) in
     subst (λ (f : Frame). f.pc + 1 < 2 ^ 32) frame c.requires.more
 
@@ -80,7 +81,7 @@ invariant_of-self c =
     let slots = c.place.ensures.slots ∙ ap (λ b. m.frames.slots ++ born_if b child ∷ []) (c.add_subtask-child.ensures.lives p.0 p.1) in
     let same = c.add_subtask-child.ensures.added p.0 p.1 in
     let there = still_there m c.self.invariant order t s p.0 p.1 child g.task_keys (m.tree.task_room - 1) h slots l g same in
-    let run : c.at.result.now ≡ l.run = just c.at.result.now l.run (sym c.at.ensures.value ∙ there) in
+    let run : c.at.result.now ≡ l.run = same_Some c.at.result.now l.run (sym c.at.ensures.value ∙ there) in
     let entries : child.frame.entries ≡ [] = ap (λ (f : Frame). f.entries) c.entry_frame-frame.ensures in
     let kept : c.leave_fork.new.frame.entries ≡ l.run.frame.entries = ap (λ (f : Frame). f.entries) c.leave_fork.ensures ∙ ap (λ (z : Running). z.frame.entries) run in
     subst (λ (z : Running). IsStore (with_running (record m { tree = g; frames = h }) t (record z { frame = c.leave_fork.new.frame }) m.chains)) (sym run)
@@ -101,9 +102,9 @@ returns-clause-live c =
     let slots = c.place.ensures.slots ∙ ap (λ b. m.frames.slots ++ born_if b child ∷ []) (c.add_subtask-child.ensures.lives p.0 p.1) in
     let same = c.add_subtask-child.ensures.added p.0 p.1 in
     let there = still_there m c.self.invariant order t s p.0 p.1 child g.task_keys (m.tree.task_room - 1) h slots l g same in
-    let run : c.at.result.now ≡ l.run = just c.at.result.now l.run (sym c.at.ensures.value ∙ there) in
+    let run : c.at.result.now ≡ l.run = same_Some c.at.result.now l.run (sym c.at.ensures.value ∙ there) in
     let program = c.args.program.now in
-    let first : c.record-forker.result.now ≡ l.run = just _ _ (sym c.record-forker.ensures ∙ l.runs) in
+    let first : c.record-forker.result.now ≡ l.run = same_Some _ _ (sym c.record-forker.ensures ∙ l.runs) in
     let begins : child.frame ≡ entry_frame c.args.function (reverse (take (routine program c.args.function).args l.run.frame.operands)) (Lent s) =
     c.entry_frame-frame.ensures
     ∙ ap (λ a. entry_frame c.args.function (reverse (take a c.record-forker.result.now.frame.operands)) (Lent s)) c.args-args.ensures.value
@@ -135,7 +136,7 @@ returns-clause-unseen c =
     let slots = c.place.ensures.slots ∙ ap (λ b. m.frames.slots ++ born_if b child ∷ []) (c.add_subtask-child.ensures.lives p.0 p.1) in
     let same = c.add_subtask-child.ensures.added p.0 p.1 in
     let there = still_there m c.self.invariant order t s p.0 p.1 child g.task_keys (m.tree.task_room - 1) h slots l g same in
-    let run : c.at.result.now ≡ l.run = just c.at.result.now l.run (sym c.at.ensures.value ∙ there) in
+    let run : c.at.result.now ≡ l.run = same_Some c.at.result.now l.run (sym c.at.ensures.value ∙ there) in
     let room : h.room ≡ cond (live_scope_at (live_of m) s).cancelled m.frames.room (m.frames.room - 1) =
     c.place.ensures.room
     ∙ ap (λ b. cond b (m.frames.room - 1) m.frames.room) (c.add_subtask-child.ensures.lives p.0 p.1)

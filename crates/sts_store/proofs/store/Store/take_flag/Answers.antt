@@ -1,20 +1,17 @@
 use Rattle.std.proofs.Common.{◌+◌, ◌<◌, ◌^◌, length, false, Bool, true, refl, pos, ap, sym, ◌≡◌, ◌∙◌, ◌∷◌, [], arith, rules, w64}
 use mir.Val.{SFits, bool_byte, to_z, of_z}
 use Rattle.std.proofs.lemmas.Int.{to_z-of_z}
+use Rattle.std.proofs.lemmas.Option.{same_Some}
 use Rattle.sts_model.specs.Local.{steps, truth}
 use Rattle.laws_live.specs.Effect.{live_take_flag}
 use Rattle.sts_store.specs.declared.running.Running.{Running}
-use Rattle.sts_store.proofs.Views.{just, alive_of}
+use Rattle.sts_store.proofs.Views.{alive_of}
 use Rattle.sts_model.specs.declared.record.Frame.{Frame}
 use Rattle.sts_store.specs.contracts.store.Store.{the_view}
 use Rattle.sts_store.specs.Parts.{live_of, unseen_of, frame_of}
 use Rattle.sts_store.proofs.Flags.{flag_kept, flag_rest, flag_frame_seen}
-use Rattle.sts_store.proofs.Writing.{living, has_frame, has_task, at_hand, frame_is, frame_kept}
+use Rattle.sts_store.proofs.Writing.{as_truth, living, has_frame, has_task, at_hand, frame_is, frame_kept}
 use Rattle.sts_store.proofs.store.Store.take_flag.Goals as goal
-
-as_truth : (b : Bool) → pos (bool_byte b) ≡ truth b
-as_truth true = refl
-as_truth false = refl
 
 pub take_flag-flag-requires : goal.take_flag-flag-requires
 take_flag-flag-requires c = has_task (living (the_view c.self.inside) c.args.self.now c.self.invariant c.self.view_is c.args.t c.requires.lives)
@@ -49,7 +46,7 @@ returns-clause-live c =
     let r = c.at.result.now in
     let at = c.at.ensures.value in
     let l = living m now c.self.invariant c.self.view_is c.args.t c.requires.lives in
-    let run : l.run ≡ r = just l.run r (sym l.runs ∙ at) in
+    let run : l.run ≡ r = same_Some l.run r (sym l.runs ∙ at) in
     let fits : SFits w64 c.from.result = search rules in
     let value : to_z w64 (of_z w64 c.from.result) ≡ truth l.task.flag =
     to_z-of_z w64 c.from.result fits ∙ c.from.ensures ∙ as_truth c.take_flag-flag.result ∙ ap truth (c.take_flag-flag.ensures.flag l.task l.stands) in
