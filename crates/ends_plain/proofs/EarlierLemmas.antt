@@ -6,6 +6,7 @@ use Rattle.std.specs.Prelude.{◌==◌}
 use Rattle.std.specs.List.{sum_by}
 use Rattle.std.proofs.lemmas.Bool.Decides.{nat_tests}
 use Rattle.std.proofs.lemmas.List.Sums.{sum_by-set, sum_by-cons}
+use Rattle.std.proofs.lemmas.Bool.{eqb-false}
 use Rattle.sts_code.specs.Program.{Program, routine}
 use Rattle.sts_model.specs.declared.event.Event.{Event}
 use Rattle.sts_model.specs.declared.event.Event.TheVariants as event
@@ -22,6 +23,7 @@ use Rattle.ends_plain.specs.Own.{has_own_step}
 use Rattle.laws_runs.proofs.BirthLemmas.{born_alive}
 use Rattle.ends_plain.proofs.FuelLemmas.{frame_fuel, frame_fuel_named}
 use Rattle.ends_plain.proofs.OwnLemmas.{OwnStep, own_step, goes_on, IsRun, run_on, Swaps, swaps}
+use Rattle.ends_plain.proofs.WayLemmas.{counted}
 
 -- ---- the list without the step
 
@@ -35,12 +37,9 @@ step_number (event.Step u) = u
 step_number (event.Interrupt u) = u
 step_number (event.Expire s) = s
 
-apart : (a b : ℕ) → (a == b) ≡ false → a ≡ b → ⊥
-apart a b e same = grind (arith, nat_tests)
-
 not_step : (t : ℕ) (e : Event) → is_step_of t e ≡ false → e ≡ event.Step t → ⊥
 unfolding step_number
-not_step t (event.Step u) e same = apart u t e (ap step_number same)
+not_step t (event.Step u) e same = eqb-false u t e (ap step_number same)
 not_step t (event.Interrupt u) e same = cc
 not_step t (event.Expire s) e same = cc
 
@@ -57,9 +56,6 @@ without_shorter t (e ∷ es) = by (is_step_of t e) (without_shorter t es)
     by : (b : Bool) → length (without t es) ≤ length es → length (cond b es (e ∷ without t es)) ≤ length (e ∷ es)
     by true h = omega arith
     by false h = omega (arith, h)
-
-counted : (q : Event → Bool) (e : Event) (es : List Event) → count_by q (e ∷ es) ≡ cond (q e) 1 0 + count_by q es
-counted q e es = sum_by-cons (λ x. cond (q x) 1 0) e es
 
 pub without_counts : (q : Event → Bool) (t : ℕ) → q (event.Step t) ≡ false → (es : List Event) → count_by q (without t es) ≡ count_by q es
 unfolding without

@@ -4,7 +4,7 @@ use Rattle.std.proofs.Common.{Bool, true, false}
 use Rattle.std.specs.Prelude.{slice_index_or, ◌&&◌}
 use Rattle.std.specs.List.{Contains}
 use Rattle.std.proofs.Math.Dec.{ltb}
-use Rattle.std.proofs.lemmas.Bool.{ltb-true, ltb-false}
+use Rattle.std.proofs.lemmas.Bool.{ltb-true, ltb-false, and_right}
 use Rattle.std.proofs.lemmas.List.{get_or_past}
 use Rattle.std.proofs.lemmas.List.Elements.{Contains-append_left, Contains-append_right, Contains-append_cases}
 use Rattle.sts_model.specs.declared.event.Event.{Event}
@@ -57,10 +57,6 @@ false_first : (a b : Bool) → a ≡ false → (a && b) ≡ false
 false_first true b e = cc
 false_first false b e = refl
 
-false_last : (a b : Bool) → b ≡ false → (a && b) ≡ false
-false_last true b e = e
-false_last false b e = refl
-
 pub unborn_task : (w : World) (t : ℕ) → length w.tasks ≤ t → lives (task_at w t) ≡ false
 unborn_task w t h = rw (get_or_past w.tasks t no_task h) refl
 
@@ -87,7 +83,7 @@ all_interrupts left w n es born_all h = record { all = λ e t. by e t; only = h.
   where
     by : (e : Event) → interrupts_now left w e ≡ true → Contains es e
     by (event.Step t) pass = cc
-    by (event.Interrupt t) pass = h.all t (born t n (interrupts_now left w (event.Interrupt t)) pass (λ past. false_last (ltb 0 left) (lives (task_at w t)) (unborn_task w t (omega arith)))) pass
+    by (event.Interrupt t) pass = h.all t (born t n (interrupts_now left w (event.Interrupt t)) pass (λ past. and_right (ltb 0 left) (lives (task_at w t)) (unborn_task w t (omega arith)))) pass
     by (event.Expire s) pass = cc
 
 pub all_expiries : (may : Bool) (w : World) (n : ℕ) (es : List Event) → n ≡ length w.scopes → Below event.Expire (expires_now may w) n es → AreThose (expires_now may w) es
@@ -96,7 +92,7 @@ all_expiries may w n es born_all h = record { all = λ e t. by e t; only = h.onl
     by : (e : Event) → expires_now may w e ≡ true → Contains es e
     by (event.Step t) pass = cc
     by (event.Interrupt t) pass = cc
-    by (event.Expire s) pass = h.all s (born s n (expires_now may w (event.Expire s)) pass (λ past. false_last may (can_expire (scope_at w s)) (unborn_scope w s (omega arith)))) pass
+    by (event.Expire s) pass = h.all s (born s n (expires_now may w (event.Expire s)) pass (λ past. and_right may (can_expire (scope_at w s)) (unborn_scope w s (omega arith)))) pass
 
 -- ---- all three together
 

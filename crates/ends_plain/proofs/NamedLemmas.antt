@@ -1,7 +1,7 @@
 -- Names that are kept as lists lead from one state to another that is alike.
 use Rattle.std.proofs.Common.{◌≡◌, ℕ, zero, suc, ◌<◌, ◌≤◌, ◌+◌, ◌⊎◌, inl, inr, List, [], ◌∷◌, ◌++◌, Bool, true, false, refl, sym, ◌∙◌, ap, length, arith, get_or, cond, map, take, reverse}
 use Rattle.std.specs.Prelude.{Option, Some, slice_get, option_map}
-use Rattle.std.proofs.lemmas.List.{take_all, take_more, map_more, reverse-append}
+use Rattle.std.proofs.lemmas.List.{take_all, take_more, map_more, reverse-append, get_or_past}
 use Rattle.std.specs.List.{list_any}
 use Rattle.std.proofs.Math.Dec.{ltb}
 use Rattle.std.proofs.lemmas.Bool.{ltb-true, or_parts}
@@ -18,7 +18,7 @@ use Rattle.sts_model.specs.World.{World, State, Running, no_task}
 use Rattle.laws_names.specs.Names.{Names, IsOneToOne, IsSameTask, IsSameScope, ReadsNothing, is_reading, named_task, named_frame, named_slot, named_entry, named_completion}
 use Rattle.laws_names.proofs.AlikeLemmas.{part_alive}
 use Rattle.laws_names.proofs.MadeLemmas.{AreSame, alike_made}
-use Rattle.laws_names.proofs.NameLemmas.{get_past, map_push}
+use Rattle.laws_names.proofs.NameLemmas.{map_push}
 use Rattle.ends_plain.specs.declared.config.Asked.{Asked}
 use Rattle.ends_plain.specs.declared.config.Config.{Config}
 use Rattle.ends_plain.specs.declared.names.NameLists.{NameLists}
@@ -28,7 +28,7 @@ use Rattle.ends_plain.specs.Named.{name_in, names_of, IsNaming, AreNames, AllTas
 -- ---- lists of names
 
 past : (names back : List ℕ) (births : ℕ) → IsNaming names back births → (k : ℕ) → births ≤ k → name_in names k ≡ k
-past names back births h k more = get_past names k k (let many = h.as_many in omega (arith, many, more))
+past names back births h k more = get_or_past names k k (let many = h.as_many in omega (arith, many, more))
 
 one_to_one : (names back : List ℕ) (births : ℕ) → IsNaming names back births → IsOneToOne (name_in names)
 one_to_one names back births h a b e = by (ltb a births) refl (ltb b births) refl
@@ -90,7 +90,7 @@ reads_nothing p h f i e = by (ltb f.function (length p.routines)) refl
     by : (b : Bool) → ltb f.function (length p.routines) ≡ b → is_reading i ≡ false
     by true less = none_there is_reading (routine p f.function).code (h.quiet f.function (ltb-true f.function (length p.routines) less)) f.pc i e
     by false more =
-        let none = ap (λ (r : Routine). r.code) (get_past p.routines f.function no_routine (grind (arith, nat_tests))) in
+        let none = ap (λ (r : Routine). r.code) (get_or_past p.routines f.function no_routine (grind (arith, nat_tests))) in
         none_there is_reading (routine p f.function).code (ap (list_any is_reading) none) f.pc i e
 
 -- ---- tasks and states

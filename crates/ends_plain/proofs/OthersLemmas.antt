@@ -42,7 +42,7 @@ use Rattle.sts_model.specs.Run.{apply, step, stepped, perform}
 use Rattle.ends_plain.proofs.ApartLemmas.{task_apart, value_apart, scope_of_apart, sub_state_apart, any_lives_apart, subtask_count_apart}
 use Rattle.ends_plain.proofs.ApartLemmas.{standing_tasks_apart, tasks_born_apart, environment_apart, tally_apart, cleared_apart}
 use Rattle.ends_plain.proofs.ApartLemmas.{with_task_apart, flag_apart, more_apart, cancel_apart}
-use Rattle.laws_runs.proofs.BirthLemmas.{born_alive}
+use Rattle.sts_model.proofs.LivesLemmas.{born_alive, cancel_alive}
 
 -- the second world with this frame in place of the task's, which lives there, is the first
 pub record Apart (t : ℕ) (g : Frame) (v w : World) : Type 0 where
@@ -85,21 +85,8 @@ apart-frames w t g u e f same apart alive = apart-is t g (with_frame (with_frame
 apart-scope : (w : World) (t : ℕ) (g : Frame) (s : ℕ) (x : Scope) → lives (task_at w t) ≡ true → Apart t g (with_scope (with_frame w t g) s x) (with_scope w s x)
 apart-scope w t g s x alive = record { same = refl; alive = alive }
 
-raised_alive : (s : ℕ) (xs : List Task) (t : ℕ) → lives (get_or (raised s xs) t no_task) ≡ lives (get_or xs t no_task)
-raised_alive s [] t = refl
-raised_alive s (x ∷ xs) zero = by (is_living_subtask s x)
-  where
-    by : (b : Bool) → lives (cond b (record x { flag = true }) x) ≡ lives x
-    by true = refl
-    by false = refl
-raised_alive s (x ∷ xs) (suc t) = raised_alive s xs t
-
 apart-cancel : (w : World) (t : ℕ) (g : Frame) (s : ℕ) → lives (task_at w t) ≡ true → Apart t g (cancel (with_frame w t g) s) (cancel w s)
-apart-cancel w t g s alive = record { same = cancel_apart w t g s; alive = by (scope_at w s).cancelled }
-  where
-    by : (b : Bool) → lives (task_at (cond b w (marked w s)) t) ≡ true
-    by true = alive
-    by false = raised_alive s w.tasks t ∙ alive
+apart-cancel w t g s alive = record { same = cancel_apart w t g s; alive = cancel_alive w s t ∙ alive }
 
 -- ---- scopes
 

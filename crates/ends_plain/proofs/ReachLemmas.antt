@@ -5,7 +5,7 @@ use Rattle.std.specs.List.{range_with_len, Contains}
 use Rattle.std.specs.Prelude.{slice_index_or}
 use Rattle.std.proofs.lemmas.List.{get_or_default}
 use Rattle.std.proofs.Math.Dec.{ltb}
-use Rattle.std.proofs.lemmas.Bool.{ltb-true}
+use Rattle.std.proofs.lemmas.Bool.{ltb-true, eq-eqb}
 use Rattle.std.proofs.lemmas.Bool.Decides.{nat_tests}
 use Rattle.sts_code.specs.Program.{Program}
 use Rattle.sts_model.specs.declared.event.Event.{Event}
@@ -209,9 +209,6 @@ allowed_without g left t es h =
     let same : count_by is_interrupt (without t es) ≡ count_by is_interrupt es = without_counts is_interrupt t refl es in
     record { interrupts = let few = h.interrupts in omega (arith, same, few); expiries = λ e. without_counts is_expiry t refl es ∙ h.expiries e }
 
-self : (t : ℕ) → (t == t) ≡ true
-self t = grind (arith, nat_tests)
-
 -- fewer, or as many
 either : {X : Type 0} (a b : ℕ) → a ≤ b → (a < b → X) → (a ≤ b → X) → X
 either {X} a b most fewer same = by (ltb a b) refl
@@ -232,7 +229,7 @@ by_own a states over n k shorter nearer es c t in_there less little is h =
     let there : Config = next g c (event.Step t) in
     let rest = without t es in
     let at_there : there.position ≡ step p o.world t = ap (λ (s : State). apply p s (event.Step t)) o.runs in
-    let tried : tries g c (event.Step t) ≡ true = ap (λ (x : Option ℕ). is_tried x g c.left c.position (event.Step t)) is ∙ self t in
+    let tried : tries g c (event.Step t) ≡ true = ap (λ (x : Option ℕ). is_tried x g c.left c.position (event.Step t)) is ∙ eq-eqb t t refl in
     let same : shown (fold (apply p) there.position rest) ≡ shown (fold (apply p) c.position es) =
     ap (λ (s : State). shown (fold (apply p) s rest)) at_there
     ∙ shows_same shown shown_outward p es o.world t (subst (λ (s : State). IsRun p s) o.runs run) o.own

@@ -5,7 +5,7 @@ use Rattle.std.proofs.Common.{Bool, true, false}
 use Rattle.std.specs.Prelude.{◌&&◌}
 use Rattle.std.proofs.lemmas.List.Sums.{sum_by-cons}
 use Rattle.std.proofs.Math.Dec.{ltb}
-use Rattle.std.proofs.lemmas.Bool.{ltb-true, lt-ltb}
+use Rattle.std.proofs.lemmas.Bool.{ltb-true, lt-ltb, and_parts}
 use Rattle.sts_code.specs.Program.{Program}
 use Rattle.sts_model.specs.declared.event.Event.{Event}
 use Rattle.sts_model.specs.declared.event.Event.TheVariants as event
@@ -25,23 +25,19 @@ pub position_after : (g : Setting) (c : Config) (events : List Event) → (fold 
 position_after g c [] = refl
 position_after g c (e ∷ es) = position_after g (next g c e) es
 
-both : (a b : Bool) → (a && b) ≡ true → (a ≡ true) × (b ≡ true)
-both true b e = (refl, e)
-both false b e = cc
-
 -- one event more in front of a count
-counted : (p : Event → Bool) (e : Event) (es : List Event) → count_by p (e ∷ es) ≡ cond (p e) 1 0 + count_by p es
+pub counted : (p : Event → Bool) (e : Event) (es : List Event) → count_by p (e ∷ es) ≡ cond (p e) 1 0 + count_by p es
 counted p e es = sum_by-cons (λ x. cond (p x) 1 0) e es
 
 -- ---- what can come is allowed
 
 can_interrupt : (g : Setting) (left : ℕ) (s : State) (t : ℕ) → can_come g left s (event.Interrupt t) ≡ true → 0 < left
 can_interrupt g left (Faulted kind t' f pc) t h = cc
-can_interrupt g left (Running w) t h = ltb-true 0 left (both (ltb 0 left) (lives (task_at w t)) h).0
+can_interrupt g left (Running w) t h = ltb-true 0 left (and_parts (ltb 0 left) (lives (task_at w t)) h).0
 
 can_expire_only : (g : Setting) (left : ℕ) (s : State) (t : ℕ) → can_come g left s (event.Expire t) ≡ true → g.expiries ≡ true
 can_expire_only g left (Faulted kind t' f pc) t h = cc
-can_expire_only g left (Running w) t h = (both g.expiries (can_expire (scope_at w t)) h).0
+can_expire_only g left (Running w) t h = (and_parts g.expiries (can_expire (scope_at w t)) h).0
 
 pub allowed : (g : Setting) (c : Config) (events : List Event) → CanAll (next g) (can g) c events → IsAllowed g.expiries c.left events
 allowed g c [] h = record { interrupts = omega arith; expiries = λ e. refl }

@@ -2,14 +2,15 @@
 use Rattle.std.proofs.Common.{◌≡◌, ℕ, ◌+◌, ◌<◌, ◌≤◌, List, [], ◌∷◌, ◌++◌, Bool, true, false, Option}
 use Rattle.std.proofs.Common.{refl, sym, ◌∙◌, ap, subst, length, arith, get_or, set, cond, ◌&&◌}
 use Rattle.std.proofs.Common.{length-set, length-append, get_or-set_same, get_or-set_other}
-use Rattle.std.proofs.lemmas.List.{set_past, get_or_append_left}
+use Rattle.std.proofs.lemmas.List.{set_past, get_or_append_left, get_or_past}
 use Rattle.std.proofs.Math.Dec.{ltb}
 use Rattle.std.proofs.Math.Seq.{get_or-append_seam}
 use Rattle.std.specs.Prelude.{◌==◌, option_map}
 use Rattle.std.specs.List.{sum_by}
-use Rattle.std.proofs.lemmas.Bool.{ltb-true}
+use Rattle.std.proofs.lemmas.Bool.{ltb-true, eqb-false, eqb-true}
 use Rattle.std.proofs.lemmas.Bool.Decides.{nat_tests}
 use Rattle.std.proofs.lemmas.List.Sums.{sum_by-set, sum_by_push}
+use Rattle.std.proofs.Math.ListN.{get_or-map}
 use Rattle.sts_model.specs.declared.record.Frame.{Frame}
 use Rattle.sts_model.specs.declared.record.Scope.{Scope}
 use Rattle.sts_model.specs.declared.record.Task.{Task}
@@ -17,7 +18,7 @@ use Rattle.sts_model.specs.World.{World, task_at, scope_at, no_task, no_scope, w
 use Rattle.sts_model.specs.Living.{lives, is_in, is_subtask, is_living_subtask}
 use Rattle.sts_model.specs.Cancelling.{raise, raised, marked, cancel}
 use Rattle.laws_names.specs.Names.{Names, IsAlike, IsOneToOne, live_part, plain_part, named_frame, named_task, named_scope, IsSameTask, IsSameScope}
-use Rattle.laws_names.proofs.NameLemmas.{equal, unequal, in_named, name_below, get_map, map_length, get_past, sum_map, sum_same}
+use Rattle.laws_names.proofs.NameLemmas.{in_named, name_below, map_length, sum_map, sum_same}
 
 -- ---- the part of a task that can be read
 
@@ -85,9 +86,9 @@ alike_task n w v a t x y h =
 
     at_task : (u : ℕ) (b : Bool) → ltb t (length w.tasks) ≡ b → (c : Bool) → (u == t) ≡ c → IsSameTask n (get_or (set w.tasks t x) u no_task) (get_or (set v.tasks (n.tasks t) y) (n.tasks u) no_task)
     at_task u true e true same =
-        rw (equal u t same, get_or-set_same w.tasks t x no_task (ltb-true t (length w.tasks) e), get_or-set_same v.tasks (n.tasks t) y no_task (below e)) h
+        rw (eqb-true u t same, get_or-set_same w.tasks t x no_task (ltb-true t (length w.tasks) e), get_or-set_same v.tasks (n.tasks t) y no_task (below e)) h
     at_task u true e false other =
-        rw (get_or-set_other w.tasks t u x no_task (λ s. unequal u t other s), get_or-set_other v.tasks (n.tasks t) (n.tasks u) y no_task (λ s. unequal u t other (a.named.task_names u t s))) (a.task u)
+        rw (get_or-set_other w.tasks t u x no_task (λ s. eqb-false u t other s), get_or-set_other v.tasks (n.tasks t) (n.tasks u) y no_task (λ s. eqb-false u t other (a.named.task_names u t s))) (a.task u)
     at_task u false e c same = rw (set_past w.tasks t x (past e), set_past v.tasks (n.tasks t) y (past_too e)) (a.task u)
 
     sums : (q : Task → ℕ) (b : Bool) → ltb t (length w.tasks) ≡ b → sum_part q (set v.tasks (n.tasks t) y) ≡ sum_part (λ z. q (named_task n z)) (set w.tasks t x)
@@ -139,9 +140,9 @@ alike_scope n w v a s x y h =
 
     at_scope : (u : ℕ) (b : Bool) → ltb s (length w.scopes) ≡ b → (c : Bool) → (u == s) ≡ c → IsSameScope n (get_or (set w.scopes s x) u no_scope) (get_or (set v.scopes (n.scopes s) y) (n.scopes u) no_scope)
     at_scope u true e true same =
-        rw (equal u s same, get_or-set_same w.scopes s x no_scope (ltb-true s (length w.scopes) e), get_or-set_same v.scopes (n.scopes s) y no_scope (below e)) h
+        rw (eqb-true u s same, get_or-set_same w.scopes s x no_scope (ltb-true s (length w.scopes) e), get_or-set_same v.scopes (n.scopes s) y no_scope (below e)) h
     at_scope u true e false other =
-        rw (get_or-set_other w.scopes s u x no_scope (λ z. unequal u s other z), get_or-set_other v.scopes (n.scopes s) (n.scopes u) y no_scope (λ z. unequal u s other (a.named.scope_names u s z))) (a.scope u)
+        rw (get_or-set_other w.scopes s u x no_scope (λ z. eqb-false u s other z), get_or-set_other v.scopes (n.scopes s) (n.scopes u) y no_scope (λ z. eqb-false u s other (a.named.scope_names u s z))) (a.scope u)
     at_scope u false e c same = rw (set_past w.scopes s x (past e), set_past v.scopes (n.scopes s) y (past_too e)) (a.scope u)
 
     sums : (q : Scope → ℕ) (b : Bool) → ltb s (length w.scopes) ≡ b → sum_by (λ z. q (plain_part z)) (set v.scopes (n.scopes s) y) ≡ sum_by (λ z. q (named_scope n (plain_part z))) (set w.scopes s x)
@@ -168,14 +169,14 @@ more {X} Rel f xs ys x y d born one later default new old k = by (ltb k (length 
         let there : f k < length ys = omega (arith, named, born) in
         rw (get_or_append_left xs (x ∷ []) d k here, get_or_append_left ys (y ∷ []) d (f k) there) (old k)
     by false e true same =
-        let here = equal k (length xs) same in
+        let here = eqb-true k (length xs) same in
         let there : f k ≡ length ys = later k (omega (arith, here)) ∙ here ∙ sym born in
         rw (there, here, get_or-append_seam xs x [] d, get_or-append_seam ys y [] d) new
     by false e false other =
         let past : length xs ≤ k = grind (arith, nat_tests) in
-        let after : length (xs ++ x ∷ []) ≤ k = let l = length-append xs (x ∷ []) in let u = unequal k (length xs) other in grind (arith, nat_tests) in
+        let after : length (xs ++ x ∷ []) ≤ k = let l = length-append xs (x ∷ []) in let u = eqb-false k (length xs) other in grind (arith, nat_tests) in
         let there : length (ys ++ y ∷ []) ≤ f k = let l = length-append ys (y ∷ []) in let m = length-append xs (x ∷ []) in let s = later k past in omega (arith, l, m, s, born, after) in
-        rw (get_past (xs ++ x ∷ []) k d after, get_past (ys ++ y ∷ []) (f k) d there) default
+        rw (get_or_past (xs ++ x ∷ []) k d after, get_or_past (ys ++ y ∷ []) (f k) d there) default
 
 pub alike_more_tasks : (n : Names) (w v : World) → IsAlike n w v → (x y : Task) → IsSameTask n x y → IsAlike n (record w { tasks = w.tasks ++ x ∷ [] }) (record v { tasks = v.tasks ++ y ∷ [] })
 alike_more_tasks n w v a x y h = record {
@@ -243,7 +244,7 @@ alike_raised n w v a s =
         later_scopes = a.named.later_scopes;
         root = a.named.root;
       };
-      task = λ t. rw (get_map (raise s) w.tasks t no_task, get_map (raise (n.scopes s)) v.tasks (n.tasks t) no_task) (raise_same n a.named.scope_names s (task_at w t) (task_at v (n.tasks t)) (a.task t));
+      task = λ t. rw (get_or-map (raise s) w.tasks t no_task, get_or-map (raise (n.scopes s)) v.tasks (n.tasks t) no_task) (raise_same n a.named.scope_names s (task_at w t) (task_at v (n.tasks t)) (a.task t));
       scope = a.scope;
       task_sums = sums;
       scope_sums = a.scope_sums;

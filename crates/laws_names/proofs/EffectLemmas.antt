@@ -1,7 +1,7 @@
 -- Each instruction leads from two states that are alike to two that are.
 use Rattle.std.proofs.Common.{◌≡◌, ℕ, ◌+◌, ◌<◌, zero, suc, List, [], ◌∷◌, ◌++◌, Bool, true, false, Option, Some, None}
 use Rattle.std.proofs.Common.{refl, sym, ◌∙◌, ap, subst, length, arith, get_or, cond, ◌||◌, not, map, drop}
-use Rattle.std.proofs.lemmas.Bool.{or_parts}
+use Rattle.std.proofs.lemmas.Bool.{or_parts, not-false}
 use Rattle.std.proofs.lemmas.List.{get_or_append_left}
 use Rattle.std.specs.Prelude.{ℤ, pos, ◌-◌, ◌==◌, nat_le, unwrap_or, option_map, slice_set}
 use Rattle.std.specs.Int.{int_wrapping_div, w64}
@@ -35,16 +35,13 @@ use Rattle.sts_model.specs.Environment.{environment_of}
 use Rattle.sts_model.specs.Effect.{named, with_phase, open_scope, with_slot, forked, subtask_of, fork_task, joined, join_verdict, join_scope, cleared, closed, close_scope}
 use Rattle.sts_model.specs.Effect.{told, decide, complete, tell, ended, end_task, tally, total, case_target, value_or_zero, moved, effect}
 use Rattle.sts_model.specs.Misuse.{slot, is_scope, is_sub, has_wrong_slot}
+use Rattle.sts_model.proofs.LivesLemmas.{born_alive, cancel_alive}
 use Rattle.laws_names.specs.Names.{Names, IsAlike, live_part, plain_part, named_slot, named_entry, named_frame, named_task, named_scope, named_completion, is_reading}
 use Rattle.laws_names.proofs.NameLemmas.{map_set, map_drop, map_push}
 use Rattle.laws_names.proofs.AlikeLemmas.{same_scope, same_alive, same_made, alike_task, alike_frame, alike_scope, alike_more_tasks, alike_more_scopes, alike_cond, alike_cancel, cancelled_same}
 use Rattle.laws_names.proofs.ReadLemmas.{any_lives_same, subtask_count_same, ends_same, sub_state_same, tally_same, total_same, slot_named, cleared_same}
 
 -- ---- names of slots
-
-yes : (b : Bool) → not b ≡ false → b ≡ true
-yes true h = refl
-yes false h = cc
 
 scope_name : (n : Names) (x : Slot) → is_scope x ≡ true → named (named_slot n x) ≡ n.scopes (named x)
 scope_name n Empty e = cc
@@ -61,12 +58,12 @@ sub_name n (Sub t) e = refl
 scope_at_slot : (n : Names) (f : Frame) (x : ℕ) (b c : Bool) → (not (is_scope (slot f x)) || b || c) ≡ false → named (slot (named_frame n f) x) ≡ n.scopes (named (slot f x))
 scope_at_slot n f x b c e =
     let h = or_parts (not (is_scope (slot f x))) b (or_parts (not (is_scope (slot f x)) || b) c e).0 in
-    ap named (slot_named n f x) ∙ scope_name n (slot f x) (yes (is_scope (slot f x)) h.0)
+    ap named (slot_named n f x) ∙ scope_name n (slot f x) (not-false (is_scope (slot f x)) h.0)
 
 sub_at_slot : (n : Names) (f : Frame) (x : ℕ) (b c : Bool) → (b || not (is_sub (slot f x)) || c) ≡ false → named (slot (named_frame n f) x) ≡ n.tasks (named (slot f x))
 sub_at_slot n f x b c e =
     let h = or_parts b (not (is_sub (slot f x))) (or_parts (b || not (is_sub (slot f x))) c e).0 in
-    ap named (slot_named n f x) ∙ sub_name n (slot f x) (yes (is_sub (slot f x)) h.1)
+    ap named (slot_named n f x) ∙ sub_name n (slot f x) (not-false (is_sub (slot f x)) h.1)
 
 -- ---- local instructions
 
@@ -103,14 +100,6 @@ alike_open n w v a t f x joiner timed alive =
     (ap (λ (k : ℕ). record (steps g 0 []) { entries = entry.Scope k ∷ g.entries; slots = slice_set g.slots x (Own k) }) same
     ∙ ap (λ (xs : List Slot). record (steps g 0 []) { entries = entry.Scope (n.scopes m) ∷ g.entries; slots = xs }) (sym (map_set (named_slot n) f.slots x (Own m))))
 
-born : (w : World) (t : ℕ) → lives (task_at w t) ≡ true → t < length w.tasks
-born w t alive = by w.tasks t alive
-  where
-    by : (xs : List Task) (u : ℕ) → lives (get_or xs u no_task) ≡ true → u < length xs
-    by [] u e = cc
-    by (x ∷ xs) zero e = omega arith
-    by (x ∷ xs) (suc u) e = let h = by xs u e in omega (arith, h)
-
 with_slot_named : (n : Names) (xs : List Slot) (h : Option ℕ) (c : ℕ) → with_slot (map (named_slot n) xs) h (Sub (n.tasks c)) ≡ map (named_slot n) (with_slot xs h (Sub c))
 with_slot_named n xs None c = refl
 with_slot_named n xs (Some x) c = sym (map_set (named_slot n) xs x (Sub c))
@@ -126,7 +115,7 @@ alike_fork p n w v a t f s m h alive =
     let same : length v.tasks ≡ n.tasks c = a.named.tasks_born ∙ sym (a.named.later_tasks c (omega arith)) in
     alike_frame n (record w { tasks = w.tasks ++ x ∷ [] }) (record v { tasks = v.tasks ++ y ∷ [] }) (alike_more_tasks n w v a x y (ap live_part made ∙ same_made n x)) t
     (forked f (routine p m).args h c) (forked g (routine p m).args h (length v.tasks))
-    (ap lives (get_or_append_left w.tasks (x ∷ []) no_task t (born w t alive)) ∙ alive)
+    (ap lives (get_or_append_left w.tasks (x ∷ []) no_task t (born_alive w t alive)) ∙ alive)
     (ap (λ (k : ℕ). forked g (routine p m).args h k) same
     ∙ ap (λ (xs : List Slot). record (steps g (routine p m).args []) { slots = xs }) (with_slot_named n f.slots h c))
 
@@ -200,22 +189,6 @@ alike_closing n w v a t f s alive =
     (alike_cond n (any_lives w s) (with_phase w s Closing) (with_phase v (n.scopes s) Closing) (closed w t f s) (closed v (n.tasks t) (named_frame n f) (n.scopes s))
     (alike_phase n w v a s Closing) (alike_closed n w v a t f s alive))
 
-raised_alive : (s : ℕ) (xs : List Task) (t : ℕ) → lives (get_or (raised s xs) t no_task) ≡ lives (get_or xs t no_task)
-raised_alive s [] t = refl
-raised_alive s (x ∷ xs) zero = by (is_living_subtask s x)
-  where
-    by : (b : Bool) → lives (cond b (record x { flag = true }) x) ≡ lives x
-    by true = refl
-    by false = refl
-raised_alive s (x ∷ xs) (suc t) = raised_alive s xs t
-
-cancel_alive : (w : World) (s t : ℕ) → lives (task_at (cancel w s) t) ≡ lives (task_at w t)
-cancel_alive w s t = by (scope_at w s).cancelled
-  where
-    by : (b : Bool) → lives (task_at (cond b w (marked w s)) t) ≡ lives (task_at w t)
-    by true = refl
-    by false = raised_alive s w.tasks t
-
 alike_close : (n : Names) (w v : World) → IsAlike n w v → (t : ℕ) (f : Frame) (s : ℕ) → lives (task_at w t) ≡ true → IsAlike n (close_scope w t f s) (close_scope v (n.tasks t) (named_frame n f) (n.scopes s))
 unfolding close_scope
 alike_close n w v a t f s alive = alike_closing n (cancel w s) (cancel v (n.scopes s)) (alike_cancel n w v a s) t f s (cancel_alive w s t ∙ alive)
@@ -269,7 +242,7 @@ state_at_slot n w v a f h slots = ap (sub_state v) (sub_at_slot n f h false fals
 
 moved_named : (p : Program) (n : Names) (w v : World) → IsAlike n w v → (t : ℕ) (f : Frame) (i : Instr) → has_wrong_slot f i ≡ false → is_reading i ≡ false → moved p v (n.tasks t) (named_frame n f) i ≡ named_frame n (moved p w t f i)
 moved_named p n w v a t f (instr.Cancelled s) slots quiet =
-    ap (λ (r : ℕ). steps (named_frame n f) 0 (truth (scope_at v r).cancelled ∷ [])) (ap named (slot_named n f s) ∙ scope_name n (slot f s) (yes (is_scope (slot f s)) slots))
+    ap (λ (r : ℕ). steps (named_frame n f) 0 (truth (scope_at v r).cancelled ∷ [])) (ap named (slot_named n f s) ∙ scope_name n (slot f s) (not-false (is_scope (slot f s)) slots))
     ∙ ap (λ (b : Bool). steps (named_frame n f) 0 (truth b ∷ [])) (cancelled_same n w v a (named (slot f s)))
 moved_named p n w v a t f (instr.Case h success failed) slots quiet = ap (λ (o : Option End). goes (named_frame n f) (case_target o success failed (f.pc + 1)) 0 []) (state_at_slot n w v a f h slots)
 moved_named p n w v a t f (instr.Get h) slots quiet = ap (λ (o : Option End). steps (named_frame n f) 0 (value_or_zero o ∷ [])) (state_at_slot n w v a f h slots)

@@ -6,9 +6,10 @@ use Rattle.std.proofs.lemmas.Bool.{ltb-true}
 use Rattle.std.proofs.lemmas.Bool.Decides.{nat_tests}
 use Rattle.std.proofs.lemmas.List.Edits.{length-remove, get_or-remove_below, get_or-remove_above}
 use Rattle.std.proofs.lemmas.List.Sums.{sum_by-cons, sum_by-remove}
+use Rattle.std.proofs.lemmas.List.{get_or_past}
 use Rattle.sts_model.specs.World.{World, task_at, scope_at, no_task, no_scope}
 use Rattle.laws_names.specs.Names.{Names, IsAlike, AreNamed, IsOneToOne, live_part, plain_part, named_task, named_scope, IsSameTask, IsSameScope}
-use Rattle.laws_names.proofs.NameLemmas.{get_past, name_below}
+use Rattle.laws_names.proofs.NameLemmas.{name_below}
 
 -- a place after another one was taken out
 shift : ℕ → ℕ → ℕ
@@ -90,7 +91,7 @@ alike_made n w v h =
         let same = h.named.later_tasks t past in
         let born = h.named.tasks_born in
         let past_too : length v.tasks ≤ n.tasks t = omega (arith, past, same, born) in
-        rw (get_past w.tasks t no_task past, get_past v.tasks (n.tasks t) no_task past_too) refl
+        rw (get_or_past w.tasks t no_task past, get_or_past v.tasks (n.tasks t) no_task past_too) refl
 
     at_scope : (s : ℕ) (b : Bool) → ltb s (length w.scopes) ≡ b → IsSameScope n (scope_at w s) (scope_at v (n.scopes s))
     at_scope s true e = h.scope s (ltb-true s (length w.scopes) e)
@@ -99,4 +100,4 @@ alike_made n w v h =
         let same = h.named.later_scopes s past in
         let born = h.named.scopes_born in
         let past_too : length v.scopes ≤ n.scopes s = omega (arith, past, same, born) in
-        rw (get_past w.scopes s no_scope past, get_past v.scopes (n.scopes s) no_scope past_too) (ap (λ m. plain_part (record no_scope { owner = m })) (sym h.named.root))
+        rw (get_or_past w.scopes s no_scope past, get_or_past v.scopes (n.scopes s) no_scope past_too) (ap (λ m. plain_part (record no_scope { owner = m })) (sym h.named.root))

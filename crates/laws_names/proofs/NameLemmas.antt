@@ -4,7 +4,7 @@ use Rattle.std.proofs.Common.{refl, sym, ◌∙◌, ap, length, arith, get_or, s
 use Rattle.std.proofs.Math.Dec.{ltb}
 use Rattle.std.specs.Prelude.{◌==◌, nat_lt, option_map, find}
 use Rattle.std.specs.List.{sum_by, list_any}
-use Rattle.std.proofs.lemmas.Bool.{lt-ltb, ltb-true}
+use Rattle.std.proofs.lemmas.Bool.{lt-ltb, ltb-true, eqb-false, eqb-true}
 use Rattle.std.proofs.lemmas.Bool.Decides.{nat_tests}
 use Rattle.std.proofs.lemmas.List.Sums.{sum_by-cons}
 use Rattle.sts_model.specs.declared.record.Completion.{Completion}
@@ -13,20 +13,14 @@ use Rattle.laws_names.specs.Names.{Names, IsOneToOne, named_completion}
 
 -- ---- numbers
 
-pub equal : (a b : ℕ) → (a == b) ≡ true → a ≡ b
-equal a b e = grind (arith, nat_tests)
-
-pub unequal : (a b : ℕ) → (a == b) ≡ false → a ≡ b → ⊥
-unequal a b e same = grind (arith, nat_tests)
-
 pub same_test : (f : ℕ → ℕ) → IsOneToOne f → (a b : ℕ) → (f a == f b) ≡ (a == b)
 same_test f one a b = by (a == b) refl (f a == f b) refl
   where
     by : (x : Bool) → (a == b) ≡ x → (y : Bool) → (f a == f b) ≡ y → y ≡ x
     by true e true g = refl
     by false e false g = refl
-    by true e false g = absurd (unequal (f a) (f b) g (ap f (equal a b e)))
-    by false e true g = absurd (unequal a b e (one a b (equal (f a) (f b) g)))
+    by true e false g = absurd (eqb-false (f a) (f b) g (ap f (eqb-true a b e)))
+    by false e true g = absurd (eqb-false a b e (one a b (eqb-true (f a) (f b) g)))
 
 pub in_named : (f : ℕ → ℕ) → IsOneToOne f → (s : ℕ) (o : Option ℕ) → is_in (f s) (option_map f o) ≡ is_in s o
 in_named f one s None = refl
@@ -50,11 +44,6 @@ map_set f [] k x = refl
 map_set f (y ∷ ys) zero x = refl
 map_set f (y ∷ ys) (suc k) x = ap (λ l. f y ∷ l) (map_set f ys k x)
 
-pub get_map : {X Y : Type 0} (f : X → Y) (xs : List X) (k : ℕ) (d : X) → get_or (map f xs) k (f d) ≡ f (get_or xs k d)
-get_map f [] k d = refl
-get_map f (x ∷ xs) zero d = refl
-get_map f (x ∷ xs) (suc k) d = get_map f xs k d
-
 pub map_drop : {X Y : Type 0} (f : X → Y) (k : ℕ) (xs : List X) → map f (drop k xs) ≡ drop k (map f xs)
 map_drop f zero xs = refl
 map_drop f (suc k) [] = refl
@@ -67,12 +56,6 @@ map_push f (y ∷ ys) x = ap (λ l. f y ∷ l) (map_push f ys x)
 pub map_length : {X Y : Type 0} (f : X → Y) (xs : List X) → length (map f xs) ≡ length xs
 map_length f [] = refl
 map_length f (x ∷ xs) = let h = map_length f xs in omega (arith, h)
-
--- what a list reads as past its end
-pub get_past : {X : Type 0} (xs : List X) (k : ℕ) (d : X) → length xs ≤ k → get_or xs k d ≡ d
-get_past [] k d past = refl
-get_past (x ∷ xs) zero d past = absurd (omega (arith, past))
-get_past (x ∷ xs) (suc k) d past = get_past xs k d (omega (arith, past))
 
 pub sum_map : {X Y : Type 0} (q : Y → ℕ) (f : X → Y) (xs : List X) → sum_by q (map f xs) ≡ sum_by (λ x. q (f x)) xs
 sum_map q f [] = refl

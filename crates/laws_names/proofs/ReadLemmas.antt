@@ -2,6 +2,7 @@
 use Rattle.std.proofs.Common.{◌≡◌, ℕ, List, [], ◌∷◌, Bool, true, false, Option, Some, None}
 use Rattle.std.proofs.Common.{refl, sym, ◌∙◌, ap, length, cond, count_by, ◌&&◌, ◌||◌, not, map}
 use Rattle.std.specs.Prelude.{◌-◌, ◌==◌, nat_lt, option_map}
+use Rattle.std.proofs.Math.ListN.{get_or-map}
 use Rattle.sts_code.specs.Facts.{owners_slot, subtask_slot, filled_slot}
 use Rattle.sts_code.specs.Program.{Program}
 use Rattle.sts_code.specs.declared.instr.Instr.{Instr}
@@ -30,7 +31,7 @@ use Rattle.sts_model.specs.Misuse.{has_no_room, is_illegal, is_opened, can_join,
 use Rattle.sts_model.specs.Misuse.{breaks_structure, is_binding, is_entry_of, innermost, binds_after, misuses_operand, fault_of, fault_at, misuse}
 use Rattle.sts_model.specs.Waiting.{can_step, can_go, stand_at_instr, stands_at_join, stands_at_close}
 use Rattle.laws_names.specs.Names.{Names, IsAlike, live_part, plain_part, named_slot, named_entry, named_frame, named_task, named_completion, is_reading, ReadsNothing, IsSameScope}
-use Rattle.laws_names.proofs.NameLemmas.{same_test, in_named, get_map, map_length, sum_same, any_count, ends_named, completion_named}
+use Rattle.laws_names.proofs.NameLemmas.{same_test, in_named, map_length, sum_same, any_count, ends_named, completion_named}
 use Rattle.laws_names.proofs.AlikeLemmas.{part_is, same_lives, same_scope, same_alive}
 
 -- ---- counts
@@ -94,7 +95,7 @@ total_same n w v a s = ap total_of (ends_same n w v a s)
 -- ---- slots
 
 pub slot_named : (n : Names) (f : Frame) (x : ℕ) → slot (named_frame n f) x ≡ named_slot n (slot f x)
-slot_named n f x = get_map (named_slot n) f.slots x Empty
+slot_named n f x = get_or-map (named_slot n) f.slots x Empty
 
 is_of_same : (n : Names) (w v : World) → IsAlike n w v → (s : ℕ) (x : Slot) → is_of v (n.scopes s) (named_slot n x) ≡ is_of w s x
 is_of_same n w v a s Empty = refl

@@ -7,6 +7,7 @@ use Rattle.std.specs.Option.{option_or}
 use Rattle.std.proofs.lemmas.Bool.{eqb-true, eqb-false, eq-eqb, ne_eqb}
 use Rattle.std.proofs.lemmas.List.{get_or-set_same, get_or-set_other, length-append, length-set}
 use Rattle.std.proofs.lemmas.List.{length-map}
+use Rattle.std.proofs.Math.Bool.{and-false}
 use Rattle.sts_code.specs.Program.{Program}
 use Rattle.sts_code.specs.declared.instr.Joiner.{Joiner}
 use Rattle.sts_model.specs.declared.event.End.{End}
@@ -104,10 +105,6 @@ ends_fork p w v bs t f s g h e k =
 
 -- ---- the end of a task
 
-and_false : (b : Bool) → b && false ≡ false
-and_false true = refl
-and_false false = refl
-
 no_end : (b : Bool) (o : Option End) → b && is_none o ≡ true → o ≡ None
 no_end true None e = refl
 no_end true (Some end) e = cc
@@ -125,7 +122,7 @@ ends_end w v bs t f end e born alive k =
     by_test : (s u : ℕ) (b : Bool) → eqb u t ≡ b → completion_of (scope_at w s).completions u ≡ end_in s (task_at (ended w t f end) u) (get_or (set bs t false) u false)
     by_test s u true h =
         let same : u ≡ t = eqb-true u t h in
-        rw (same, get_or-set_same bs t false false (omega (arith, k.as_many)), and_false) (untold w bs s t alive k)
+        rw (same, get_or-set_same bs t false false (omega (arith, k.as_many)), and-false) (untold w bs s t alive k)
     by_test s u false h =
         rw (get_or-set_other w.tasks t u _ no_task (eqb-false u t h), get_or-set_other bs t u false false (eqb-false u t h)) (k.ends s u)
 

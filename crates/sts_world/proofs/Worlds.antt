@@ -7,6 +7,7 @@ use Rattle.std.proofs.Math.Seq.{map-set_same, take-append_seam}
 use Rattle.std.proofs.lemmas.List.{map-set, map-append, get_or-map, get_or_past, get_or-set_same}
 use Rattle.std.proofs.lemmas.List.{length-map, length-append}
 use Rattle.std.proofs.lemmas.Bool.{cases_lt}
+use Rattle.std.proofs.Math.Bool.{and-false}
 use Rattle.sts_code.specs.Program.{Program}
 use Rattle.sts_code.specs.declared.limits.TheConstants.{MAX_STANDING}
 use Rattle.sts_code.specs.declared.instr.Joiner.{Joiner}
@@ -86,10 +87,6 @@ and_true : (b : Bool) → b && true ≡ b
 and_true true = refl
 and_true false = refl
 
-and_false : (b : Bool) → b && false ≡ false
-and_false true = refl
-and_false false = refl
-
 pub kept_child : (p : Program) (w v : World) (fs : List Family) (ts : List Tallied) (n m t : ℕ) (f : Frame) (s g : ℕ) (h : Option ℕ) → v ≡ fork_task p w t f s g h → s < length w.scopes → is_shut (scope_at w s) ≡ false → n < MAX_STANDING → IsKept (lines w) fs ts n m → IsKept (lines v) (set fs s (with_child (get_or fs s no_family) (length w.tasks) (not (scope_at w s).cancelled))) ts (n + 1) m
 unfolding fork_task
 kept_child p w v fs ts n m t f s g h e bound open_now room k =
@@ -111,7 +108,7 @@ alive : (w : World) (t : ℕ) → t < length w.tasks → lives (task_at w t) ≡
 alive w t h e = get_or-map line w.tasks t no_task (line no_task) h ∙ rw e refl
 
 after_end : (w v : World) (t : ℕ) (f : Frame) (end : End) → v ≡ ended w t f end → lines v ≡ record (lines w) { tasks = set (map line w.tasks) t (record { scope = (task_at w t).scope; lives = false }) }
-after_end w v t f end e = ap lines e ∙ rw (map-set, and_false) refl
+after_end w v t f end e = ap lines e ∙ rw (map-set, and-false) refl
 
 -- a task's own end is that end in the world
 pub ended_at : (w : World) (t : ℕ) (task x : Task) (end : End) → x ≡ record task { frame = steps task.frame 1 []; outcome = Some end } → task ≡ task_at w t → with_task w t x ≡ ended w t (task_at w t).frame end
