@@ -1,6 +1,10 @@
 //! Events, ends, faults, phases, results of joiners, and whether a task is at a `join` or a
 //! `close`.
 
+ghost use Rattle.std.specs.Prelude.{◌≡◌};
+ghost use Rattle.sts_model.specs.Living as living;
+ghost use Rattle.sts_model.specs.Misuse as misuse;
+
 /// An event of a run.
 #[derive(Clone, Copy, Debug, PartialEq, Eq)]
 pub enum Event {
@@ -34,6 +38,29 @@ pub enum Phase {
     Joined,
     Closing,
     Closed,
+}
+
+impl Phase {
+    /// Is the scope closed?
+    pub fn is_closed(self) -> bool
+        ensures { result ≡ living.is_closed self }
+    {
+        matches!(self, Phase::Closed)
+    }
+
+    /// Has the scope seen neither a `join` nor a `close`?
+    pub fn is_opened(self) -> bool
+        ensures { result ≡ misuse.is_opened self }
+    {
+        matches!(self, Phase::Opened)
+    }
+
+    /// May `join` be done in this phase?
+    pub fn can_join(self) -> bool
+        ensures { result ≡ misuse.can_join self }
+    {
+        matches!(self, Phase::Opened | Phase::Attempted)
+    }
 }
 
 /// The result of a joiner.

@@ -12,8 +12,8 @@ use sts_code::{
     Instr, Joiner, MAX_BIRTHS, MAX_ENTRIES, MAX_OPERANDS, MAX_STANDING, Profile, Program, can_fail,
 };
 use sts_frames::{instr_at, slot};
-use sts_model::{End, Fault, Frame, Phase, Slot};
-use sts_world::{Records, World, can_join};
+use sts_model::{End, Fault, Frame, Slot};
+use sts_world::{Records, World};
 
 /// Does the form of a `join` not fit the scope?
 fn joins_wrongly(
@@ -69,20 +69,12 @@ fn has_no_room(world: &World, frame: &Frame, instr: Instr) -> bool
     }
 }
 
-/// May the subtasks of a scope be read?
-fn is_readable(records: &Records, profile: Profile, s: u32) -> bool
-    ensures { result ≡ misuse.is_readable profile (def.scope_at records.now s) }
-{
-    matches!(records.phase(s), Phase::Joined)
-        && (matches!(profile, Profile::Two) || !records.is_expired(s))
-}
-
 /// May this subtask be read?
 fn is_readable_of(records: &Records, profile: Profile, t: u32) -> bool
     ensures { result ≡ misuse.is_readable profile (living.scope_of records.now t) }
 {
     match records.parent(t) {
-        Some(s) => is_readable(records, profile, s),
+        Some(s) => records.is_readable(profile, s),
         None => false,
     }
 }
@@ -99,12 +91,6 @@ fn has_failed(end: Option<End>) -> bool
     matches!(end, Some(End::Failed(_)))
 }
 
-fn is_opened(phase: Phase) -> bool
-    ensures { result ≡ misuse.is_opened phase }
-{
-    matches!(phase, Phase::Opened)
-}
-
 /// Is the scope or subtask not in the state for the instruction?
 fn is_illegal(world: &World, program: &Program, frame: &Frame, instr: Instr) -> bool
     ensures { result ≡ misuse.is_illegal program.now world.now frame.now instr }
@@ -112,19 +98,19 @@ fn is_illegal(world: &World, program: &Program, frame: &Frame, instr: Instr) -> 
     let records = world.records();
     match instr {
         Instr::Fork { slot: x, .. } => match slot(frame, x) {
-            Slot::Own(s) => !is_opened(records.phase(s)),
+            Slot::Own(s) => !records.phase(s).is_opened(),
             _ => false,
         },
         Instr::Join { slot: x, .. } => match slot(frame, x) {
-            Slot::Own(s) => !can_join(records.phase(s)),
+            Slot::Own(s) => !records.phase(s).can_join(),
             _ => false,
         },
         Instr::Close(x) => match slot(frame, x) {
-            Slot::Own(s) => is_opened(records.phase(s)) && world.subtask_count(s) > 0,
+            Slot::Own(s) => records.phase(s).is_opened() && world.subtask_count(s) > 0,
             _ => false,
         },
         Instr::Tally(x, _) | Instr::Total(x) => match slot(frame, x) {
-            Slot::Own(s) => !is_readable(records, program.profile(), s),
+            Slot::Own(s) => !records.is_readable(program.profile(), s),
             _ => false,
         },
         Instr::Get(x) => match slot(frame, x) {

@@ -11,5 +11,5 @@ pub mod scope;
 pub mod task;
 mod world;
 
-pub use records::{Records, can_join};
+pub use records::Records;
 pub use world::World;

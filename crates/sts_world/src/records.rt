@@ -16,7 +16,7 @@ use crate::scope::{ScopeRecord, front_of, same_scope};
 use crate::task::TaskRecord;
 use std::alloc::{AllocError, Global};
 use std::marker::Model;
-use sts_code::Joiner;
+use sts_code::{Joiner, Profile};
 use sts_model::{Completion, End, Frame, Phase};
 use sts_same::copied::copy_all;
 use sts_same::same::same_slices;
@@ -45,13 +45,6 @@ impl Model for Records {
 
     ghost invariant = { λ w. (length w.tasks.items ≤ MAX_BIRTHS)
         × (length w.scopes.items ≤ MAX_BIRTHS) × AreWithin w.chains w.scopes.items };
-}
-
-/// May `join` be done in this phase?
-pub fn can_join(phase: Phase) -> bool
-    ensures { result ≡ misuse.can_join phase }
-{
-    matches!(phase, Phase::Opened | Phase::Attempted)
 }
 
 impl Records {
@@ -245,11 +238,19 @@ impl Records {
         }
     }
 
+    /// May the subtasks of a scope be read?
+    pub fn is_readable(&self, profile: Profile, s: u32) -> bool
+        ensures { result ≡ misuse.is_readable profile (def.scope_at self.now s) }
+    {
+        matches!(self.phase(s), Phase::Joined)
+            && (matches!(profile, Profile::Two) || !self.is_expired(s))
+    }
+
     /// May a scope expire now?
     pub fn can_expire(&self, s: u32) -> bool
         ensures { result ≡ outside.can_expire (def.scope_at self.now s) }
     {
-        self.is_timed(s) && !self.is_expired(s) && can_join(self.phase(s))
+        self.is_timed(s) && !self.is_expired(s) && self.phase(s).can_join()
     }
 
     fn value_kept(&self, scope: Option<u32>, k: u8) -> Option<i64>

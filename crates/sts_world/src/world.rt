@@ -69,12 +69,6 @@ fn unless(closed: bool, n: usize) -> usize
     if closed { 0 } else { n }
 }
 
-fn is_closed(phase: Phase) -> bool
-    ensures { result ≡ living.is_closed phase }
-{
-    matches!(phase, Phase::Closed)
-}
-
 /// The birth numbers of a scope's subtasks.
 fn births(families: &[Family], s: u32) -> &[u32]
     ensures { result.now ≡ (slice_index_or families.now s kept.no_family).births }
@@ -301,8 +295,8 @@ impl World {
             let subtasks = self.subtask_count(s);
             let tasks = self.standing_tasks();
             let scopes = self.standing_scopes();
-            let was_closed = is_closed(self.records.phase(s));
-            let closed = is_closed(phase);
+            let was_closed = self.records.phase(s).is_closed();
+            let closed = phase.is_closed();
             self.records.set_phase(s, phase);
             self.standing_tasks = tasks + unless(closed, subtasks) - unless(was_closed, subtasks);
             self.standing_scopes = scopes + unless(closed, 1) - unless(was_closed, 1);
