@@ -2,8 +2,8 @@
 import os
 import tempfile
 
-import plain_machine
-import stack_code
+from checks.models import plain_machine
+from checks.models import stack_code
 import recording
 import texts
 from named import Shown, without_names
