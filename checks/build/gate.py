@@ -13,7 +13,7 @@ import subprocess
 import sys
 import time
 
-from checks.programs import ROOT, UNPROVED, door, unproved
+from checks.programs import ROOT, UNPROVED, door, proved, unproved
 
 # (short.jsonl takes the reader too long: `cases` asks `look` for its answers)
 READER = [sys.executable, "vectors/reader", *(it for it in sorted(glob.glob("vectors/*.jsonl", root_dir=ROOT)) if not it.endswith("/short.jsonl"))]
@@ -31,7 +31,8 @@ OF_PROGRAMS = ("ends", "launchers", "memory", "rows", "streams", "shown", "looks
 def after(words):
     """Returns the checks of the built programs, those that take longest first."""
     tests = {it: door(it, *words) for it in OF_PROGRAMS}
-    return {"waits": door("waits"), **tests, "record": [sys.executable, "record/test.py"]}
+    named = ["--sts", f"{proved('sts')}.unproved", "--look", f"{proved('look')}.unproved"] if words else []
+    return {"waits": door("waits"), "record": [sys.executable, "record/test.py", *named], **tests}
 
 
 def ran(name, words):

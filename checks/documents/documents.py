@@ -16,14 +16,15 @@ The subjects are modules of this folder:
 - `constants`: another version, kit or number of states than the programs have;
 - `crates`: floors in crates/README.md that don't fit crates.txt; a page of a crate whose last line doesn't say its floor and what
   it uses; an edit that doesn't say what it makes wrong; decisions next to a page that doesn't link to them; proofs used of
-  another crate from a file that isn't called `*Lemmas`.
+  another crate from a file that isn't called `*Lemmas`;
+- `figures`: a table of SPEED.md that doesn't show the last figures of bench/figures.csv.
 """
 import importlib
 import sys
 
 from checks.documents.pages import Wrong
 
-SUBJECTS = ("tables", "links", "codes", "contracts", "java", "constants", "crates")
+SUBJECTS = ("tables", "links", "codes", "contracts", "java", "constants", "crates", "figures")
 
 
 def wrong(subject, is_writing):

@@ -11,7 +11,11 @@ There are three kinds of bad states. Every worker sleeps or has ended, and one o
 and a task is left, but one worker sleeps and the others are all out with slices. Or no moves lead to the end of all workers.
 The rule has no bad state. Each fault of FAULTS is planted in turn, and has a bad state. The last line is `N passed, M failed`.
 """
+import concurrent.futures
+import os
 import sys
+
+from checks.tally import Tally
 
 ROOT, UNITS, TRIES, IN_A_BATCH = 0, 2, 2, 2
 
@@ -262,16 +266,20 @@ def search(rule, kids, may_stop):
     return len(before), next((it for it in before if it not in ending), None)
 
 
-def main():
+def searched(asked):
+    """Returns what is searched, how many states there are, and a bad one if there is one."""
     global KIDS
-    asked, passed, failed = KIDS, 0, 0
-    searches = [("", False), ("", True), *((fault, False) for fault in FAULTS)]
-    for fault, may_stop in searches:
-        KIDS = max(1, asked - 1) if may_stop else asked
-        states, bad = search(Rule(fault), KIDS, may_stop)
-        is_right = (bad is None) == (not fault)
-        passed, failed = passed + is_right, failed + (not is_right)
-        name = FAULTS.get(fault) or ("the rule, and a stop" if may_stop else "the rule")
-        print(f"{name}: {states:,} states, {'no bad one' if bad is None else f'as {bad}'}{'' if is_right else '  FAILED'}")
-    print(f"{passed} passed, {failed} failed")
-    return failed > 0
+    fault, may_stop, KIDS = asked
+    return fault, may_stop, *search(Rule(fault), KIDS, may_stop)
+
+
+def main():
+    # (those that take longest come first; each takes one processor)
+    searches = [("", False, KIDS), ("", True, max(1, KIDS - 1)), *((fault, False, KIDS) for fault in FAULTS)]
+    tally = Tally()
+    with concurrent.futures.ProcessPoolExecutor(len(os.sched_getaffinity(0))) as pool:
+        for fault, may_stop, states, bad in pool.map(searched, searches):
+            name = FAULTS.get(fault) or ("the rule, and a stop" if may_stop else "the rule")
+            print(f"{name}: {states:,} states, {'no bad one' if bad is None else f'as {bad}'}")
+            tally.holds(name, (bad is None) == (not fault))
+    return tally.end()
