@@ -6,9 +6,9 @@ from checks.documents.pages import fail, read
 from checks.programs import ROOT
 
 
-def shown_contracts(path):
-    """Fails if a contract or a definition that a document shows has a line that no source has."""
-    folders = [f"{ROOT}/crates/{it}/{part}" for it in os.listdir(f"{ROOT}/crates") for part in ("src", "specs")]
+def shown_contracts(path, parts=("src", "specs")):
+    """Fails if a contract, a definition or a proof that a document shows has a line that no source has."""
+    folders = [f"{ROOT}/crates/{it}/{part}" for it in os.listdir(f"{ROOT}/crates") for part in parts]
     files = [f"{at}/{it}" for folder in folders for at, _, names in os.walk(folder) for it in names]
     sources = {line.strip() for it in files for line in open(it)}
     for block in re.findall(r"```text\n(.*?)```", read(path), re.S):
@@ -33,4 +33,5 @@ def named_clauses(path):
 
 def check(is_writing):
     shown_contracts("docs/PROOFS.md")
+    shown_contracts("docs/PROVING.md", ("src", "specs", "proofs"))
     named_clauses("docs/PROOFS.md")
