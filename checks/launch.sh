@@ -34,7 +34,7 @@ asks_for_help() {
 # Answers a call that no build helps, with the status and the output of the program, and ends; it returns otherwise.
 answer_before_a_build() {
   status=0
-  python3 "$root/checks/answer.py" "$name" "$@" || status=$?
+  python3 "$root/checks" answer "$name" "$@" || status=$?
   [ $status = 75 ] || exit $status
 }
 
@@ -43,7 +43,7 @@ case ${1-} in
     shift
     if is_stale "$unproved"; then
       answer_before_a_build "$@"
-      exec python3 "$root/checks/unproved.py" "$name" "$unproved" "$@"
+      exec python3 "$root/checks" unproved "$name" "$unproved" "$@"
     fi
     echo "$name: not proved: this program was built without its proofs" >&2
     if [ -f "$unproved.slow" ]; then
@@ -60,6 +60,6 @@ esac
 # (a call for help starts no proof, even if a source is newer)
 if is_stale "$program" && ! { [ -x "$program" ] && asks_for_help "$@"; }; then
   answer_before_a_build "$@"
-  exec python3 "$root/checks/build.py" "$program" "$@"
+  exec python3 "$root/checks" build "$program" "$@"
 fi
 exec "$program" "$@"

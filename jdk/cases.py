@@ -6,21 +6,16 @@ import random
 import tempfile
 from concurrent.futures import ThreadPoolExecutor
 
-import differ
-import documents
+from checks.tests import differ
+from checks.documents import pages
 import drawn
-import rows
+from checks import notation
 from player import Case
 
 ROOT = os.path.dirname(os.path.dirname(os.path.realpath(__file__)))
 MOST_BYTES = 8_000  # of a trace of a row: the few that are longer are at the limits of what a machine holds
 WORKERS = 4
 DRAWN_AT_ONCE = 100
-
-
-def tables():
-    with open(f"{rows.DATA}/tables") as file:
-        return [it for it in file.read().split("\n") if it and not it.startswith("#")]
 
 
 def kind_of(table):
@@ -30,9 +25,9 @@ def kind_of(table):
 def of_rows():
     """Returns the rows that run a program, each once, and how many are too long."""
     found, long = {}, 0
-    for table in tables():
-        for number, text, asked, events, (status, _) in rows.rows(f"{rows.DATA}/{table}"):
-            if asked != "run" or status == documents.STATUS["error"]:
+    for table in notation.tables():
+        for number, text, asked, events, (status, _) in notation.rows(f"{notation.DATA}/{table}"):
+            if asked != "run" or status == pages.STATUS["error"]:
                 continue
             if len(events) > MOST_BYTES:
                 long += 1
@@ -75,7 +70,7 @@ def journal(sts, text, number):
 
 def of_journals(sts, seed, count):
     """Returns cases with traces that `sts run` wrote, for the examples, the patterns and drawn programs."""
-    texts = [it.text for it in of_files()] + [text for _, text, _, _ in documents.programs("docs/PATTERNS.md")]
+    texts = [it.text for it in of_files()] + [text for _, text, _, _ in pages.programs("docs/PATTERNS.md")]
     texts += [drawn.drawn(seed, it)[0] for it in range(count - len(texts))]
     with ThreadPoolExecutor(WORKERS) as pool:
         journals = list(pool.map(lambda it: journal(sts, texts[it], f"{seed} {it}"), range(len(texts))))

@@ -6,7 +6,7 @@
     jdk/check.py --write     does what the first does, and writes its figures into jdk/README.md
 
 A case is a text and a trace. The player (Player.java) plays it over the scopes of the JDK; a machine in Python
-(checks/plain_machine.py) goes through the same events; the states are compared after each. `look view --each`, `sts plain`
+(checks/models/plain_machine.py) goes through the same events; the states are compared after each. `look view --each`, `sts plain`
 and `sts replay` are asked for a share of the cases, and have to print what that machine does. If the player differs, the
 machine of known.py, which has the known differences of JDK 25, has to agree with it to the last event. Otherwise it fails.
 
@@ -23,7 +23,7 @@ from concurrent.futures import ProcessPoolExecutor
 
 HERE = os.path.dirname(os.path.realpath(__file__))
 ROOT = os.path.dirname(HERE)
-sys.path[:0] = [HERE, os.path.join(ROOT, "checks")]
+sys.path[:0] = [HERE, ROOT]
 import cases  # noqa: E402
 import examples  # noqa: E402
 import free  # noqa: E402
@@ -31,7 +31,7 @@ import known  # noqa: E402
 import page  # noqa: E402
 import planted  # noqa: E402
 import programs  # noqa: E402
-import stack_code  # noqa: E402
+from checks.models import stack_code  # noqa: E402
 from player import MODES, Jdk, Player, find_jdk, first_difference  # noqa: E402
 
 PART = 400  # cases that one JVM plays

@@ -6,11 +6,11 @@ import re
 import subprocess
 import tempfile
 
-import all_ends
-import documents
+from checks.models import all_ends
+from checks.documents import pages
 import known
-import plain_machine
-import stack_code
+from checks.models import plain_machine
+from checks.models import stack_code
 
 HERE = os.path.dirname(os.path.realpath(__file__))
 TIMES = 3  # that each program of an example is run
@@ -29,7 +29,7 @@ def texts():
     """Returns the text that belongs to each Java program: an example or a pattern of the same name."""
     root = os.path.dirname(HERE)
     paths = sorted(glob.glob(f"{root}/examples/*.sts") + glob.glob(f"{root}/examples/patterns/*.sts"))
-    return {os.path.basename(it)[:-len(".sts")]: documents.read(os.path.relpath(it, root)) for it in paths}
+    return {os.path.basename(it)[:-len(".sts")]: pages.read(os.path.relpath(it, root)) for it in paths}
 
 
 def prints(jdk, folder, name):
@@ -49,7 +49,7 @@ def is_end(lines, ends):
 
 def judge(ran, name, text, printed):
     """Adds what is wrong with what a program printed."""
-    source = documents.read(f"jdk/examples/{name}.java")
+    source = pages.read(f"jdk/examples/{name}.java")
     ends = ends_of(text, source, plain_machine.Machine)
     if is_end(printed, ends):
         return
@@ -75,7 +75,7 @@ def of_differences(jdk, pool, ran):
         ran.failures += compiled(jdk, folder, "differences")
         given = [(jdk, folder, name) for name in names("differences")]
         for (_, _, name), printed in zip(given, pool.map(prints, *zip(*given))):
-            expected = re.findall(r"^// Prints: (.*)$", documents.read(f"jdk/differences/{name}.java"), re.M)
+            expected = re.findall(r"^// Prints: (.*)$", pages.read(f"jdk/differences/{name}.java"), re.M)
             ran.failures += [] if printed == expected else [f"{name}.java prints {printed}, it says {expected}"]
             ran.count += 1
 

@@ -3,12 +3,12 @@
 import re
 import subprocess
 
-import all_ends
+from checks.models import all_ends
 import cases
-import documents
+from checks.documents import pages
 import drawn
 import known
-import stack_code
+from checks.models import stack_code
 from player import Case
 
 DRAWN = 24            # how many drawn programs are run
@@ -88,7 +88,7 @@ def judged(look, player, part, count, threads):
 def texts(seed):
     """Returns the programs that are run: examples, patterns and drawn ones, without what no text can hold."""
     found = [Case("examples", it.name, it.text, ()) for it in cases.of_files()]
-    found += [Case("patterns", name, text, ()) for name, text, _, _ in documents.programs("docs/PATTERNS.md")]
+    found += [Case("patterns", name, text, ()) for name, text, _, _ in pages.programs("docs/PATTERNS.md")]
     return found + [Case("drawn", f"scopes {seed} {it}", drawn.drawn(f"free {seed}", it)[0], ()) for it in range(DRAWN)]
 
 

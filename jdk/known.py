@@ -3,7 +3,7 @@
 A difference between the player and the rules is known if JdkMachine agrees with the player to the last event. JdkMachine has
 only the known differences, and `met` names those that a run meets. Any other difference is a failure.
 """
-from plain_machine import Machine
+from checks.models.plain_machine import Machine
 
 SECOND_JOIN = "a second join"
 EXPIRY = "an expiry of a cancelled scope"

@@ -2,8 +2,8 @@
 import collections
 
 import cases
-import stack_code
-from plain_machine import Machine
+from checks.models import stack_code
+from checks.models.plain_machine import Machine
 from player import MODES, first_difference
 
 CASES = 900   # drawn; the rows with a scope come on top

@@ -4,8 +4,8 @@ import os
 import subprocess
 import tempfile
 
-import plain_machine
-import stack_code
+from checks.models import plain_machine
+from checks.models import stack_code
 from player import parts
 
 

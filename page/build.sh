@@ -14,6 +14,6 @@ case ${1-} in
     ;;
 esac
 mkdir -p "$page/out"
-python3 "$page/../checks/kit.py" page $how "$page/out/build.log" "$page/out/page.wasm"
+python3 "$page/../checks" page $how "$page/out/build.log" "$page/out/page.wasm"
 python3 "$page/pack.py" "$page/out/page.wasm" "$page/out/index.html"
 [ $how = proved ] || echo "page/build.sh: not proved: this page was built without its proofs" >&2

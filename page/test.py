@@ -31,13 +31,12 @@ import time
 
 import browser
 
-sys.path.append(os.path.join(os.path.dirname(os.path.dirname(os.path.realpath(__file__))), "checks"))
-import ends  # noqa: E402
-import look_rows  # noqa: E402
-import tested  # noqa: E402
-
 HERE = os.path.dirname(os.path.realpath(__file__))
 ROOT = os.path.dirname(HERE)
+sys.path.append(ROOT)
+from checks.programs import taken  # noqa: E402
+from checks.tests import ends, look_rows  # noqa: E402
+
 PAGE = os.path.join(HERE, "out", "index.html")
 EXAMPLES = sorted(glob.glob(os.path.join(ROOT, "examples", "*.sts")))
 NAMES = [os.path.basename(it) for it in EXAMPLES]
@@ -617,7 +616,7 @@ def main():
         print("page/test.py: NOTHING WAS TESTED: there is none of", ", ".join(browser.NAMES), file=sys.stderr)
         print("page: skipped, no Chromium here")
         return 0
-    (sts, look), _ = tested.taken(sys.argv[1:], "sts", "look")
+    (sts, look), _ = taken(sys.argv[1:], "sts", "look")
     if not os.path.exists(PAGE):
         print(f"page/test.py: there is no {PAGE}: page/build.sh makes it", file=sys.stderr)
         return 2

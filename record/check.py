@@ -6,7 +6,7 @@
     record/check.py Orders sum    these programs
 
 It builds the recorder, compiles the programs, and runs them with random delays before each call. Each recording becomes a text and
-a trace. A machine in Python (checks/plain_machine.py) runs them: all tasks have to end as in Java, and each event has to count.
+a trace. A machine in Python (checks/models/plain_machine.py) runs them: all tasks have to end as in Java, and each event has to count.
 `sts replay` (or `sts plain`, if the text is refused) has to print the same end. A recording that differs has to name a known
 difference of docs/JDK.md, and this may come only in the programs that KNOWN lists.
 
@@ -23,11 +23,11 @@ from concurrent.futures import ProcessPoolExecutor
 
 HERE = os.path.dirname(os.path.realpath(__file__))
 ROOT = os.path.dirname(HERE)
-sys.path[:0] = [HERE, os.path.join(ROOT, "checks"), os.path.join(ROOT, "jdk")]
+sys.path[:0] = [HERE, ROOT, os.path.join(ROOT, "jdk")]
 import jdk25  # noqa: E402
 import judged  # noqa: E402
 import known  # noqa: E402
-import plain_machine  # noqa: E402
+from checks.models import plain_machine  # noqa: E402
 import recording  # noqa: E402
 import runs  # noqa: E402
 import texts  # noqa: E402

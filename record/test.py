@@ -20,7 +20,7 @@ import tempfile
 
 HERE = os.path.dirname(os.path.realpath(__file__))
 ROOT = os.path.dirname(HERE)
-sys.path[:0] = [HERE, os.path.join(ROOT, "jdk"), os.path.join(ROOT, "checks")]
+sys.path[:0] = [HERE, os.path.join(ROOT, "jdk"), ROOT]
 import agent_edges  # noqa: E402
 import jdk25  # noqa: E402
 import runs  # noqa: E402

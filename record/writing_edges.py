@@ -2,8 +2,8 @@
 import os
 import tempfile
 
-import plain_machine
-import stack_code
+from checks.models import plain_machine
+from checks.models import stack_code
 import recording
 import texts
 from named import Shown, without_names
@@ -93,7 +93,7 @@ class Tests:
                                        op("join", 0, 3, scope=0, way="ok" if told else "failed", value=0 if told else 1), op("close", 0, 4, scope=0),
                                        op("end", 0, 1, way="ret" if told else "fail", value=0 if told else 1)],
                               values=['{"value": 1, "type": "String", "text": "\\"a\\""}' if told else '{"value": 1, "type": "Down", "line": "A.java:9"}']))
-        import all_ends
+        from checks.models import all_ends
         apart, _ = texts.searched([one("ret")])
         both, _ = texts.searched([one("ret"), one("fail")])
         found = [sorted(all_ends.ends(stack_code.program(it), is_expiring=True)[0]) for it in (apart, both)]

@@ -1,4 +1,4 @@
--- What is answered to a case (this project's own; docs/CASES.md has the schema).
+-- What is answered to a case (this project's own; docs/IMPLEMENTERS.md has the schema).
 use Rattle.std.specs.Prelude.{◌≡◌, ℕ, true, false, List, [], ◌∷◌, ◌++◌, Option, Some, None}
 use Rattle.std.specs.Prelude.{Result, Ok, Err, codes, option_map}
 use Rattle.serde_json.specs.Data.{Data, Items, null, boolean, string, array}

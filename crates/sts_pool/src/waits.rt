@@ -24,7 +24,7 @@
 //!    that sees the end or the stop wakes all, under the lock. A worker that sleeps later has looked
 //!    for both first.
 //!
-//! `checks/waits.py` searches every schedule of three workers for a state that contradicts this.
+//! `checks/models/waits.py` searches every schedule of three workers for a state that contradicts this.
 
 /// This many local instructions in a row are long enough to justify waking another worker.
 const WORTH: u32 = 900;

@@ -1,0 +1,1 @@
+"""Keeps the documents and what they speak of the same."""

@@ -1,0 +1,77 @@
+"""What the pages say of the crates: floors, neighbours, edits, decisions, and whose proofs one uses."""
+import os
+import re
+import subprocess
+
+from checks.documents.pages import crates, fail, page, read
+from checks.programs import ROOT
+
+
+def floor_rows():
+    """Returns the name of each floor in crates/README.md, with its crates."""
+    rows = re.findall(r"^\| (\w.*?) \| \[`(\w+)`\]\((\w+)/README\.md\) \| ", read("crates/README.md"), re.M)
+    for _, name, folder in rows:
+        if name != folder:
+            fail(f"crates/README.md links from {name} to {folder}")
+    return [(floor, [name for other, name, _ in rows if other == floor]) for floor in dict.fromkeys(it for it, _, _ in rows)]
+
+
+def floors():
+    """Fails if crates/README.md doesn't have each crate once, or a crate uses one of a higher floor. Returns each crate's floor."""
+    names, rows = zip(*floor_rows())
+    floor = {it: number for number, row in enumerate(rows) for it in row}
+    if sorted(it for row in rows for it in row) != sorted(crates()):
+        fail(f"crates/README.md doesn't have each crate once: {sorted(set(floor) ^ set(crates()))}")
+    for name, others in crates().items():
+        for it in others:
+            if floor[it] > floor[name]:
+                fail(f"{name} uses {it}, which is of a higher floor")
+    return {it: names[number] for it, number in floor.items()}
+
+
+def neighbours(floor, is_writing):
+    """Fails if the last line of a crate's page doesn't say its floor and the crates that it uses. Or writes these lines."""
+    for name, others in crates().items():
+        uses = ", ".join(f"`{it}`" for it in others) or "no other crate"
+        line = f"*Floor*: {floor[name]}. *Uses*: {uses}."
+        text = read(page(name))
+        said = re.search(r"\n(\*Floor\*: .*)\n\Z", text)
+        if is_writing:
+            with open(f"{ROOT}/{page(name)}", "w") as file:
+                file.write((text[: said.start()] if said else text.rstrip("\n") + "\n") + f"\n{line}\n")
+        elif not said or said[1] != line:
+            fail(f"{page(name)} doesn't say its floor and what it uses: python3 -m checks documents write")
+
+
+def edits():
+    """Fails if an edit doesn't say in its first line what it makes wrong."""
+    folders = [f"crates/{it}/must-fail" for it in crates()] + [f"checks/edits/{it}" for it in os.listdir(f"{ROOT}/checks/edits")]
+    for path in (f"{it}/{name}" for it in folders if os.path.isdir(f"{ROOT}/{it}") for name in os.listdir(f"{ROOT}/{it}")):
+        if path.endswith(".edit") and not read(path).startswith("# "):
+            fail(f"{path} doesn't say what it makes wrong")
+
+
+def proofs_of_others():
+    """Fails if a crate uses proofs of another crate of the repository from a file that isn't called `*Lemmas`."""
+    names = "|".join(os.listdir(f"{ROOT}/crates"))
+    used = re.compile(rf"\b({names})(?:\.|::)proofs(?:\.|::)(\w+)")
+    listed = subprocess.check_output(["git", "ls-files", "-co", "--exclude-standard", "crates"], cwd=ROOT, text=True)
+    for path in (it for it in listed.split() if it.endswith((".rt", ".antt")) and os.path.exists(f"{ROOT}/{it}")):
+        for crate, name in used.findall(read(path)):
+            if crate != path.split("/")[1] and not name.endswith("Lemmas"):
+                fail(f"{path} uses {name} of {crate}, which isn't called `*Lemmas`")
+
+
+def decisions():
+    """Fails if a page doesn't link to the decisions of its crate that lie next to it, or links to none."""
+    for name in crates():
+        has_design = os.path.exists(f"{ROOT}/crates/{name}/DESIGN.md")
+        if has_design != ("(DESIGN.md" in read(page(name))):
+            fail(f"{page(name)} doesn't link to its DESIGN.md, or there is none")
+
+
+def check(is_writing):
+    neighbours(floors(), is_writing)
+    edits()
+    proofs_of_others()
+    decisions()

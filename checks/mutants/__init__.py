@@ -1,0 +1,1 @@
+"""Plants mistakes, and sees that something notices each."""

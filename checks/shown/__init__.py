@@ -1,0 +1,1 @@
+"""Runs what the documents show, and compares what comes of it, or writes it into them."""

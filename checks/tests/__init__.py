@@ -1,0 +1,1 @@
+"""Tests the programs as they were built, from outside."""

@@ -1,0 +1,371 @@
+"""Compares `look ends` with a search in Python.  [LOOK [STS]|--unproved] [PART ..] [--count N] [--seed S]
+
+The programs are the examples, those of docs/PATTERNS.md, and drawn ones: races with several ends, nested scopes, and
+scopes that are misused. Each is asked with expiries and without, and with an interrupt.
+
+- `look ends` prints each end that all_ends.py finds, once, and no other: with the function and the line of a fault, and
+  with the status 0. What all_ends.py searches is the machine of plain_machine.py, which shares no code with the crates.
+- It says how many states it kept: as many as a search in Python in the same order.
+- It says `refused, but no run .. faults` of just those texts that `sts verify` refuses and that have no fault among their ends.
+  The words between name the events that may come.
+- The trace of each end, as `--trace` writes it, has as many events as its line says, and `sts` comes to that end by it:
+  in mode `replay`, or in mode `plain` if the text is refused.
+- `--sample` finds no other end, and `--most` stops with status 5.
+- The sets of ends.rows, worked out by hand, are those that `look ends` prints, as two compilers build it.
+- Random schedules find each end of some races, and of the programs in checks/sampled, which have deadlines. Another seed gives
+  another listing, and the same seed the same one. A schedule may have 100,000 events, and no more (`schedules_of_look`).
+- Searches of some larger programs keep as many states as are counted by hand or by all_ends.py (`searches_of_look`).
+A program with more than MOST_STATES states is left out. With a PART, which is `schedules_of_look` or `searches_of_look`, only
+that is tried. The last line is `N passed, M failed`, of comparisons.
+"""
+import argparse
+import concurrent.futures
+import glob
+import math
+import os
+import random
+import re
+import sys
+import tempfile
+
+from checks import notation, programs
+from checks.documents import pages
+from checks.models import all_ends, stack_code
+from checks.programs import CHECKS, ROOT
+from checks.tally import Tally, parts
+from checks.tests.places import place_words
+
+sys.path.insert(0, f"{ROOT}/jdk")
+import drawn  # noqa: E402
+
+MOST_STATES = 1500  # of a search in Python
+REFUSED = 4
+LINE = re.compile(r"(\d+) after (\d+) events: (.*)")
+SHARE = re.compile(r"(\d+) after (\d+) events, in (\d+) of (\d+) schedules: (.*)")
+WORDS = ("failed", "success", "atleast")
+QUESTIONS = ((True, 0), (False, 0), (True, 1))  # may scopes expire, and how many interrupts come?
+
+
+def says(*words):
+    """Returns the status, and the lines that are printed."""
+    status, printed = programs.says(*words, seconds=300)
+    return status, printed.splitlines()
+
+
+def by_line(source, end):
+    """Returns an end in the words of `look ends`."""
+    fault = re.fullmatch(r"fault (\w+) task (\d+) in (\S+) at (\d+)", end)
+    if not fault:
+        return end
+    kind, task, name, pc = fault.groups()
+    return f"fault {kind}, task {task} in {place_words(source, name, int(pc))}"
+
+
+def options(expiries, interrupts):
+    return [*([] if expiries else ["--no-expiries"]), "--interrupts", str(interrupts)]
+
+
+def no_fault_line(expiries, interrupts):
+    most = {0: "without interrupts", 1: "with at most 1 interrupt"}.get(interrupts, f"with at most {interrupts} interrupts")
+    return f"refused, but no run {most}{'' if expiries else ' and without expiries'} faults"
+
+
+def traced(asked, text, folder, is_refused, words, found):
+    """Yields what is wrong with the traces of the ends that were found."""
+    trace = os.path.join(folder, "trace")
+    for number, events, end in found:
+        says(asked.look, "ends", text, *words, "--trace", number, trace)
+        with open(trace) as file:
+            count = len(file.read().splitlines())
+        if count != int(events):
+            yield f"the trace of end {number} has {count} events, not {events}"
+        ended = says(asked.sts, "plain" if is_refused else "replay", text, trace)[1][:1]
+        with open(text) as file:
+            if [by_line(file.read(), it) for it in ended] != [end]:
+                yield f"the trace of end {number} comes to {ended}, not {end}"
+
+
+def sampled(asked, text, words, expected):
+    """Yields what is wrong with the ends of random schedules, and with a search that stops early."""
+    status, printed = says(asked.look, "ends", text, *words, "--sample", "20", "--seed", "7")
+    shares = [found.groups() for found in map(SHARE.fullmatch, printed) if found]
+    if status != 5 or not {it[4] for it in shares} <= expected or len({it[4] for it in shares}) != len(shares):
+        yield f"random schedules: {printed}"
+    cut_off = sum(int(it.split()[0]) for it in printed if it.endswith("cut off"))
+    if sum(int(it[2]) for it in shares) + cut_off != 20:
+        yield f"not 20 random schedules: {printed}"
+    status, printed = says(asked.look, "ends", text, *words, "--most", "2")
+    if status != 5 or printed[-1:] != ["stopped at 2 states, not all schedules"]:
+        yield f"with 2 states: {printed}"
+
+
+def wrong_of(asked, text, source, folder, expiries, interrupts):
+    """Returns how many comparisons were made, and what is wrong; None if the program has too many states."""
+    program, words = stack_code.program(source), options(expiries, interrupts)
+    ends, _, are_all = all_ends.ends(program, is_expiring=expiries, interrupts=interrupts, most=MOST_STATES)
+    if not are_all:
+        return None
+    ends = {by_line(source, it) for it in ends}
+    is_refused = says(asked.sts, "verify", text)[0] == REFUSED
+    status, printed = says(asked.look, "ends", text, *words)
+    found, wrong = [it.groups() for it in map(LINE.fullmatch, printed) if it], []
+    if status != 0 or len(found) != len(ends) or {it[2] for it in found} != ends:
+        wrong.append(f"status {status}, {printed}, and the ends are {sorted(ends)}")
+    may_say = is_refused and not any(it.startswith("fault") for it in ends)
+    if [it for it in printed if it.startswith("refused")] != ([no_fault_line(expiries, interrupts)] if may_say else []):
+        wrong.append(f"whether it is refused without a fault: {printed}")
+    states = all_ends.kept(program, expiries, interrupts)
+    if printed[-1] != f"{states} states, all schedules":
+        wrong.append(f"the last line: {printed[-1]}, and the states are {states}")
+    wrong += traced(asked, text, folder, is_refused, words, found)
+    wrong += sampled(asked, text, words, ends)
+    return 6 + 2 * len(found), wrong
+
+
+def compare(asked, name, source):
+    """Returns how many comparisons of a program were made, what is wrong, and how many questions were left out."""
+    made, wrong, left_out = 0, [], 0
+    with tempfile.TemporaryDirectory() as folder:
+        text = os.path.join(folder, "text")
+        with open(text, "w") as file:
+            file.write(source)
+        for expiries, interrupts in QUESTIONS:
+            compared = wrong_of(asked, text, source, folder, expiries, interrupts)
+            if compared is None:
+                left_out += 1
+                continue
+            made += compared[0]
+            wrong += [f"{name}, {' '.join(options(expiries, interrupts))}: {it}" for it in compared[1]]
+    return made, wrong, left_out
+
+
+class Raced:
+    """Draws programs with several ends: subtasks of a scope that give, fail, look at a flag or wait, and their joiner."""
+
+    def __init__(self, draw):
+        self.draw, self.functions, self.count = draw, [], 0
+
+    def kid(self, depth):
+        """Adds a function and returns its name."""
+        self.count += 1
+        name, value = f"kid{self.count}", self.draw.randrange(1, 9)
+        ways = ["give", "fail", "cancelled", "interrupted", "slow"] + (["scope"] if depth else [])
+        way = self.draw.choice(ways)
+        if way == "scope":
+            lines = self.scope(depth - 1, 1)
+        elif way in ("cancelled", "interrupted"):
+            look = "cancelled s0" if way == "cancelled" else "interrupted"
+            lines = [look, "jz no", f"push {value}", self.draw.choice(["ret", "fail"]), "no:", f"push {value + 10}", "ret"]
+        else:
+            slow = ["push 0", "pop"] if way == "slow" else []
+            lines = [*slow, f"push {value}", "fail" if way == "fail" else "ret"]
+        self.functions.append([f"func {name} 0", *lines, "end"])
+        return name
+
+    def scope(self, depth, slot):
+        """Returns the lines of a scope with its subtasks, which end the function."""
+        joiner = self.draw.choice(["all", "any", "awaitall", "awaitok", f"until {self.draw.choice(WORDS)} {self.draw.randrange(1, 3)}"])
+        timed = self.draw.random() < 0.4
+        failed = "failed" if joiner in ("all", "any", "awaitok") else "-"
+        lines = [f"open s{slot} {joiner}{' timed' if timed else ''}"]
+        lines += [f"fork s{slot} {self.kid(depth)} _" for _ in range(self.draw.randrange(1, 4 if depth else 3))]
+        lines += [f"join s{slot} {failed} {'late' if timed else '-'} intr"]
+        lines += [f"close s{slot}", "ret"] if joiner == "any" else [f"tally s{slot} S", f"close s{slot}", "ret"]
+        lines += ["failed:", f"close s{slot}", "fail"] if failed != "-" else []
+        lines += ["late:", f"close s{slot}", "push 70", "ret"] if timed else []
+        return lines + ["intr:", f"close s{slot}", "push 80", "fail"]
+
+    def text(self):
+        main = ["func main 0", *self.scope(1, 0), "end"]
+        return "".join(f"{line}\n" for function in [*self.functions, main] for line in function)
+
+
+def texts(asked):
+    """Yields the name and the text of each program."""
+    for path in sorted(glob.glob(f"{ROOT}/examples/*.sts")):
+        with open(path) as file:
+            yield os.path.relpath(path, ROOT), file.read()
+    for name, text, _, _ in pages.programs("docs/PATTERNS.md"):
+        yield name, text
+    for number in range(asked.count):
+        yield f"race {asked.seed} {number}", Raced(random.Random(f"race {asked.seed} {number}")).text()
+        kind = drawn.misused if number % 2 else drawn.scoped
+        yield f"{kind.__name__} {asked.seed} {number}", drawn.drawn(f"ends {asked.seed}", number, kind)[0]
+
+
+def lines_of(short):
+    return "".join(f"{it}\n" for it in short.split(" / "))
+
+
+def race(count, before=""):
+    """Returns a program whose subtasks race under `any`: it ends with the value of any of them, from 1 to `count`."""
+    forks = "".join(f"push {value} / fork s0 kid _ / " for value in range(1, count + 1))
+    return lines_of(f"func kid 1 / {before}load 0 / ret / end / func main 0 / open s0 any / {forks}join s0 bad - intr / close s0 / ret / "
+                    "bad: / close s0 / fail / intr: / push 0 / close s0 / fail / end")
+
+
+def turns(count, more=""):
+    """Returns a program of one task. It takes 4 steps, 13 for each turn of its loop, and those of `more`."""
+    turn = "push 0 / pop / " * 6 + "next / "
+    return lines_of(f"func main 0 / push {count} / times {count} / {turn}{more}push 7 / ret / end")
+
+
+# A flag that is read three times, and each time gives a digit.
+DIGITS = "func main 0 / interrupted / push 10 / mul / interrupted / add / push 10 / mul / interrupted / add / ret / end"
+SAMPLED = {  # the ends of the programs in checks/sampled: all_ends.py finds those of the first two
+    "best_price": ["success 9999000", "success 300001", "success 250001", "success 250002"],
+    "nested_deadlines": ["failed 504", "success 90", "success 51"],
+    # (each round of ten gives 1000, or 1 if its time was up)
+    "bulkhead": ["success 3000", "success 2001", "success 1002", "success 3"],
+}
+
+
+def schedules_of_look(look, folder):
+    """Yields what random schedules show, and whether it is so."""
+    text = os.path.join(folder, "schedules")
+
+    def sample(source, *words):
+        with open(text, "w") as file:
+            file.write(source)
+        status, printed = says(look, "ends", text, "--sample", *words)
+        shares = {end: int(times) for _, _, times, _, end in (it.groups() for it in map(SHARE.fullmatch, printed) if it)}
+        return status, shares, printed[:-1]
+
+    asked = [("a race of 2 ends", race(2), ["200"], [f"success {it}" for it in (1, 2)])]
+    asked += [("a race of 5 ends", race(5), ["500"], [f"success {it}" for it in range(1, 6)])]
+    asked += [("a flag", lines_of(DIGITS), ["300", "--interrupts", "1"], [f"success {it}" for it in (0, 1, 10, 100)])]
+    for name, ends in SAMPLED.items():
+        with open(f"{CHECKS}/sampled/{name}.sts") as file:
+            asked.append((name, file.read(), ["300"], ends))
+    for name, source, words, ends in asked:
+        status, shares, _ = sample(source, *words)
+        yield f"{name}: {shares}", (status, set(shares), sum(shares.values())) == (5, set(ends), int(words[0]))
+    # Five subtasks of 104 steps each. The first one is forked first, and no one wins nearly always or never.
+    shares = sample(race(5, "push 100 / times 100 / next / "), "500")[1]
+    yield f"an even race: {shares}", len(shares) == 5 and all(15 <= it <= 300 for it in shares.values())
+    listings = {seed: sample(race(5), "100", "--seed", str(seed))[2] for seed in (1, 2, 7, 65_536 + 7)}
+    yield "each seed gives a listing of its own", len(set(map(tuple, listings.values()))) == len(listings)
+    yield "a seed gives the same listing again", sample(race(5), "100", "--seed", "7")[2] == listings[7]
+    for events, source in ((40_005, turns(3_077)), (100_000, turns(7_692))):
+        listing = [f"1 after {events} events, in 1 of 1 schedules: success 7"]
+        yield f"a schedule of {events} events", sample(source, "1") == (5, {"success 7": 1}, listing)
+    for events, source in ((100_001, turns(7_692, "jmp on / on: / ")), (119_994, turns(9_230))):
+        yield f"a schedule of {events} events", sample(source, "1") == (5, {}, ["1 schedules were cut off"])
+
+
+# Two groups open two scopes each, one after the other, and fork a subtask into each.
+GROUPS = "func leaf 0 / push 1 / ret / end / func mid 0 / open s1 awaitall / fork s1 leaf{} / join s1 - - intr / close s1 / " \
+    "open s2 awaitall / fork s2 leaf{} / join s2 - - late / close s2 / push 1 / ret / intr: / push 0 / close s1 / ret / " \
+    "late: / push 0 / close s2 / ret / end / func main 0 / open s0 awaitall / fork s0 mid _ / fork s0 mid _ / " \
+    "join s0 - - intr / close s0 / push 7 / ret / intr: / push 0 / close s0 / ret / end"
+READERS = "func kid 0 / interrupted / orelse 0 / ret / end / func main 0 / open s0 all / {}join s0 bad - intr / pop / total s0 / " \
+    "close s0 / ret / bad: / close s0 / fail / intr: / push 0 / close s0 / fail / end"
+
+
+def states_of_readers(count):
+    """Returns how many states the program READERS with this number of subtasks has, if own steps come first.
+
+    A subtask is at `interrupted`, at `orelse`, at `ret`, or at its end, and the order of the ends matters. `orelse` is an own step,
+    so one subtask at most is there. `main` has forked j subtasks, or it is behind its `join`, once all have ended in some order:
+    in five states, from `pop` to the end.
+    """
+    found = 1  # before `open`
+    for forked in range(count + 1):
+        for ended in range(forked + 1):
+            others = forked - ended
+            at_own = others * 2 ** (others - 1) if others else 0
+            found += math.comb(forked, ended) * math.factorial(ended) * (2**others + at_own)
+    return found + 5 * math.factorial(count)
+
+
+def searches_of_look(look, folder):
+    """Yields each search of a larger program, and whether it keeps as many states as it has to."""
+    text = os.path.join(folder, "searches")
+    # (all_ends.py counts the states of the groups)
+    for name, source, end, states in (
+        ("groups", GROUPS.format(" _", " _"), "success 7", 242),
+        ("groups with handles", GROUPS.format(" s3", " s4"), "success 7", 242),
+        ("seven readers", READERS.format("fork s0 kid _ / " * 7), "success 0", states_of_readers(7)),
+    ):
+        with open(text, "w") as file:
+            file.write(lines_of(source))
+        status, printed = says(look, "ends", text)
+        found = [it[3] for it in map(LINE.fullmatch, printed) if it]
+        yield f"{name}: {printed}", (status, found, printed[-1:]) == (0, [end], [f"{states} states, all schedules"])
+
+
+PARTS = {it.__name__: it for it in (schedules_of_look, searches_of_look)}
+
+
+def rows():
+    """Yields each question of ends.rows: its line, the text, the options and the ends that were worked out by hand."""
+    for row in notation.table(f"{CHECKS}/ends.rows"):
+        most, *more = row.asked.split()
+        ends = [] if row.answer == "none" else row.answer.split(" | ")
+        yield row.number, notation.whole(row.text).decode(), options(more == ["timed"], int(most)), ends
+
+
+def wrong_rows(asked, look):
+    """Returns how many questions ends.rows has, and what is wrong with what this `look` answers."""
+    if not os.path.exists(look):
+        return 1, ["there is no such program: `rt ci` builds it"]
+    count, wrong = 0, []
+    with tempfile.TemporaryDirectory() as folder:
+        text = os.path.join(folder, "text")
+        for number, source, words, ends in rows():
+            with open(text, "w") as file:
+                file.write(source)
+            status, printed = says(look, "ends", text, *words)
+            found = [it[3] for it in map(LINE.fullmatch, printed) if it]
+            expected = [by_line(source, it) for it in ends]
+            count += 1
+            if status != 0 or sorted(found) != sorted(expected):
+                wrong.append(f"ends.rows, line {number}: status {status}, {printed}, and the ends are {expected}")
+    return count, wrong
+
+
+def by_compilers(look):
+    """Returns the program, and the same program as Rattle's own compiler built it. Only `rt ci` builds the second one, so it may
+    be missing beside a program that isn't that of the gate."""
+    other = f"{look}.by-rattle"
+    return [look, other] if look == os.path.realpath(programs.proved("look")) or os.path.exists(other) else [look]
+
+
+def tried_parts(look, folder, names, tally):
+    for part in names:
+        for name, is_so in PARTS[part](look, folder):
+            tally.holds(f"{part}: {name}", is_so)
+
+
+def tally_of(tally, made, wrong):
+    """Counts as many comparisons, of which these are wrong."""
+    tally.passed += made - len(wrong)
+    for line in wrong:
+        tally.holds(line, False)
+
+
+def main():
+    reads = argparse.ArgumentParser(description="Compares `look ends` with a search in Python.")
+    reads.add_argument("parts", nargs="*", metavar="PART", help=f"tries only {' or '.join(PARTS)}")
+    reads.add_argument("--count", type=int, default=30, help="so many times two drawn programs (30)")
+    reads.add_argument("--seed", default="1")
+    count = next((k for k, it in enumerate(sys.argv[1:3]) if it.startswith("-") and it != programs.UNPROVED), 2)
+    asked = reads.parse_args(sys.argv[1 + count :])
+    (asked.look, asked.sts), rest = programs.taken(sys.argv[1 : 1 + count], "look", "sts")
+    asked.parts = [*rest, *asked.parts]
+    tally, left_out = Tally(), 0
+    if asked.parts:
+        with tempfile.TemporaryDirectory() as folder:
+            tried_parts(asked.look, folder, parts(asked.parts, PARTS), tally)
+        return tally.end()
+    with concurrent.futures.ProcessPoolExecutor() as pool, tempfile.TemporaryDirectory() as folder:
+        work = [pool.submit(compare, asked, name, source) for name, source in texts(asked)]
+        tried_parts(asked.look, folder, PARTS, tally)
+        for look in by_compilers(asked.look):
+            tally_of(tally, *wrong_rows(asked, look))
+        for it in work:
+            made, wrong, without = it.result()
+            left_out += without
+            tally_of(tally, made, wrong)
+    print(f"{left_out} questions had more than {MOST_STATES} states, and were left out")
+    return tally.end()

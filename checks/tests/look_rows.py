@@ -1,0 +1,126 @@
+"""Asks `look` for the answers of the rows in checks/look_rows, which were worked out by hand.  [LOOK|--unproved]
+
+The files `.rows` have the notation of the tables in crates/tests_rows/data, with these questions:
+- `? explain` asks for the explanation of the text above; `? explain TRACE` for that of its run;
+- `? view [--each] [--full] [--living] [--json] TRACE` and `? draw [--events A..B] TRACE` ask for what these commands print, and
+  `? ends OPTIONS` for the ends.
+A TRACE is short (`0*5`), or `trace LINES`. A remark `# ---- GROUP` begins a group, and one above a text is the row's name.
+
+pictures.json has runs, and the picture of each. `sizes` are the width and the height of the picture and of its grid, and
+`foot` is where the legend begins. An element is `CLASS X Y WORDS` for a mark, `fork X FROM TO`, `number X N EVENT`,
+`idle X N EVENT`, or `value X Y WORDS` and other texts. An element with `of each` stands for these elements of each event from
+`first` to `last`: N is its number, and X its column, of which the first is at `at`. `events` is a window, if one is asked for, and
+`left_out` says in the heading which events aren't drawn. The style and the legend are texts that were chosen; they are not
+compared. In a text, a trace, `stands` and `left_out`, ` / ` is between two lines.
+The last line is `N passed, M failed`, of rows.
+"""
+import glob
+import json
+import os
+import re
+import sys
+import tempfile
+
+from checks import notation, programs, tally
+
+HERE = f"{programs.CHECKS}/look_rows"
+SHAPES = {
+    "ready": "h24",
+    "waits": "h24",
+    "bracket": "h24",
+    "closing": "h24",
+    "step": "m-4 0a4 4 0 1 0 8 0a4 4 0 1 0-8 0",
+    "success": "m7 0l4 5l8-10",
+    "failed": "m8-5l10 10m0-10l-10 10",
+    "unheard": "m8 0a5 5 0 1 0 10 0a5 5 0 1 0-10 0",
+    "never-started": "m8-5h10v10h-10z",
+    "interrupted": "m2-21l-6 8h5l-3 7l8-9h-5l4-6z",
+    "edge": "m0-4v8",
+    "expired": "m4-4h7l-7 8h7z",
+    "cancelled": "m13 0a4 4 0 1 0 8 0a4 4 0 1 0-8 0m1.2 2.8l5.6-5.6",
+    "fault": "m14-9v10m0 4v3",
+}
+
+
+def tables():
+    """Yields of each row its file and line, its group and name, the text, what is asked, the trace, the status and the output."""
+    for path in sorted(glob.glob(f"{HERE}/*.rows")):
+        for row in notation.table(path):
+            words, trace = row.asked.split(), None
+            if words[0] != "ends":
+                asked = re.fullmatch(r"(explain|view|draw)((?: --\w+(?: \d+\.\.\d+)?)*)(?: (.*))?", row.asked)
+                words, trace = [asked[1], *asked[2].split()], None if asked[3] is None else notation.trace(asked[3])
+            status, printed = notation.answer(row)
+            yield f"{os.path.basename(path)} line {row.number}", row.group, row.name, notation.whole(row.text), words, trace, status, printed or b""
+
+
+def asks(look, words, text, trace):
+    """Returns the status and what `look` prints."""
+    with tempfile.TemporaryDirectory() as folder:
+        files = [programs.kept(folder, name, it) for name, it in (("text", text), ("trace", trace)) if it is not None]
+        return programs.says(look, words[0], *files, *words[1:], seconds=60, is_text=False)
+
+
+def lines(short):
+    return "".join(f"{it}\n" for it in short.split(" / ")) if short else ""
+
+
+def element(short):
+    """Returns an element of a picture from its short form."""
+    kind, x, y, words = (short.split(" ", 3) + [""])[:4]
+    if kind in ("number", "idle"):
+        idle = " idle" if kind == "idle" else ""
+        return f"<text class='number{idle}' x='{x}' y='44'><title>{words}{idle}</title>{y}</text>\n"
+    if kind == "fork":
+        return f"<path class='fork' d='M{x} {y}V{words}'/>\n"
+    if kind in ("value", "label", "name", "code"):
+        return f"<text class='{kind}' x='{x}' y='{y}'>{words}</text>\n"
+    return f"<path class='{kind}' d='M{x} {y}{SHAPES[kind]}'><title>{words}</title></path>\n"
+
+
+def elements(row):
+    """Yields the elements of a row in their short form."""
+    for it in row["elements"]:
+        if isinstance(it, str):
+            yield it
+            continue
+        for n in range(it["first"], it["last"] + 1):
+            at = {"X": str(it["at"] + 24 * (n - it["first"])), "N": str(n)}
+            yield from (" ".join(at.get(word, word) for word in short.split(" ")) for short in it["of each"])
+
+
+def picture(row):
+    """Returns the picture of a row, without its style and its legend."""
+    wide, high, grid_wide, grid_high = row["sizes"]
+    state = f"{row['state']}\n steps {row['steps']}\n{lines(row.get('left_out', ''))}"
+    described = f"{row['state']}\nsteps {row['steps']}\n{lines(row['stands'])}"
+    return (
+        f"<svg xmlns='http://www.w3.org/2000/svg' class='sts-run' role='img' viewBox='0 0 {wide} {high}' width='{wide}' height='{high}'>\n"
+        f"<title>{state}</title>\n<desc>{described}</desc>\n"
+        f"<rect fill='url(#sts-grid)' x='208' y='46' width='{grid_wide}' height='{grid_high}'/>\n"
+        f"<text class='heading' x='12' y='22'>{state}</text>\n{''.join(map(element, elements(row)))}"
+        f"<g transform='translate(12 {row['foot']})'>\n</g>\n</svg>\n"
+    )
+
+
+def without_style(printed):
+    """Returns what is printed without the style, which is before the grid, and the legend, which is the last group."""
+    unstyled = re.sub(r"(?s)(</desc>\n).+?(<rect fill='url\(#sts-grid\)')", r"\1\2", printed, count=1)
+    return re.sub(r"(?s)(<g transform='translate\(12 \d+\)'>\n).+(</g>\n</svg>\n)\Z", r"\1\2", unstyled)
+
+
+def tried(look):
+    """Yields what is asked, what `look` answers, and what is right."""
+    for where, group, name, text, words, trace, status, printed in tables():
+        yield f"{where}: {group}, {name}", asks(look, words, text, trace), (status, printed)
+    with open(f"{HERE}/pictures.json") as file:
+        for row in json.load(file):
+            window = ["--events", row["events"]] if "events" in row else []
+            trace = notation.meant(row["trace"]) if row["trace"] else b""
+            status, printed = asks(look, ["draw", *window], lines(row["text"]).encode(), trace)
+            yield f"the picture of {row['name']}", (status, without_style(printed.decode())), (row["status"], picture(row))
+
+
+def main():
+    [look], _ = programs.taken(sys.argv[1:], "look")
+    return tally.equal(tried(look))
