@@ -7,6 +7,7 @@ import sys
 import tempfile
 import time
 
+import player
 import recording
 import runs
 import texts
@@ -48,6 +49,15 @@ class Edges:
         self.demand("a folder that can't be made is named, and the program runs", "isn't written" in told and said == "3\n", told)
         _, said, told = self.java("folder=np", "-version", path="", preview=False)
         self.demand("without --enable-preview it says so", "no --enable-preview" in told, told)
+
+    def other_jdks(self):
+        """Any other JDK that is installed, from 17 on, says that it records nothing, and starts the program."""
+        for home in sorted(it for place in player.PLACES for it in glob.glob(place) if not player.is_jdk25(it) and os.access(f"{it}/bin/java", os.X_OK)):
+            told = subprocess.run([f"{home}/bin/java", "-version"], capture_output=True, text=True).stderr
+            version = int(re.search(r'"(\d+)', told)[1])
+            if version >= 17:
+                done = subprocess.run([f"{home}/bin/java", f"-javaagent:{self.jar}", "-version"], capture_output=True, text=True, cwd=self.room)
+                self.demand(f"JDK {version} says that it isn't known", done.returncode == 0 and f"this is JDK {version}, and only JDK 25" in done.stderr, done.stderr)
 
     def values(self):
         self.java("folder=none", "shop.Fastest")
@@ -128,7 +138,7 @@ class Edges:
 def test(home):
     with tempfile.TemporaryDirectory() as room:
         edges = Edges(home, room)
-        for part in (edges.words, edges.values, edges.limits, edges.jar_and_module, edges.hangs, edges.many, edges.same_output):
+        for part in (edges.words, edges.other_jdks, edges.values, edges.limits, edges.jar_and_module, edges.hangs, edges.many, edges.same_output):
             part()
             sys.stdout.flush()
     print(f"the agent: {edges.count} demands, {len(edges.failures)} fail")

@@ -1,10 +1,12 @@
 #!/usr/bin/env python3
 """Times scopes in Java without the recorder, with one that records nothing, and with one that records.  usage: record/bench.py [ROUNDS]
 
-The kinds run by turns, so that they meet the same slow and fast minutes. The least time of each kind counts.
+The kinds run by turns, so that they meet the same slow and fast minutes. The least time of each kind counts. If there is a C compiler,
+an agent in C shows what makes virtual threads slower.
 """
 import os
 import re
+import shutil
 import subprocess
 import sys
 import tempfile
@@ -14,14 +16,39 @@ sys.path.insert(0, HERE)
 import jdk25  # noqa: E402
 from player import ONE_CARRIER  # noqa: E402
 
-# The JVM tells debuggers when a virtual thread is mounted, as soon as there is any agent. This leaves that out.
-QUIET = ["-XX:+UnlockExperimentalVMOptions", "-XX:-DoJVMTIVirtualThreadTransitions"]
-# The agent's words (None without an agent, empty for an agent that does nothing), and options of the JVM.
-KINDS = {"no agent": (None, []), "an empty agent": ("", []), "records nothing (most=0)": ("most=0", []),
-         "records no scope of these (every=1000000)": ("every=1000000", []), "records": ("most=1000000", []),
-         "records nothing, quiet JVM": ("most=0", QUIET), "records no scope of these, quiet JVM": ("every=1000000", QUIET),
-         "records, quiet JVM": ("most=1000000", QUIET)}
+OPTIONS = f"@{HERE}/options"
 EMPTY = "public class Empty { public static void premain(String words) {} }"
+# An agent that does nothing, and one that asks for the interface of JVMTI, with no capability, and gives it back at once.
+IDLE = "#include <jvmti.h>\nJNIEXPORT jint JNICALL Agent_OnLoad(JavaVM *vm, char *words, void *none) { return 0; }\n"
+ASKS = """#include <jvmti.h>
+JNIEXPORT jint JNICALL Agent_OnLoad(JavaVM *vm, char *words, void *none) {
+    jvmtiEnv *env;
+    return (*vm)->GetEnv(vm, (void **)&env, JVMTI_VERSION_11) || (*env)->DisposeEnvironment(env);
+}
+"""
+
+
+def kinds(room, home):
+    """Returns the options of the JVM for each kind."""
+    def recorder(words):
+        return f"-javaagent:{HERE}/recorder.jar={words},folder={room}/r"
+    found = {"no agent": [], "an empty agent": [f"-javaagent:{room}/empty.jar"]}
+    found |= {name: [f"-agentpath:{room}/{of}.so"] for name, of in (("an idle agent in C", "idle"), ("one that asks for JVMTI", "asks")) if in_c(room, home)}
+    for name, words in (("records nothing (most=0)", "most=0"), ("records no scope of these (every=1000000)", "every=1000000"), ("records", "most=1000000")):
+        found[name], found[f"{name}, with `record/options`"] = [recorder(words)], [recorder(words), OPTIONS]
+    return found
+
+
+def in_c(room, home):
+    """Builds the agents in C, and returns whether there is a compiler."""
+    compiler = shutil.which("cc")
+    for name, text in (("idle", IDLE), ("asks", ASKS)):
+        with open(f"{room}/{name}.c", "w") as file:
+            file.write(text)
+        if compiler:
+            include = [f"-I{home}/include", f"-I{home}/include/{'darwin' if sys.platform == 'darwin' else 'linux'}"]
+            subprocess.run([compiler, "-shared", "-fPIC", *include, "-o", f"{room}/{name}.so", f"{room}/{name}.c"], check=True)
+    return compiler
 
 
 def main():
@@ -38,15 +65,15 @@ def main():
                 file.write(text)
         subprocess.run([javac, "--release", "25", "--enable-preview", "-d", room, f"{HERE}/Bench.java", f"{room}/Empty.java"], check=True, capture_output=True)
         subprocess.run([jar, "--create", "--file", f"{room}/empty.jar", "--manifest", f"{room}/manifest", "-C", room, "Empty.class"], check=True)
+        timed = kinds(room, home)
         for _ in range(rounds):
-            for kind, (words, options) in KINDS.items():
-                agents = [] if words is None else [f"-javaagent:{HERE}/recorder.jar={words},folder={room}/r"] if words else [f"-javaagent:{room}/empty.jar"]
-                said = subprocess.run([java, *agents, *options, *ONE_CARRIER, "--enable-preview", "-cp", room, "Bench"], capture_output=True, text=True).stdout
+            for kind, options in timed.items():
+                said = subprocess.run([java, *options, *ONE_CARRIER, "--enable-preview", "-cp", room, "Bench"], capture_output=True, text=True).stdout
                 for what, time in re.findall(r"^(.*): ([0-9.]+)", said, re.M):
                     least[kind, what] = min(float(time), least.get((kind, what), float("inf")))
                 subprocess.run(["rm", "-rf", f"{room}/r"], check=True)
-    for kind in KINDS:
-        print(f"{kind}: " + ", ".join(f"{what} {time:.1f} ({time / least['no agent', what]:.2f})" for (of, what), time in least.items() if of == kind))
+    for kind in timed:
+        print(f"| {kind} | " + " | ".join(f"{time:.1f} ({time / least['no agent', what]:.2f})" for (of, what), time in least.items() if of == kind) + " |")
     return 0
 
 

@@ -1,11 +1,15 @@
 package recorder;
 
 import java.lang.instrument.Instrumentation;
-import java.util.Map;
-import java.util.Set;
 
-/** Starts the recorder in a JVM. Only this class and Words are loaded if the JVM isn't one that the recorder knows. */
+/**
+ * Starts the recorder in a JVM.
+ *
+ * <p>This class and Words are compiled for JDK 17, so that an older JDK, too, says why it records nothing. They name no other class of
+ * the recorder, and load one only in a JVM that the recorder knows.
+ */
 public final class Agent {
+    private static final int KNOWN = 25;
     private static volatile boolean isStarted;
 
     private Agent() {}
@@ -23,10 +27,10 @@ public final class Agent {
     }
 
     /** Writes what is open, when jcmd loads the agent into a JVM where it records. */
-    public static void agentmain(String given, Instrumentation instrumentation) {
+    public static void agentmain(String given, Instrumentation instrumentation) throws ReflectiveOperationException {
         if (!isStarted) say("this JVM wasn't started with -javaagent:recorder.jar, so nothing is recorded");
         else if (!"dump".equals(given)) say("the only word here is dump");
-        else Unfinished.dumpAll("on jcmd");
+        else Class.forName("recorder.Unfinished").getDeclaredMethod("dumpAll", String.class).invoke(null, "on jcmd");
     }
 
     /** Prints the words of the agent. */
@@ -35,21 +39,16 @@ public final class Agent {
     }
 
     private static void start(Words words, Instrumentation instrumentation) throws ReflectiveOperationException {
-        if (Runtime.version().feature() != 25) {
-            say("this is JDK " + Runtime.version().feature() + ", and only JDK 25 is known, so nothing is recorded");
+        int version = Runtime.version().feature();
+        if (version != KNOWN) {
+            say("this is JDK " + version + ", and only JDK " + KNOWN + " is known, so nothing is recorded");
             return;
         }
         if (!hasPreview()) {
             say("the JVM has no --enable-preview, so there are no structured scopes to record");
             return;
         }
-        Module mine = Agent.class.getModule(), base = Object.class.getModule();
-        instrumentation.redefineModule(base, Set.of(), Map.of(), Map.of("java.util.concurrent", Set.of(mine)), Set.of(), Map.of());
-        Threads.begin();
-        Live.begin(words);
-        Store.begin(words);
-        Unfinished.begin(words);
-        instrumentation.addTransformer(new Rewriter(words.left));
+        Class.forName("recorder.Beginning").getDeclaredMethod("begin", Words.class, Instrumentation.class).invoke(null, words, instrumentation);
         isStarted = true;
     }
 

@@ -7,7 +7,7 @@ import java.util.List;
 /** The words behind {@code -javaagent:recorder.jar=}, separated by commas. */
 final class Words {
     static final String HELP = """
-            java -javaagent:recorder.jar[=WORD,..] --enable-preview ..    records structured scopes (JDK 25)
+            java @record/options -javaagent:record/recorder.jar[=WORD,..] ..    records structured scopes (JDK 25)
               folder=PATH    writes the recordings into this folder (default: recorded)
               values=none    writes no value: only its type and a number (default)
               values=text    writes strings, numbers and messages of exceptions as they are
