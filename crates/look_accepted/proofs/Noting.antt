@@ -2,7 +2,7 @@
 use Rattle.std.proofs.Common.{◌≡◌, ℕ, zero, suc, ◌+◌, ◌<◌, ◌≤◌, ◌⊎◌, inl, inr, List, [], ◌∷◌, ◌++◌, length, refl, ap, sym, ◌∙◌, arith, subst, append_assoc, Bool, true, false, cond, Option, Some, None}
 use Rattle.std.proofs.Common.{get_or-set_same, get_or-set_other, length-set}
 use Rattle.std.specs.Prelude.{slice_index_or, slice_set, replicate, MatchOption, is_some, ◌==◌, nat_lt}
-use Rattle.std.proofs.lemmas.Bool.{cond_both}
+use Rattle.std.proofs.lemmas.Bool.{cond_both, cases_lt}
 use Rattle.std.proofs.lemmas.Bool.Decides.{nat_tests}
 use Rattle.std.proofs.lemmas.List.{append-nil, get_or_default, get_or_past, length-replicate}
 use Rattle.sts_code.specs.Program.{Program, routine, instr_at}
@@ -74,18 +74,11 @@ is_same_or_not a b = by (a == b) refl
     by true e = inl (grind (arith, nat_tests))
     by false e = inr (λ same. grind (arith, nat_tests))
 
-is_below_or_not : (a b : ℕ) → (a < b) ⊎ (b ≤ a)
-is_below_or_not a b = by (nat_lt a b) refl
-  where
-    by : (t : Bool) → nat_lt a b ≡ t → (a < b) ⊎ (b ≤ a)
-    by true e = inl (grind (arith, nat_tests))
-    by false e = inr (grind (arith, nat_tests))
-
 -- a place that has none gets that of the node
 noted_here : (p : Program) (f : ℕ) (nodes : List Node) (k : ℕ) (x : Node) (rules : List (Option Reliance)) → k < length nodes → x ≡ slice_index_or nodes k x → Comes p f x → slice_index_or rules x.pc None ≡ None → NotedTo p f nodes k rules → NotedTo p f nodes (k + 1) (slice_set rules x.pc (relied_on_at p f x))
 noted_here p f nodes k x rules less read comes free h = record {
   long = length-set rules x.pc (relied_on_at p f x) ∙ h.long;
-  some = λ pc r e. some pc r e (is_same_or_not pc x.pc) (is_below_or_not x.pc (length rules));
+  some = λ pc r e. some pc r e (is_same_or_not pc x.pc) (cases_lt x.pc (length rules));
   none = λ pc e inside. none pc e inside (is_same_or_not pc x.pc);
 }
   where

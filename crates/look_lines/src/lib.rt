@@ -14,7 +14,7 @@ pub use form::{Form, Run};
 pub use of_text::{shown, write_run};
 pub use others::{closed, resting};
 pub use scopes::{phase_word, scope_place};
-pub use tasks::{is_heard, name_of, stand_words, under_words};
+pub use tasks::{is_heard, stand_words, under_words};
 pub use view::{ViewOptions, event_words, view_lines};
 pub use views::{View, after, view_output};
 pub use watch::{Applied, Watch};

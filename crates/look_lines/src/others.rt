@@ -5,7 +5,6 @@ ghost use Rattle.std.specs.String.{string_bytes};
 ghost use Rattle.sts_code.specs.declared.limits.TheConstants.{MAX_BIRTHS};
 ghost use Rattle.look_lines.specs.Lines as def;
 
-use crate::scopes::is_closed;
 use crate::view::ViewOptions;
 use std::alloc::AllocError;
 use std::fmt::Write;
@@ -30,7 +29,7 @@ pub fn closed(records: &Records) -> usize
 {
     let mut count = 0;
     for s in 0..records.scopes_born() {
-        if is_closed(records, s as u32) {
+        if records.phase(s as u32).is_closed() {
             count += 1;
         }
     }

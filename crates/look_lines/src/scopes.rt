@@ -3,7 +3,6 @@
 ghost use Rattle.std.specs.Prelude.{◌≡◌, ◌++◌, OnOk};
 ghost use Rattle.std.specs.List.{flat_map};
 ghost use Rattle.std.specs.String.{string_bytes};
-ghost use Rattle.sts_model.specs.Living as living;
 ghost use Rattle.sts_model.specs.World as model;
 ghost use Rattle.look_lines.specs.Lines as def;
 
@@ -84,13 +83,6 @@ fn told_lines(out: &mut String, completions: &[Completion]) -> Result<(), AllocE
     Ok(())
 }
 
-/// Is the scope closed?
-pub(crate) fn is_closed(records: &Records, s: u32) -> bool
-    ensures { result ≡ living.is_closed (model.scope_at records.now s).phase }
-{
-    matches!(records.phase(s), Phase::Closed)
-}
-
 /// The lines of a scope that is wanted. In full they show all ends that the joiner counted.
 fn scope_block(
     out: &mut String,
@@ -101,7 +93,7 @@ fn scope_block(
     ensures { OnOk result (string_bytes out.new
         ≡ string_bytes out.old ++ def.scope_block wanted s (model.scope_at records.now s)) }
 {
-    if wanted.living && is_closed(records, s) {
+    if wanted.living && records.phase(s).is_closed() {
         return Ok(());
     }
     scope_place(out, records, s)?;

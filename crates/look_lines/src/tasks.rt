@@ -3,7 +3,6 @@
 ghost use Rattle.std.specs.Prelude.{◌≡◌, ◌++◌, ◌<◌, OnOk, length, reverse, true};
 ghost use Rattle.std.specs.List.{flat_map};
 ghost use Rattle.std.specs.String.{string_bytes};
-ghost use Rattle.sts_code.specs.Program.{routine};
 ghost use Rattle.sts_model.specs.Living as living;
 ghost use Rattle.sts_model.specs.World as model;
 ghost use Rattle.sts_output.specs.Printed.{ended};
@@ -12,20 +11,10 @@ ghost use Rattle.look_lines.specs.Lines as def;
 use crate::view::ViewOptions;
 use std::alloc::AllocError;
 use std::fmt::Write;
-use sts_code::Program;
+use sts_code::{Program, name_of};
 use sts_model::{End, Stand};
 use sts_plain::{can_step, stand_at};
 use sts_world::{Records, World};
-
-/// The name of a function of the program; nothing if it has none.
-pub fn name_of(program: &Program, function: u32) -> &str
-    ensures { result.now ≡ (routine program.now function).name }
-{
-    match program.functions().get(function as usize) {
-        Some(f) => f.name.as_str(),
-        None => "",
-    }
-}
 
 /// Writes a word if `holds` is true, and the line's end.
 pub(crate) fn ended_by(out: &mut String, holds: bool, word: &str) -> Result<(), AllocError>

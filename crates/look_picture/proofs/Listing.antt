@@ -4,6 +4,7 @@ use Rattle.std.specs.Prelude.{nat_lt}
 use Rattle.std.specs.List.{All, flat_map, range_with_len}
 use Rattle.std.proofs.lemmas.Bool.Decides.{nat_tests}
 use Rattle.std.proofs.lemmas.List.{append-nil}
+use Rattle.std.proofs.lemmas.Bool.{not-false}
 use Rattle.sts_code.specs.Program.{Program}
 use Rattle.sts_model.specs.declared.record.Scope.{Scope}
 use Rattle.sts_model.specs.declared.record.Task.{Task}
@@ -45,14 +46,10 @@ scope_cells_are : (before w : World) (x : ℕ) (scopes : List Scope) (s : ℕ) �
 scope_cells_are before w x [] s = refl
 scope_cells_are before w x (scope ∷ scopes) s = ap (λ (bytes : List ℕ). scope_cell before w x s ++ bytes) (scope_cells_are before w x scopes (s + 1))
 
-was_closed : (b : Bool) → not b ≡ false → b ≡ true
-was_closed true e = refl
-was_closed false e = cc
-
 -- nothing is drawn of a scope that is closed in the column before
 no_scope_cell : (before w : World) (x s : ℕ) → Follows before w → s < length before.scopes → is_open (scope_at before s) ≡ false → scope_cell before w x s ≡ []
 no_scope_cell before w x s h born closed =
-    let was = was_closed (is_closed (scope_at before s).phase) closed in
+    let was = not-false (is_closed (scope_at before s).phase) closed in
     let is = h.closed s born was in
     rw (was, is) refl
 
@@ -71,7 +68,7 @@ kept_shown before w h =
     ap₂ (λ (tasks scopes : List ℕ). record { tasks = tasks; scopes = scopes })
     (kept_later (λ t. lives (task_at before t)) (λ t. lives (task_at w t)) (length before.tasks) (length w.tasks) h.tasks (λ t born dead. ap lives (h.resting t born dead) ∙ dead))
     (kept_later (λ s. is_open (scope_at before s)) (λ s. is_open (scope_at w s)) (length before.scopes) (length w.scopes) h.scopes
-    (λ s born closed. ap not (h.closed s born (was_closed (is_closed (scope_at before s).phase) closed))))
+    (λ s born closed. ap not (h.closed s born (not-false (is_closed (scope_at before s).phase) closed))))
 
 -- nothing follows in the first column
 pub follows-refl : (w : World) → Follows w w

@@ -2,7 +2,6 @@
 
 ghost use Rattle.std.specs.Prelude.{◌≡◌, ◌++◌, ◌<◌, ◌≤◌, OnOk, count_by, length};
 ghost use Rattle.std.specs.String.{string_bytes};
-ghost use Rattle.sts_model.specs.Living as living;
 ghost use Rattle.sts_model.specs.World as model;
 ghost use Rattle.look_lines.specs.Lines as lines;
 ghost use Rattle.look_picture.specs.Brackets as def;
@@ -16,12 +15,6 @@ use look_lines::{phase_word, scope_place};
 use std::alloc::AllocError;
 use std::fmt::Write;
 use sts_model::{Entry, Phase, Stack};
-
-fn is_closed(phase: Phase) -> bool
-    ensures { result ≡ living.is_closed phase }
-{
-    matches!(phase, Phase::Closed)
-}
 
 /// The number of scopes in a structure list that were born before a scope.
 fn scopes_before(entries: &Stack<Entry, 16>, s: u32) -> usize
@@ -119,10 +112,10 @@ fn span(out: &mut String, change: Change<'_>, s: u32) -> Result<(), AllocError>
         ++ def.span change.entry.before.now change.entry.world.now change.entry.x s) }
 {
     let phase = change.world.records().phase(s);
-    if is_closed(phase) {
+    if phase.is_closed() {
         return Ok(());
     }
-    if is_closed(change.before.records().phase(s)) {
+    if change.before.records().phase(s).is_closed() {
         return scope_number(out, change, s);
     }
     mark_if(out, true, line_mark(phase), change, s, phase_word(phase))
@@ -177,7 +170,7 @@ fn scope_cell(out: &mut String, change: Change<'_>, s: u32) -> Result<(), AllocE
         ++ def.scope_cell change.entry.before.now change.entry.world.now change.entry.x s) }
 {
     let phase = change.world.records().phase(s);
-    if is_closed(change.before.records().phase(s)) && is_closed(phase) {
+    if change.before.records().phase(s).is_closed() && phase.is_closed() {
         return Ok(());
     }
     span(out, change, s)?;

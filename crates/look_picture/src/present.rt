@@ -9,7 +9,6 @@ ghost use Rattle.look_picture.specs.Present as def;
 
 use std::alloc::{AllocError, Global};
 use std::marker::Model;
-use sts_model::Phase;
 use sts_world::Records;
 
 /// Birth numbers, in order: those of the tasks that live and of the scopes that aren't closed.
@@ -51,7 +50,7 @@ fn keep_living(tasks: &mut Vec<u32>, records: &Records)
 fn is_open(records: &Records, s: u32) -> bool
     ensures { result ≡ def.is_open (scope_at records.now s) }
 {
-    !matches!(records.phase(s), Phase::Closed)
+    !records.phase(s).is_closed()
 }
 
 /// Keeps the scopes that aren't closed.

@@ -17,7 +17,6 @@ pub mod PartLemmas
 pub mod PointLemmas
 pub mod Reading
 pub mod RemedyLemmas
-pub mod SameLemmas
 pub mod StopLemmas
 pub mod Tables
 pub mod TellLemmas

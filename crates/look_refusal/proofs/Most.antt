@@ -30,7 +30,7 @@ use Rattle.sts_budget.specs.Sums.{Stands}
 use Rattle.sts_budget.proofs.EntryLemmas.{front_all, front_le, long}
 use Rattle.sts_budget.proofs.FourKindLemmas.{counts_one, comes_names, to_sums, to_steps}
 use Rattle.sts_budget.proofs.FourKindLemmas.{from_sums, from_steps}
-use Rattle.sts_budget.proofs.PointLemmas.{end_counts_one}
+use Rattle.sts_budget.proofs.FourKindLemmas.{end_counts}
 
 module _ (earlier : List Budgets) (code : List Instr) (round : ℕ → List ℕ) (good : IsStructured (skeleton earlier code) round) (names_at : ℕ → EntryNames) (known : KnowsNames code (skeleton earlier code) round names_at) where
   -- the count at a point is one of the sums
@@ -42,7 +42,7 @@ module _ (earlier : List Budgets) (code : List Instr) (round : ℕ → List ℕ)
 
   pub none_heavier : (k : Resource) (most : ℕ) → ((pc : ℕ) (loops : Loops) (sum : ℕ) → ends_for k (instr_at code pc) ≡ true → Sums (skeleton earlier code) (flows k earlier code names_at) (depth_of k (names_at pc)) pc loops sum → own_of k + sum ≤ most) → (pc m : ℕ) → Weighs k earlier code pc m → m ≤ most
   none_heavier Steps most below pc m (loops, (before, (es, (r, (e, is))))) =
-      let one = end_counts_one earlier pc (instr_at code pc) e in
+      let one = end_counts earlier pc (instr_at code pc) e in
       let le = below pc loops before (ends_paths pc (instr_at code pc) e) (to_steps earlier code round good names_at known pc loops before es r) in
       omega (arith, is)
   none_heavier Tasks most below pc m (loops, (before, (es, (r, is)))) = let le = below pc loops _ refl (all_sums (tasks_measure earlier) pc loops before es r) in omega (arith, is)

@@ -32,14 +32,15 @@ use Rattle.look_refusal.proofs.Extending.{sums}
 use Rattle.look_refusal.proofs.Instrs.{path_ends}
 use Rattle.look_refusal.proofs.Most.{top_most, top_heavy, wide_heavy}
 use Rattle.sts_budget.proofs.PathLemmas.{lie_on_paths}
-use Rattle.sts_budget.proofs.PointLemmas.{stands, steps_come, end_counts_one}
+use Rattle.sts_budget.proofs.FourKindLemmas.{end_counts}
+use Rattle.sts_budget.proofs.PointLemmas.{stands, steps_come}
 
 module _ (earlier : List Budgets) (code : List Instr) (round : ℕ → List ℕ) (good : IsStructured (skeleton earlier code) round) (names_at : ℕ → EntryNames) (known : KnowsNames code (skeleton earlier code) round names_at) where
   pub weighs : (k : Resource) (pc : ℕ) (loops : Loops) (sum : ℕ) → ends_for k (instr_at code pc) ≡ true → Sums (skeleton earlier code) (flows k earlier code names_at) (depth_of k (names_at pc)) pc loops sum → Weighs k earlier code pc (own_of k + sum)
   weighs Steps pc loops sum may h =
       let w = steps_come earlier code round good names_at known pc loops sum h in
       let e = path_ends pc (instr_at code pc) may in
-      let one = end_counts_one earlier pc (instr_at code pc) e in
+      let one = end_counts earlier pc (instr_at code pc) e in
       (loops, (sum, (w.0, (w.1, (e, omega arith)))))
   weighs Tasks pc loops sum may h = let w = stands earlier code round good names_at known (tasks_measure earlier) pc loops sum h in (loops, (w.0, (w.1.0, (w.1.1.0, ap (λ n. 1 + n) w.1.1.1))))
   weighs Scopes pc loops sum may h = let w = stands earlier code round good names_at known (scopes_measure earlier) pc loops sum h in (loops, (w.0, (w.1.0, (w.1.1.0, (let e = w.1.1.1 in omega arith)))))

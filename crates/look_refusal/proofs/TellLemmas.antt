@@ -16,7 +16,7 @@ use Rattle.sts_budget.specs.declared.change.Resource.TheVariants.{Steps, Tasks, 
 use Rattle.sts_budget.specs.Change.{cause_of, limit_of}
 use Rattle.look_refusal.specs.declared.heavy.Heavy.{Heavy}
 use Rattle.look_refusal.specs.Heavy.{IsHeavy, IsUntold, NeedsMoreBits, NoneHeavier, Weighs}
-use Rattle.look_refusal.proofs.SameLemmas.{same_budgets}
+use Rattle.sts_rules.proofs.VerdictLemmas.{are_one}
 use Rattle.look_refusal.proofs.ForwardLemmas.{never_budget}
 use Rattle.look_refusal.specs.Weights.{weight_lines}
 use Rattle.look_refusal.specs.declared.ways.Meeting.{Meeting}
@@ -97,7 +97,7 @@ untold_wide p f pc k c e (too_much earlier typed long right excess) u = elim u.w
 
     too_light : NoneHeavier k u.earlier (routine p f).code (limit_of k) → ⊥
     too_light light =
-        let same : earlier ≡ u.earlier = same_budgets p earlier u.earlier (long ∙ sym u.long) right u.right in
+        let same : earlier ≡ u.earlier = are_one p earlier u.earlier (long ∙ sym u.long) right u.right in
         let over = more_weighs k u.earlier code (subst (λ x. Exceeds u.earlier (routine p f).code x) e (subst (λ bs. Exceeds bs (routine p f).code c) same excess.0)) in
         let le = light over.0 over.1.0 over.1.1.0 in
         omega (arith, over.1.1.1)

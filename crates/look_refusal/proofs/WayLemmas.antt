@@ -3,7 +3,7 @@ use Rattle.std.proofs.Common.{◌≡◌, ◌≢◌, ℕ, ◌<◌, ◌≤◌, ◌
 use Rattle.std.specs.Prelude.{Ok, IfSome, is_some, slice_index_or, slice_set, if◌then◌else◌}
 use Rattle.std.proofs.lemmas.Bool.{cases_eq, cases_lt}
 use Rattle.std.proofs.lemmas.Grind.{common_steps}
-use Rattle.std.proofs.lemmas.Option.{slice_get_read}
+use Rattle.std.proofs.lemmas.Option.{slice_get_read, same_Some}
 use Rattle.sts_code.specs.Program.{Program}
 use Rattle.sts_rules.specs.Edges.{edges, typing}
 use Rattle.sts_rules.specs.Flow.{Reaches, Leads, first, then}
@@ -12,13 +12,10 @@ use Rattle.look_refusal.specs.declared.ways.WayOrigin.TheVariants.{Beginning, Ed
 use Rattle.look_refusal.specs.declared.ways.Way.{Way}
 use Rattle.look_refusal.specs.Ways.{IsWayTo, AreWays}
 
-some_is : {X : Type 0} (x y : X) → Some x ≡ Some y → x ≡ y
-some_is x y e = cc
-
 -- the edge at a number of a list is one of its edges
 pub leads_at : (out : List (ℕ × TypeState)) (n : ℕ) (e : ℕ × TypeState) → slice_get out n ≡ Some e → Leads out e.0 e.1
 leads_at [] n e h = absurd (cc)
-leads_at (x ∷ xs) zero e h = let same : x ≡ e = some_is x e h in inl (ap (λ (y : ℕ × TypeState). y.0) same, ap (λ (y : ℕ × TypeState). y.1) same)
+leads_at (x ∷ xs) zero e h = let same : x ≡ e = same_Some x e h in inl (ap (λ (y : ℕ × TypeState). y.0) same, ap (λ (y : ℕ × TypeState). y.1) same)
 leads_at (x ∷ xs) (suc n) e h = inr (leads_at xs n e h)
 
 -- an edge out of a typestate that is reached is a way

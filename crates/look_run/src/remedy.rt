@@ -197,14 +197,6 @@ fn unread(records: &Records, held: Slot) -> Remedy
     }
 }
 
-/// May the subtasks of a scope be read?
-fn is_readable(records: &Records, profile: Profile, s: u32) -> bool
-    ensures { result ≡ misuse.is_readable profile (model.scope_at records.now s) }
-{
-    matches!(records.phase(s), Phase::Joined)
-        && (matches!(profile, Profile::Two) || !records.is_expired(s))
-}
-
 /// A subtask of this scope can't be read, or ended otherwise.
 fn of_scope(records: &Records, profile: Profile, s: Option<u32>, otherwise: Remedy) -> Remedy
     ensures { result ≡ (if misuse.is_readable profile (living.parent records.now s) then otherwise
@@ -212,7 +204,7 @@ fn of_scope(records: &Records, profile: Profile, s: Option<u32>, otherwise: Reme
 {
     match s {
         None => Remedy::ReadBeforeJoin,
-        Some(s) => if is_readable(records, profile, s) {
+        Some(s) => if records.is_readable(profile, s) {
             otherwise
         } else {
             unread_in(records.phase(s))

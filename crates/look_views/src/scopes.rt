@@ -10,7 +10,7 @@ use look_lines::phase_word;
 use serde_json::{Value, json};
 use std::alloc::{AllocError, Global};
 use sts_code::{Joiner, Pred};
-use sts_model::{Completion, End, Phase};
+use sts_model::{Completion, End};
 use sts_world::Records;
 
 /// Returns the words of a joiner, one space apart, as an `open` has them.
@@ -129,7 +129,7 @@ pub(crate) fn open_scopes(
 {
     let mut list = Vec::new(alloc);
     for s in 0..records.scopes_born() {
-        if !matches!(records.phase(s as u32), Phase::Closed) {
+        if !records.phase(s as u32).is_closed() {
             list.push(scope(alloc, full, records, s as u32)?)?;
         }
     }

@@ -8,10 +8,10 @@ ghost use Rattle.look_cases.specs.Json.{count_or_null};
 ghost use Rattle.look_views.specs.Task as def;
 
 use crate::frames::frame;
-use look_lines::{is_heard, name_of};
+use look_lines::is_heard;
 use serde_json::{Value, json};
 use std::alloc::{AllocError, Global};
-use sts_code::Program;
+use sts_code::{Program, name_of};
 use sts_model::{End, Stand};
 use sts_plain::{can_step, stand_at};
 use sts_world::World;

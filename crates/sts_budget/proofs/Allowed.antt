@@ -3,7 +3,7 @@ use Rattle.std.proofs.Common.{◌≡◌, ℕ, ◌<◌, ◌⊎◌, inl, inr, List
 use Rattle.std.proofs.Common.{false, cond, not, ◌||◌, Option, Some, None, Ok, find, refl, sym, ap}
 use Rattle.std.proofs.Common.{◌∙◌}
 use Rattle.std.specs.List.{list_any}
-use Rattle.std.proofs.lemmas.Bool.{leb-false}
+use Rattle.std.proofs.lemmas.Bool.{leb-false, not-false, or_parts}
 use Rattle.std.proofs.lemmas.Slice.Eq.{bytes_eq-Decides}
 use Rattle.sts_code.specs.Program.{Program, routine}
 use Rattle.sts_code.specs.declared.instr.Instr.{Instr}
@@ -39,21 +39,13 @@ none_holds t [] c e h = absurd h
 none_holds t (x ∷ xs) c e (inl same) = ap t (sym same) ∙ (not_found t x xs e).0
 none_holds t (x ∷ xs) c e (inr h) = none_holds t xs c (not_found t x xs e).1 h
 
-pub neither : (a b : Bool) → a || b ≡ false → (a ≡ false) × (b ≡ false)
-neither true b e = absurd (cc)
-neither false b e = (refl, e)
-
-pub not_false : (a : Bool) → not a ≡ false → a ≡ true
-not_false true e = refl
-not_false false e = absurd (cc)
-
 none_passes : (t : ℕ → Bool) (xs : List ℕ) (x : ℕ) → list_any t xs ≡ false → Among xs x → t x ≡ false
 none_passes t [] x e a = absurd a
-none_passes t (y ∷ ys) x e (inl same) = ap t (sym same) ∙ (neither (t y) (list_any t ys) e).0
-none_passes t (y ∷ ys) x e (inr a) = none_passes t ys x (neither (t y) (list_any t ys) e).1 a
+none_passes t (y ∷ ys) x e (inl same) = ap t (sym same) ∙ (or_parts (t y) (list_any t ys) e).0
+none_passes t (y ∷ ys) x e (inr a) = none_passes t ys x (or_parts (t y) (list_any t ys) e).1 a
 
 same_loops : (code : List Instr) (hs : List ℕ) (to : ℕ) → is_other_loop code hs to ≡ false → around code to ≡ hs
-same_loops code hs to e = (bytes_eq-Decides (around code to) hs).0 (not_false _ e)
+same_loops code hs to e = (bytes_eq-Decides (around code to) hs).0 (not-false _ e)
 
 pub record Allowed (p : Program) (f pc : ℕ) (i : Instr) (s : TypeState) (out : List (ℕ × TypeState)) : Type 0 where
   pub is : out ≡ follows p (routine p f).code pc i s
@@ -81,8 +73,8 @@ allowed p f pc i s out e =
     let c12 = none_holds t causes cause.IllegalState o.0 (inr (inr (inr (inr (inr (inr (inr (inr (inr (inl refl)))))))))) in
     let c13 = none_holds t causes cause.Structure o.0 (inr (inr (inr (inr (inr (inr (inr (inr (inr (inr (inl refl))))))))))) in
     let c14 = none_holds t causes cause.Nesting o.0 (inr (inr (inr (inr (inr (inr (inr (inr (inr (inr (inr (inl refl)))))))))))) in
-    let m = neither (is_unmatched code pc i s || list_any (is_other_loop code (heads s.loops)) (targets i ++ skipped_to code pc i)) (list_any (is_other_loop code (open_after pc i (heads s.loops))) (next_place pc i)) c5 in
-    let m' = neither (is_unmatched code pc i s) (list_any (is_other_loop code (heads s.loops)) (targets i ++ skipped_to code pc i)) m.0 in
+    let m = or_parts (is_unmatched code pc i s || list_any (is_other_loop code (heads s.loops)) (targets i ++ skipped_to code pc i)) (list_any (is_other_loop code (open_after pc i (heads s.loops))) (next_place pc i)) c5 in
+    let m' = or_parts (is_unmatched code pc i s) (list_any (is_other_loop code (heads s.loops)) (targets i ++ skipped_to code pc i)) m.0 in
     record {
       is = o.1;
       inside = λ to a. leb-false (length code) to (none_passes _ (targets i ++ next_place pc i ++ skipped_to code pc i) to c3 a);

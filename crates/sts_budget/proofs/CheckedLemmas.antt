@@ -2,7 +2,7 @@
 use Rattle.std.proofs.Common.{◌≡◌, ℕ, zero, suc, ◌<◌, ◌≤◌, [], length, take, Bool}
 use Rattle.std.proofs.Common.{true, false, Option, None, ◌||◌, not, nat_lt, ◌==◌, refl}
 use Rattle.std.proofs.Common.{arith}
-use Rattle.std.proofs.lemmas.Bool.{leb-false, ltb-false}
+use Rattle.std.proofs.lemmas.Bool.{leb-false, ltb-false, or_parts}
 use Rattle.sts_code.specs.Checks as def
 use Rattle.sts_code.specs.Name.{is_name}
 use Rattle.sts_code.specs.Program.{Program, routine, instr_at}
@@ -12,16 +12,12 @@ use Rattle.sts_code.proofs.CheckedLemmas.{neither, no_cause, no_test, routine_is
 use Rattle.sts_code.proofs.CheckedLemmas.{routines_are_fine, code_is_short}
 use Rattle.sts_code.proofs.InstrLemmas.{sound_at}
 
-either_false : (a b : Bool) → a || b ≡ false → (a ≡ false) × (b ≡ false)
-either_false true b e = absurd (cc)
-either_false false b e = (refl, e)
-
 some_turn : (n : ℕ) → (n == 0) || nat_lt 10000 n ≡ false → 0 < n
 some_turn zero e = absurd (cc)
 some_turn (suc n) e = omega arith
 
 few_turns : (n : ℕ) → (n == 0) || nat_lt 10000 n ≡ false → n < 65536
-few_turns n e = let f = ltb-false 10000 n (either_false (n == 0) (nat_lt 10000 n) e).1 in omega arith
+few_turns n e = let f = ltb-false 10000 n (or_parts (n == 0) (nat_lt 10000 n) e).1 in omega arith
 
 -- a function of a program that passed the checks
 pub record IsChecked (p : Program) (f : ℕ) : Type 0 where
@@ -39,7 +35,7 @@ is_checked p f e lt =
     let whole = no_cause (length (take f p.routines)) 0 (def.routine_cause (take f p.routines) (routine p f)) both.0 in
     let long = no_test (nat_lt 4096 (length (routine p f).code)) TooLong _ whole in
     let ranged = no_test (not (is_name (routine p f).name) || nat_lt 8 (routine p f).args || length (routine p f).code == 0) BadRange _ long.1 in
-    let empty = (either_false (not (is_name (routine p f).name) || nat_lt 8 (routine p f).args) (length (routine p f).code == 0) ranged.0).1 in
+    let empty = (or_parts (not (is_name (routine p f).name) || nat_lt 8 (routine p f).args) (length (routine p f).code == 0) ranged.0).1 in
     record {
       some_code = some (length (routine p f).code) empty;
       short = (code_is_short p f e).0;

@@ -5,7 +5,7 @@ use Rattle.std.proofs.Common.{length, drop, map, Bool, true, false, cond, not, �
 use Rattle.std.proofs.Common.{Option, Some, None, refl, sym, ap, ◌∙◌, subst, arith, option_map}
 use Rattle.std.proofs.Common.{option_to_list, slice_get, nat_le}
 use Rattle.std.specs.List.{list_any}
-use Rattle.std.proofs.lemmas.Bool.{cases_lt, leb-false, eqb-true}
+use Rattle.std.proofs.lemmas.Bool.{cases_lt, leb-false, eqb-true, not-false, or_parts}
 use Rattle.std.proofs.lemmas.List.{length-map}
 use Rattle.sts_code.specs.Program.{Program, routine, instr_at}
 use Rattle.sts_code.specs.declared.instr.Instr.{Instr}
@@ -30,7 +30,7 @@ use Rattle.sts_rules.specs.ControlPaths.{GoesTo, Repeats, EndsPath, Skeleton, Am
 use Rattle.sts_rules.specs.declared.budget.Budgets.{Budgets}
 use Rattle.sts_rules.specs.Budget.{skeleton, shape_of}
 use Rattle.sts_budget.specs.Layout.{EntryNames, names_after, HasScope, FitsNames}
-use Rattle.sts_budget.proofs.Allowed.{allowed, not_false, neither}
+use Rattle.sts_budget.proofs.Allowed.{allowed}
 use Rattle.sts_budget.proofs.TypedLemmas.{IsEdge, over_go, into_loop, past_loop, over_next, edge_at, here}
 use Rattle.sts_budget.proofs.TypedLemmas.{times_at, next_at, goes_at, within_code, opened, ended}
 use Rattle.sts_budget.proofs.TypedLemmas.{none_past}
@@ -69,20 +69,20 @@ has_scope (Scope r ∷ es) x e = by (r.slot == x) refl (has_scope es x)
 
 -- the close of a scope of the task's own
 own_slot : (s : TypeState) (x : ℕ) → not (is_own (kind s x) || is_lent (kind s x)) || false ≡ false → is_lent (kind s x) ≡ false → is_own (kind s x) ≡ true
-own_slot s x a b = own_of (kind s x) (neither (not (is_own (kind s x) || is_lent (kind s x))) false a).0 b
+own_slot s x a b = own_of (kind s x) (or_parts (not (is_own (kind s x) || is_lent (kind s x))) false a).0 b
 
 closes : (s : TypeState) (x : ℕ) → not (is_own (kind s x) || is_lent (kind s x)) || false ≡ false → is_lent (kind s x) ≡ false → breaks_structure (Close x) s ≡ false → (innermost (is_scope_in x) s.entries ≡ true) × (is_held s ≡ false)
 closes s x a b e =
     let h = own_passes (is_own (kind s x)) (not (innermost (is_scope_in x) s.entries) || is_held s) (own_slot s x a b) e in
-    let n = neither (not (innermost (is_scope_in x) s.entries)) (is_held s) h in
-    (not_false _ n.0, n.1)
+    let n = or_parts (not (innermost (is_scope_in x) s.entries)) (is_held s) h in
+    (not-false _ n.0, n.1)
 
 unbinds : (s : TypeState) → breaks_structure Unbind s ≡ false → (innermost is_binding s.entries ≡ true) × (is_held s ≡ false)
-unbinds s e = let n = neither (not (innermost is_binding s.entries)) (is_held s) e in (not_false _ n.0, n.1)
+unbinds s e = let n = or_parts (not (innermost is_binding s.entries)) (is_held s) e in (not-false _ n.0, n.1)
 
 -- if no cause holds, the names fit the instruction
 fits_names : (p : Program) (i : Instr) (s : TypeState) → breaks_structure i s ≡ false → is_illegal p.profile i s ≡ false → has_wrong_slot i s ≡ false → is_strangers i s ≡ false → FitsNames i (names s.entries)
-fits_names p (Fork x g h) s ordered legal right own = has_scope s.entries x (not_false _ (own_passes (is_own (kind s x)) (not (passes is_opened (scope_in s.entries x))) (own_slot s x right own) legal))
+fits_names p (Fork x g h) s ordered legal right own = has_scope s.entries x (not-false _ (own_passes (is_own (kind s x)) (not (passes is_opened (scope_in s.entries x))) (own_slot s x right own) legal))
 fits_names p (Close x) s ordered legal right own = some_entry (is_scope_in x) s.entries (closes s x right own ordered).0
 fits_names p Unbind s ordered legal right own = some_entry is_binding s.entries (unbinds s ordered).0
 fits_names p _ s ordered legal right own = tt
@@ -186,7 +186,7 @@ module _ (p : Program) (f : ℕ) (accepted : IsWellTyped p f) (some_code : 0 < l
     held_less : (ls : List TypedLoop) (a b : ℕ) → a ≤ b + 1 → list_any (λ (l : TypedLoop). nat_le a l.entries) ls ≡ false → Held ls a → Held ls b
     held_less [] a b le e h = tt
     held_less (l ∷ ls) a b le e h =
-        let n = neither (nat_le a l.entries) (list_any (λ (k : TypedLoop). nat_le a k.entries) ls) e in
+        let n = or_parts (nat_le a l.entries) (list_any (λ (k : TypedLoop). nat_le a k.entries) ls) e in
         let lt = leb-false a l.entries n.0 in
         (omega arith, h.1, held_less ls a b le n.1 h.2)
 

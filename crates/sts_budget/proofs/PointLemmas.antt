@@ -19,9 +19,8 @@ use Rattle.sts_budget.specs.Structured.{IsStructured}
 use Rattle.sts_budget.specs.Sums.{Sums}
 use Rattle.sts_budget.proofs.CheckedLemmas.{IsChecked, is_checked}
 use Rattle.sts_budget.proofs.EntryLemmas.{front_all, long}
-use Rattle.sts_budget.proofs.FourKindLemmas.{from_sums, from_steps, comes_names, end_counts}
+use Rattle.sts_budget.proofs.FourKindLemmas.{from_sums, from_steps, comes_names}
 use Rattle.sts_budget.proofs.LaidLemmas.{is_written}
-use Rattle.sts_budget.proofs.ReadyLemmas.{is_ready}
 use Rattle.sts_budget.proofs.TypedLemmas.{fits}
 
 module _ (earlier : List Budgets) (code : List Instr) (round : ℕ → List ℕ) (good : IsStructured (skeleton earlier code) round) (names_at : ℕ → EntryNames) (known : KnowsNames code (skeleton earlier code) round names_at) where
@@ -35,10 +34,6 @@ module _ (earlier : List Budgets) (code : List Instr) (round : ℕ → List ℕ)
   pub steps_come : (pc : ℕ) (loops : Loops) (sum : ℕ) → Sums (skeleton earlier code) (flows Steps earlier code names_at) 0 pc loops sum → (es : List OpenEntry) × Comes (skeleton earlier code) pc loops sum es
   steps_come pc loops sum h = from_steps earlier code round good names_at known 0 pc loops sum h
 
--- the end of a path counts one step
-pub end_counts_one : (earlier : List Budgets) (pc : ℕ) (i : Instr) → shape_of pc i ≡ EndsPath → steps_of earlier i ≡ 1
-end_counts_one earlier pc i e = end_counts earlier pc i e
-
 -- the names of a layout are those of the typestates
 pub names_right : (p : Program) (f : ℕ) (earlier : List Budgets) (l : Layout) → program_fault p.routines ≡ None → f < length p.routines → IsWellTyped p f → IsLaidOut p f l → NamesRight p f (names_in l)
 names_right p f earlier l fine in_program typed laid pc s r = (right pc (fits p f typed c.some_code c.bounds earlier pc s r).1).name s r
@@ -48,7 +43,3 @@ names_right p f earlier l fine in_program typed laid pc s r = (right pc (fits p 
 
     right : (pc : ℕ) → pc < length (routine p f).code → IsRight p f l.heads.items (listed l.lists.items l.which.items) pc
     right pc lt = laid.0.right pc lt (is_written p f typed c.some_code c.bounds (length (routine p f).code) pc (omega arith) lt)
-
--- a layout of a well-typed function fits its code
-pub laid_for : (p : Program) (f : ℕ) (earlier : List Budgets) (code : List Instr) (l : Layout) → program_fault p.routines ≡ None → f < length p.routines → IsWellTyped p f → length earlier ≡ f → code ≡ (routine p f).code → IsLaidOut p f l → IsLaidFor earlier code l
-laid_for p f earlier code l fine in_program typed size is laid = is_ready p f earlier code l fine in_program typed size is laid

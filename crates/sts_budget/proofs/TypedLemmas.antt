@@ -7,6 +7,7 @@ use Rattle.std.proofs.Common.{option_to_list, unwrap_or}
 use Rattle.std.specs.List.{filter, range_with_len}
 use Rattle.std.proofs.lemmas.Bool.{and_parts, cases_eq, cases_lt, leb-true, le-leb, eqb-true}
 use Rattle.std.proofs.lemmas.List.{get_or_past, reverse-append}
+use Rattle.std.proofs.lemmas.Bool.{not-false}
 use Rattle.sts_code.specs.Program.{Program, routine, instr_at}
 use Rattle.sts_code.specs.declared.instr.Instr.{Instr}
 use Rattle.sts_code.specs.declared.instr.Instr.TheVariants.{Times, Next, Ret}
@@ -26,7 +27,7 @@ use Rattle.sts_budget.specs.Layout.{names_after}
 use Rattle.sts_budget.proofs.Sorts.{Sort, is_times as times_sort, is_next as next_sort}
 use Rattle.sts_budget.proofs.Sorts.{is_end as end_sort, goes_on, GoesOn, sort, among_of, among_left}
 use Rattle.sts_budget.proofs.Sorts.{among_right}
-use Rattle.sts_budget.proofs.Allowed.{Allowed, allowed, not_false}
+use Rattle.sts_budget.proofs.Allowed.{Allowed, allowed}
 use Rattle.sts_budget.proofs.Match.{match_is_next, times_is}
 use Rattle.sts_budget.specs.Structured.{IsStructured}
 use Rattle.sts_budget.specs.TypedNames.{names}
@@ -315,7 +316,7 @@ module _ (p : Program) (f : ℕ) (accepted : IsWellTyped p f) (some_code : 0 < l
   ended pc e =
       let k = here pc (inside pc Next e (λ z. (cc))) in
       let a = subst (λ j. Allowed p f pc j k.clear.state k.clear.out) e k.rules in
-      let h = closing (routine p f).code pc k.clear.state.loops (not_false _ a.matched) in
+      let h = closing (routine p f).code pc k.clear.state.loops (not-false _ a.matched) in
       let l = h.0 in
       let around_is : around (routine p f).code pc ≡ l.at ∷ heads h.1.0 = sym k.fit.loops ∙ ap heads h.1.1.0 in
       let stack = stack_at pc l.at (heads h.1.0) around_is in

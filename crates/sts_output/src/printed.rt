@@ -9,7 +9,7 @@ ghost use Rattle.sts_output.specs.Printed as def;
 use std::alloc::{AllocError, Global};
 use std::fmt::Write;
 use sts_asm::AsmError;
-use sts_code::{CodeError, Function, Instr, Program};
+use sts_code::{CodeError, Function, Instr, Program, name_of};
 use sts_list::spell;
 use sts_model::{End, Fault};
 use sts_plain::PlainState;
@@ -72,16 +72,6 @@ pub fn fault_word(fault: Fault) -> &'static str
         Fault::Structure => "Structure",
         Fault::Operand => "Operand",
         Fault::Unbound => "Unbound",
-    }
-}
-
-/// The name of a function of the program.
-fn name_of(program: &Program, function: u32) -> &str
-    ensures { result.now ≡ (routine program.now function).name }
-{
-    match program.functions().get(function as usize) {
-        Some(f) => f.name.as_str(),
-        None => "",
     }
 }
 

@@ -3,7 +3,7 @@ use Rattle.sts_budget.specs.Outcome.{IsFound}
 use Rattle.sts_code.specs.Program.{routine}
 use Rattle.sts_rules.specs.Budget.{AreBudgets, IsBudget, Exceeds}
 use Rattle.sts_verify.proofs.BudgetLemmas.{budgets_more}
-use Rattle.look_refusal.proofs.SameLemmas.{same_budgets}
+use Rattle.sts_rules.proofs.VerdictLemmas.{are_one}
 use Rattle.look_refusal.proofs.earlier.budgets_before.Goals as goal
 
 pub budget-requires-clause-typed : goal.budget-requires-clause-typed
@@ -18,7 +18,7 @@ unreachable-requires c =
     let code = (routine c.args.program.now f).code in
     let sound = c.requires.sound f c.loop-earlier-test.true in
     let found = subst (λ e. IsFound c.as_slice.result.now code (Err e)) c.in-Err-TooMuch.field-0-is (c.in-Err-TooMuch.ensures {u = tt}) in
-    let same = same_budgets c.args.program.now c.loop-earlier.budgets.items sound.earlier (c.loop-earlier.invariant.0 ∙ sym sound.long) c.loop-earlier.invariant.1 sound.right in
+    let same = are_one c.args.program.now c.loop-earlier.budgets.items sound.earlier (c.loop-earlier.invariant.0 ∙ sym sound.long) c.loop-earlier.invariant.1 sound.right in
     sound.within c.in-Err-TooMuch.field-0-0 (subst (λ bs. Exceeds bs code c.in-Err-TooMuch.field-0-0) (c.as_slice.ensures.value ∙ same) found.0)
 
 pub loop-earlier-preserved : goal.loop-earlier-preserved
