@@ -1,45 +1,26 @@
 """What `look explain` prints of the refused texts of docs/VERIFIER.md and docs/PATTERNS.md, below each text.
 
-docs/VERIFIER.md also shows what the plain machine does (tests/each_cause.py worked it out), and the sentences of the other rows
-of this cause: the remedies in checks/look_rows/verdicts.rows, which look_rows.py compares.
+docs/VERIFIER.md also shows what the plain machine does (tests/each_cause.py worked it out). The sentences of other mistakes are in
+checks/look_rows/verdicts.rows, which `look_rows` compares.
 """
 import re
-import sys
 import tempfile
 
 from checks.documents.causes import PAGES, pairs
 from checks.documents.pages import STATUS, read
 from checks.programs import ROOT, kept
-from checks.tests import look_rows
 from checks.tests.each_cause import RUNS, VERIFIER, says
 
-OTHERS = "For other mistakes `look explain` says:"
 
-
-def sentences():
-    """Returns for each cause its other sentences."""
-    found = {}
-    for where, group, _, _, _, _, _, printed in look_rows.tables():
-        if where.startswith("verdicts.rows ") and group.startswith(("refusals: ", "remedies: ")):
-            said = re.fullmatch(r"refused (V\d+) [^\n]*\n([^\n]*)\n", printed.decode())
-            if said and said[1] in RUNS:
-                found.setdefault(said[1], []).append(said[2])
-            elif group.startswith("remedies: "):
-                sys.exit(f"checks shown: {where} wasn't understood")
-    return found
-
-
-def below(code, printed, others):
-    """Returns what VERIFIER.md shows for a cause below what `explain` printed: its run, and the other sentences, each once."""
+def below(code):
+    """Returns what VERIFIER.md shows for a cause below what `explain` printed: its run."""
     short, ends = RUNS[code]
-    rows = [f"- `{it}`\n" for it in dict.fromkeys(others) if it != printed.split("\n")[1]]
-    words = f"\nAfter `{short}` the plain machine prints `{ends.split(' / ')[0]}`.\n"
-    return words + (f"\n{OTHERS}\n\n{''.join(rows)}" if rows else "")
+    return f"\nAfter `{short}` the plain machine prints `{ends.split(' / ')[0]}`.\n"
 
 
 def renewed(look, folder, path):
     """Returns a page with what is printed of its refused texts, and what is compared of these."""
-    page, right, seen, moved, others = read(path), [], set(), 0, sentences()
+    page, right, seen, moved = read(path), [], set(), 0
     for pair in list(pairs(path)):
         status, printed = says(look, "explain", kept(folder, "text", pair.refused))
         right += [
@@ -49,9 +30,9 @@ def renewed(look, folder, path):
         code, shown = pair.heading.split(" ")[0], "\n" + re.sub("^(?=.)", "    ", printed, flags=re.M)
         if path == VERIFIER and code not in seen:
             seen.add(code)
-            shown += below(code, printed, others.get(code, []))
+            shown += below(code)
         at = pair.after + moved
-        old = re.match(rf"(?:\n(?:    .*\n)+)?(?:\nAfter `[^`]*` the plain machine .*\n)?(?:\n{OTHERS}\n\n(?:- .*\n)*)?", page[at:])[0]
+        old = re.match(r"(?:\n(?:    .*\n)+)?(?:\nAfter `[^`]*` the plain machine .*\n)?", page[at:])[0]
         page, moved = page[:at] + shown + page[at + len(old):], moved + len(shown) - len(old)
     return page, right
 
