@@ -2,6 +2,7 @@
 import os
 import re
 import subprocess
+import sys
 import tempfile
 from typing import NamedTuple
 
@@ -13,6 +14,7 @@ REFUSED, MOST_INTERRUPTS = 4, 2
 LEAST_STATES, TASK_STATES = 100, 10_000_000  # of a search
 SAMPLE = 50_000  # random schedules, if the search stops
 EACH = 200_000  # events times tasks, up to which `look view --each` is asked whether each event counts
+BUILDS = {"sts": "verify examples/sum.sts", "look": "explain examples/sum.sts"}  # a call that builds a program
 
 
 class Search(NamedTuple):
@@ -32,7 +34,7 @@ def options(recordings, most):
 
 
 class Programs:
-    """`sts` and `look`: those that are given, or the built ones, or the launchers of the repository.
+    """`sts` and `look`: those that are given, or the built ones, or the ones that were built without proofs.
 
     Except for pictures they are given texts without names, and record/look puts the names in (named.py).
     """
@@ -51,7 +53,12 @@ class Programs:
     @staticmethod
     def found(name):
         built = f"{ROOT}/crates/{name}/out/{name}"
-        return built if os.path.exists(built) else f"{ROOT}/{name}"
+        found = next((it for it in (built, f"{built}.unproved") if os.path.exists(it)), None)
+        if found is None:
+            raise SystemExit(f"record/look: {name} isn't built. To build it: ./{name} {BUILDS[name]}, or without proofs in some minutes: ./{name} --unproved {BUILDS[name]}")
+        if found != built and sys.stderr.isatty():
+            print(f"record/look: {name} was built without its proofs", file=sys.stderr)
+        return found
 
     @staticmethod
     def says(*words):
