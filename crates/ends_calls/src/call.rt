@@ -14,7 +14,8 @@ pub struct Call {
     pub environment: Vec<Bound>,
 }
 
-/// An end of which a joiner may be told, and the fewest interrupts that it takes.
+/// An end of a task that comes before any cancel of its scope, and the fewest interrupts that it
+/// takes.
 #[derive(Clone, Copy, PartialEq, Eq)]
 pub struct Way {
     pub end: End,

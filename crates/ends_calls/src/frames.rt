@@ -127,7 +127,7 @@ pub fn run_frame(frame: &mut Frame, program: &Program, call: &Call) {
     }
 }
 
-/// The bindings that a subtask inherits: those of the task, and those that it inherits itself.
+/// The bindings that a subtask inherits: the task's own, and the inherited ones.
 pub fn environment(alloc: Global, frame: &Frame, call: &Call) -> Result<Vec<Bound>, AllocError> {
     let mut bindings = Vec::new(alloc);
     for place in 0..frame.entries.len() {

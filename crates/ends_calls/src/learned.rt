@@ -8,8 +8,7 @@ use crate::table::Table;
 use std::alloc::{AllocError, Global};
 use sts_model::End;
 
-/// A scope of which it is known that its joiner has cancelled it, and the end that did it, if one
-/// end alone can.
+/// A scope that its joiner has cancelled, and the end that did it, if one end alone can.
 #[derive(Drop)]
 pub struct Cancelled {
     pub end: Option<End>,
@@ -33,7 +32,7 @@ pub fn may_go_on(table: &Table, scope: &Seen) -> bool {
         && sure_triggers(table, scope) < limit(scope.facts.joiner)
 }
 
-/// The same scope, of which the owner knows that all subtasks ended and that it is not cancelled.
+/// The same scope after all its subtasks ended without a cancel, as its owner knows.
 pub fn heard(alloc: Global, scope: &Seen, facts: Facts) -> Result<Seen, AllocError> {
     Ok(Seen {
         facts: Facts {

@@ -97,14 +97,14 @@ impl Own {
         })
     }
 
-    /// Are the two the same but for the interrupts that they took?
+    /// Do the two differ at most by the interrupts that they took?
     pub fn is_same(&self, other: &Own) -> bool {
         self.frame.same(&other.frame)
             && self.held == other.held
             && are_same_scopes(self.scopes.as_slice(), other.scopes.as_slice())
     }
 
-    /// A number that two states share if they are the same but for the interrupts that they took.
+    /// A number that two states share if they differ at most by the interrupts that they took.
     pub fn hash(&self) -> u64 {
         let mut hash = mixed_held(mixed_frame(&self.frame), &self.held);
         for scope in self.scopes.as_slice() {

@@ -43,7 +43,7 @@ pub struct Part {
     pub is_early: bool,
 }
 
-/// Neighbours of which the owner knows the same.
+/// Equal neighbours.
 #[derive(Clone, Copy, PartialEq, Eq)]
 pub struct Run {
     pub part: Part,
@@ -131,7 +131,7 @@ pub fn all_heard(alloc: Global, runs: &[Run]) -> Result<Vec<Run>, AllocError> {
     Ok(after)
 }
 
-/// The parts, of which only those that ended may have been the first that failed.
+/// The parts, after it is known that no open one was the first that failed.
 pub fn none_open_early(alloc: Global, runs: &[Run]) -> Result<Vec<Run>, AllocError> {
     let mut after = Vec::new(alloc);
     for run in runs {

@@ -67,7 +67,7 @@ impl Needs {
     }
 }
 
-/// What a part adds that came to this end, or is unavailable.
+/// The count of one part that came to this end, or is unavailable.
 fn contribution(joiner: Joiner, needs: Needs, end: Option<End>) -> Count {
     match end {
         None => Count {
@@ -217,8 +217,8 @@ fn cheaper(ours: &Sum, theirs: &Sum) -> Sum {
     }
 }
 
-/// Two lists of sums in rising order of their counts as one, each count once. (Totals that wrap break
-/// the order. Then a count may be there twice.)
+/// Two lists of sums in rising order of their counts as one, each count once. (Totals that wrap
+/// break the order. Then a count may be there twice.)
 fn merged(alloc: Global, ours: &[Sum], theirs: &[Sum]) -> Result<Vec<Sum>, AllocError> {
     let mut after = Vec::new(alloc);
     let mut i: usize = 0;
@@ -368,8 +368,8 @@ fn sums(
     Ok(found)
 }
 
-/// The counts that fit a scope, if `left` interrupts are left, with the needed ones. Each comes with
-/// the fewest interrupts for it.
+/// The counts that fit a scope, if `left` interrupts are left, with the needed ones. Each comes
+/// with the fewest interrupts for it.
 pub fn fitting(
     alloc: Global,
     table: &Table,
@@ -457,7 +457,8 @@ fn best(facts: &Facts, sums: &[Sum]) -> Option<u32> {
     found
 }
 
-/// A pick that fits for the fewest interrupts: the way of each part, or `None` if it is unavailable.
+/// A pick that fits for the fewest interrupts: the way of each part, or `None` if it is
+/// unavailable.
 pub fn pick(
     alloc: Global,
     table: &Table,

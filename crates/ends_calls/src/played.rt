@@ -20,7 +20,7 @@ pub struct PlayedScope {
     pub births: Vec<u32>,
     /// Which of them were played.
     pub played: Vec<bool>,
-    /// The way of each subtask of which the joiner is told.
+    /// The way of each subtask that ends before a cancel.
     pub ways: Vec<Option<u32>>,
     /// The subtask that fails first, if that matters.
     pub first: Option<u32>,

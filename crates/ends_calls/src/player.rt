@@ -1,8 +1,8 @@
 //! Makes the events that lead to an end.
 //!
-//! The subtasks of a scope do nothing until their owner looks. Then those whose end it sees run from
-//! their beginning to their end, one after the other. The others run once their scope is cancelled
-//! and its `close` waits for them.
+//! The subtasks of a scope do nothing until their owner looks. Then those whose end it sees run
+//! from their beginning to their end, one after the other. The others run once their scope is
+//! cancelled and its `close` waits for them.
 
 use crate::frames::is_at_once;
 use crate::own::Held;

@@ -98,7 +98,7 @@ impl Exploring {
         }
     }
 
-    /// The place of a state that is the same but for the interrupts that it took.
+    /// The place of a state that differs at most by the interrupts that it took.
     fn find(&self, own: &Own, hash: u64) -> Option<usize> {
         let mut place = self.index.first(hash);
         for _ in 0..self.explored.nodes.len() {

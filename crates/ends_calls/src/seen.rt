@@ -135,7 +135,7 @@ impl Seen {
         self.with(alloc, self.facts)
     }
 
-    /// Does the owner know the same of both?
+    /// Are the two the same?
     pub fn is_same(&self, other: &Seen) -> bool {
         self.facts == other.facts && self.runs.as_slice() == other.runs.as_slice()
     }
