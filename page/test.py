@@ -83,6 +83,12 @@ RACE = (
 MANY_STATES = "func kid 0\npush 1\ninterrupted\nadd\nret\nend\nfunc main 0\nopen s0 all\n" + "fork s0 kid _\n" * 10 + (
     "join s0 bad - intr\nclose s0\nret\nbad:\nclose s0\nfail\nintr:\npush 0\nclose s0\nfail\nend\n"
 )
+# (each subtask takes four steps. A search by calls has two states of it, and 14 of `main`: at `open`, ten times at `fork`, at
+# `join`, `close` and `ret`)
+MANY_ENDS = (
+    "1 after 54 events: success 10\n"
+    "a search by calls of 16 states found no other end; that there is none is not proved\n"
+)
 PATIENCE = 10  # seconds that a search of the page may take at most
 # A text whose longest path ends in line 10.
 TOO_LONG = "func main 0\npush 499\ntimes 499\npush 2001\ntimes 2001\nnext\nnext\npush 0\npush 0\nret\nend\n"
@@ -342,10 +348,10 @@ def searches_stopped(page, programs):
     yield "a whole search needs no more states", page.chromium.value(more) is False
     begun = time.monotonic()
     page.write("text", MANY_STATES)
-    yield "a search stops", page.ends() == "stopped at 1000 states, not all schedules\n"
+    yield "a search stops", page.ends() == f"{MANY_ENDS}stopped at 1000 states, not all schedules\n"
     yield "more states are offered", page.chromium.value(more) is True and page.text_of("more") == "Search 20000 states"
     page.click("#more")
-    yield "it stops later", page.ends() == "stopped at 20000 states, not all schedules\n"
+    yield "it stops later", page.ends() == f"{MANY_ENDS}stopped at 20000 states, not all schedules\n"
     yield "both are done in time", time.monotonic() - begun < PATIENCE
     yield "no more states are offered", page.chromium.value(more) is False
     page.write("text", RACE)

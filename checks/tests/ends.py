@@ -15,8 +15,10 @@ scopes that are misused. Each is asked with expiries and without, and with an in
 - Random schedules find each end of some races, and of the programs in checks/sampled, which have deadlines. Another seed gives
   another listing, and the same seed the same one. A schedule may have 100,000 events, and no more (`schedules_of_look`).
 - Searches of some larger programs keep as many states as are counted by hand or by all_ends.py (`searches_of_look`).
-A program with more than MOST_STATES states is left out. With a PART, which is `schedules_of_look` or `searches_of_look`, only
-that is tried. The last line is `N passed, M failed`, of comparisons.
+- A search by calls finds the ends of programs with 50 subtasks, worked out by hand, and those that the search over all schedules
+  finds of drawn programs (`calls_of_look`; with `--count 600`, of some 3,000 questions).
+A program with more than MOST_STATES states is left out. With a PART, which is `schedules_of_look`, `searches_of_look` or
+`calls_of_look`, only that is tried. The last line is `N passed, M failed`, of comparisons.
 """
 import argparse
 import concurrent.futures
@@ -30,7 +32,7 @@ import tempfile
 
 from checks import notation, programs
 from checks.documents import pages
-from checks.models import all_ends, stack_code
+from checks.models import all_ends, seeing, stack_code
 from checks.programs import CHECKS, ROOT
 from checks.tally import Tally, parts
 from checks.tests.places import place_words
@@ -294,7 +296,66 @@ def searches_of_look(look, folder):
         yield f"{name}: {printed}", (status, found, printed[-1:]) == (0, [end], [f"{states} states, all schedules"])
 
 
-PARTS = {it.__name__: it for it in (schedules_of_look, searches_of_look)}
+# A subtask that succeeds with its argument, or fails with 7 more if its own scope expires.
+FLAKY = "func work 1 / load 0 / ret / end / func kid 1 / open s1 all timed / load 0 / fork s1 work _ / join s1 bad late intr / pop / " \
+    "total s1 / close s1 / ret / bad: / close s1 / fail / late: / close s1 / load 0 / push 7 / add / fail / intr: / close s1 / load 0 / " \
+    "push 8 / add / fail / end / "
+
+
+def flaky(joiner, count):
+    """Returns a program that forks so many of these subtasks, and ends with how many successes there were. `any` gives a value."""
+    fails = joiner in ("all", "any", "awaitok")
+    gives = "" if joiner in ("any", "awaitok", "awaitall") else "pop / "
+    return lines_of(f"{FLAKY}func main 0 / open s1 {joiner} / push {count} / times {count} / load 5 / push 1 / add / store 5 / load 5 / "
+                    f"fork s1 kid _ / next / join s1 {'bad' if fails else '-'} - intr / {gives}{'' if joiner == 'any' else 'tally s1 S / '}"
+                    f"close s1 / ret / {'bad: / close s1 / fail / ' if fails else ''}intr: / push 0 / close s1 / fail / end")
+
+
+def ends_of_flaky(joiner, count):
+    """Returns the ends of this program."""
+    each, late = range(1, count + 1), [f"failed {it + 7}" for it in range(1, count + 1)]
+    successes = {"all": [count], "awaitok": [count], "any": each, "awaitall": range(count + 1), "until failed 3": range(count + 1),
+                 "until success 3": range(4)}[joiner]
+    return [f"success {it}" for it in successes] + (late if joiner in ("all", "any", "awaitok") else [])
+
+
+def by_calls(look, text, words, most):
+    """Returns the ends, whether a search by calls found no other, and the status."""
+    status, printed = says(look, "ends", text, *words, "--most", str(most))
+    found = [it[3] for it in map(LINE.fullmatch, printed) if it]
+    return found, any(it.startswith("a search by calls") for it in printed), status
+
+
+def calls_of_look(look, folder, count=30, seed="1"):
+    """Yields whether a search by calls finds the ends of programs with many subtasks, and those of drawn programs."""
+    text = os.path.join(folder, "calls")
+    for joiner in ("all", "any", "awaitok", "awaitall", "until failed 3", "until success 3"):
+        with open(text, "w") as file:
+            file.write(flaky(joiner, 50))
+        found, is_closed, status = by_calls(look, text, [], 2000)
+        expected = ends_of_flaky(joiner, 50)
+        yield f"{joiner} of 50: {found}", (len(found), set(found), is_closed, status) == (len(expected), set(expected), True, 5)
+    compared = 0
+    for number in range(count):
+        for kind in (seeing.stress, seeing.within, seeing.failing):
+            with open(text, "w") as file:
+                file.write(kind(random.Random(f"{seed} {kind.__name__} {number}")))
+            for expiries, interrupts in (*QUESTIONS, (True, 2)):
+                words = options(expiries, interrupts)
+                status, printed = says(look, "ends", text, *words, "--most", str(MOST_STATES))
+                if status != 0 or not printed[-1].endswith(" states, all schedules") or any(it.startswith("refused") for it in printed):
+                    continue  # (it is refused, or has too many states)
+                expected = [it[3] for it in map(LINE.fullmatch, printed) if it]
+                found, is_closed, _ = by_calls(look, text, words, int(printed[-1].split()[0]) - 1)
+                if any(it.startswith("fault") for it in expected) or not is_closed:
+                    yield f"{kind.__name__} {number}, {words}: {found}", set(found) <= set(expected)
+                    continue
+                compared += 1
+                yield f"{kind.__name__} {number}, {words}: {found}", sorted(found) == sorted(expected)
+    yield f"{compared} programs were compared", compared >= count
+
+
+PARTS = {it.__name__: it for it in (schedules_of_look, searches_of_look, calls_of_look)}
 
 
 def rows():
@@ -331,9 +392,10 @@ def by_compilers(look):
     return [look, other] if look == os.path.realpath(programs.proved("look")) or os.path.exists(other) else [look]
 
 
-def tried_parts(look, folder, names, tally):
+def tried_parts(asked, folder, names, tally):
     for part in names:
-        for name, is_so in PARTS[part](look, folder):
+        more = (asked.count, asked.seed) if part == "calls_of_look" else ()
+        for name, is_so in PARTS[part](asked.look, folder, *more):
             tally.holds(f"{part}: {name}", is_so)
 
 
@@ -356,11 +418,11 @@ def main():
     tally, left_out = Tally(), 0
     if asked.parts:
         with tempfile.TemporaryDirectory() as folder:
-            tried_parts(asked.look, folder, parts(asked.parts, PARTS), tally)
+            tried_parts(asked, folder, parts(asked.parts, PARTS), tally)
         return tally.end()
     with concurrent.futures.ProcessPoolExecutor() as pool, tempfile.TemporaryDirectory() as folder:
         work = [pool.submit(compare, asked, name, source) for name, source in texts(asked)]
-        tried_parts(asked.look, folder, PARTS, tally)
+        tried_parts(asked, folder, PARTS, tally)
         for look in by_compilers(asked.look):
             tally_of(tally, *wrong_rows(asked, look))
         for it in work:

@@ -101,11 +101,14 @@ ends_more g found f all here e c = by (Contains-append_cases found (f ∷ []) e 
 
 -- ---- the two clauses
 
-pub sound : (g : Setting) (first : Config) (found : List Found) → first ≡ start g → AreShown g first found → AreEnds g found
-sound g first found begins all f c =
-    let here = all f c in
+-- what a trace from the start shows is an end
+pub end_of_trace : (g : Setting) (first : Config) (f : Found) → first ≡ start g → IsShownBy g first f → IsEndOf g f
+end_of_trace g first f begins here =
     let way : IsWay (next g) (can g) (start g) f.trace.items here.config = subst (λ x. IsWay (next g) (can g) x f.trace.items here.config) begins here.way in
     end_of_way g here.config f way here.shows here.ends
+
+pub sound : (g : Setting) (first : Config) (found : List Found) → first ≡ start g → AreShown g first found → AreEnds g found
+sound g first found begins all f c = end_of_trace g first f begins (all f c)
 
 -- the states of a search are those of runs
 runs_below : (g : Setting) (states : List Config) (origins : List Origin) → IsTraced (next g) (tries g) states origins → ((d : Config) → slice_index_or states 0 d ≡ start g) → (n k : ℕ) → k < n → k < length states → (d : Config)

@@ -2,7 +2,7 @@
 
 ghost use Rattle.std.specs.Prelude.{◌≡◌, true, IfOk, IfSome};
 ghost use Rattle.ends_plain.specs.Configs.{can};
-ghost use Rattle.ends_plain.specs.Listed.{IsShownBy};
+ghost use Rattle.ends_plain.specs.Listed.{IsEndOf, IsShownBy};
 
 use crate::config::{Config, Found, Setting};
 use crate::ends::is_end_at;
@@ -14,7 +14,7 @@ use sts_model::Event;
 use sts_plain::can_step;
 
 /// Can the event come?
-fn can_come(config: &Config, setting: &Setting, event: Event) -> bool
+pub fn can_come(config: &Config, setting: &Setting, event: Event) -> bool
     ensures { result ≡ can setting.now config.now event }
 {
     match config.position.world() {
@@ -61,6 +61,22 @@ fn walked(
         return Ok(Some(Found { end, trace }));
     }
     Ok(None)
+}
+
+/// The end after these events, if each of them can come and they lead to an end.
+///
+/// # Errors
+///
+/// There is no memory.
+pub fn end_after(
+    alloc: Global,
+    setting: &Setting,
+    events: &[Event],
+) -> Result<Option<Found>, AllocError>
+    ensures { IfOk result (λ found. IfSome found (IsEndOf setting.now)) }
+{
+    let first = Config::start(alloc, setting)?;
+    walked(alloc, setting, &first, events)
 }
 
 /// Is the event an own step?

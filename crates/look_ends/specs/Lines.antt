@@ -89,6 +89,13 @@ states_line whole states =
     if whole then decimal states ++ codes " states, all schedules\n"
     else codes "stopped at " ++ decimal states ++ codes " states, not all schedules\n"
 
+-- the states of a search by calls that found no other end. It is not proved that there is none
+abbrev pub by_calls_line : Option ℕ → List ℕ
+by_calls_line None = []
+by_calls_line (Some states) =
+    codes "a search by calls of " ++ decimal states
+    ++ codes " states found no other end; that there is none is not proved\n"
+
 -- schedules that came to no end
 abbrev pub unfinished_line : ℕ → List ℕ
 unfinished_line unfinished =

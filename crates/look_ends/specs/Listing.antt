@@ -16,7 +16,7 @@ use Rattle.ends_plain.specs.Listed.{AreEnds, ends_of}
 use Rattle.ends_plain.specs.declared.config.Found.{Found}
 use Rattle.ends_plain.specs.declared.config.Setting.{Setting}
 use Rattle.look_refusal.specs.Output.{fault_output}
-use Rattle.look_ends.specs.Lines.{found_at, found_lines, has_number, no_number_line, refused_line}
+use Rattle.look_ends.specs.Lines.{by_calls_line, found_at, found_lines, has_number, no_number_line, refused_line}
 use Rattle.look_ends.specs.Lines.{sampled_lines, schedules_line, states_line, unfinished_line}
 use Rattle.look_ends.specs.declared.wanted.Manner.{Manner}
 use Rattle.look_ends.specs.declared.wanted.Manner.TheVariants as manner
@@ -47,11 +47,12 @@ abbrev pub status_of : Bool → Option ℕ → List Found → ℕ
 status_of whole number found = if whole && has_number number found then 0 else 5
 
 -- a line for each end, then what is to be said of all of them
-abbrev pub searched_listing : Setting → Outline → Bool → Option ℕ → List Found → ℕ → Bool → Listing
-searched_listing g o is_refused number found states whole = record {
+abbrev pub searched_listing : Setting → Outline → Bool → Option ℕ → List Found → ℕ → Bool
+    → Option ℕ → Listing
+searched_listing g o is_refused number found states whole by_calls = record {
   output = record {
     bytes = found_lines g.program o found 0 ++ (refused_line g is_refused whole found
-        ++ (states_line whole states ++ no_number_line number found));
+        ++ (by_calls_line by_calls ++ (states_line whole states ++ no_number_line number found)));
     status = status_of whole number found;
   };
   trace = trace_of number found;
@@ -88,16 +89,18 @@ IsVerdict p false = IsAccepted p
 
 -- a listing of ends that were searched for: each of them is one, after the trace that comes with
 -- it. If it says that it is of all schedules, each end that a list of allowed events leads to is
--- there, however long the list is.
+-- there, however long the list is. Nothing is known of the states of a search by calls, which found
+-- no other end.
 pub record IsSearch (g : Setting) (o : Outline) (number : Option ℕ) (r : Listing) : Type 0 where
   pub found : List Found
   pub states : ℕ
   pub whole : Bool
+  pub by_calls : Option ℕ
   pub is_refused : Bool
   pub sound : AreEnds g found
   pub complete : whole ≡ true → AreAll g.program g.expiries g.interrupts (ends_of found)
   pub verdict : IsVerdict g.program is_refused
-  pub printed : r ≡ searched_listing g o is_refused number found states whole
+  pub printed : r ≡ searched_listing g o is_refused number found states whole by_calls
 
 -- a listing of the ends of random schedules: each of them is one, after the trace that comes with
 -- it

@@ -103,6 +103,23 @@ pub(crate) fn say_states(
     }
 }
 
+/// How many states a search by calls has, if it found no other end.
+pub(crate) fn say_by_calls(
+    alloc: Global,
+    out: &mut Vec<u8>,
+    by_calls: Option<usize>,
+) -> Result<(), AllocError>
+    ensures { OnOk result (out.new.items ≡ out.old.items ++ def.by_calls_line by_calls) }
+{
+    let Some(states) = by_calls else {
+        return Ok(());
+    };
+    let line = format!(in alloc;
+        "a search by calls of {states} states found no other end; that there is none is not proved\n"
+    )?;
+    say(out, line.as_str())
+}
+
 /// How many schedules came to no end, if any.
 pub(crate) fn say_unfinished(
     alloc: Global,

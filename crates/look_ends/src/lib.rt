@@ -2,6 +2,7 @@
 #![tactic(auto)]
 
 mod below;
+mod by_calls;
 mod exploring;
 mod lines;
 mod listing;

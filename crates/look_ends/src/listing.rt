@@ -6,14 +6,16 @@ ghost use Rattle.look_refusal.specs.Stops.{Gives};
 ghost use Rattle.look_ends.specs.Listing as def;
 
 use crate::below::{
-    found_at, has_number, say_no_number, say_refused, say_schedules, say_states, say_unfinished,
+    found_at, has_number, say_by_calls, say_no_number, say_refused, say_schedules, say_states,
+    say_unfinished,
 };
+use crate::by_calls::{Answer, answered};
 use crate::exploring::explored;
 use crate::lines::{say_all, say_shares};
 use crate::progress::Progress;
 use crate::verdict::{Judged, verdict};
 use crate::wanted::{EndsOptions, Manner};
-use ends_plain::config::{EndsFound, Found, Setting};
+use ends_plain::config::{Found, Setting};
 use ends_plain::sample::{Sample, Sampling, sample_ends};
 use look_refusal::{ExplainError, Explanation, Told, outline_of, program_of};
 use std::alloc::{AllocError, Global};
@@ -70,10 +72,10 @@ fn searched(
     setting: &Setting,
     is_refused: bool,
     number: Option<u32>,
-    ends: &EndsFound,
+    ends: &Answer,
 ) -> Result<Listing, AllocError>
     ensures { IfOk result (λ l. l ≡ def.searched_listing setting.now outline.now is_refused number
-        ends.now.found.items ends.now.states ends.now.whole) }
+        ends.now.found.items ends.now.states ends.now.whole ends.now.by_calls) }
 {
     let told = Told {
         program: &setting.program,
@@ -83,6 +85,7 @@ fn searched(
     let mut bytes = Vec::new(alloc);
     say_all(alloc, &mut bytes, told, found)?;
     say_refused(alloc, &mut bytes, setting, is_refused, ends.whole, found)?;
+    say_by_calls(alloc, &mut bytes, ends.by_calls)?;
     say_states(alloc, &mut bytes, ends.whole, ends.states)?;
     say_no_number(alloc, &mut bytes, number, found)?;
     let status = if ends.whole && has_number(number, found) {
@@ -140,14 +143,9 @@ fn of_all<P: Progress>(
 {
     let exploration = explored(alloc, setting, most, progress)?;
     let ends = exploration.ends(alloc)?;
-    searched(
-        alloc,
-        outline,
-        exploration.setting(),
-        is_refused,
-        number,
-        &ends,
-    )
+    let asked = exploration.setting();
+    let all = answered(alloc, asked, is_refused, most, ends)?;
+    searched(alloc, outline, asked, is_refused, number, &all)
 }
 
 /// The listing of the ends of random schedules of a program.

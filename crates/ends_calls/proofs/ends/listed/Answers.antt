@@ -1,0 +1,10 @@
+use Rattle.ends_calls.proofs.ends.listed.Goals.{in-Some+in_ok-found-in-Some, in-None}
+use Rattle.ends_calls.proofs.ends.listed.Goals as goal
+
+pub loop-way-preserved : goal.loop-way-preserved
+loop-way-preserved c =
+    let g = c.args.setting.now in
+    elim c.match-branch-2.branch [
+      | in-Some+in_ok-found-in-Some w ↦ rw w.found-is (w.in_ok-found-in-Some.ensures g c.loop-way.invariant (rw w.in-Some.is at c.in_ok-one.ensures))
+      | in-None w ↦ rw w.found-is c.loop-way.invariant
+    ]

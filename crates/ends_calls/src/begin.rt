@@ -1,0 +1,43 @@
+//! The first state of a call.
+
+use crate::call::{Call, number};
+use crate::own::{Held, Own};
+use std::alloc::{AllocError, Global};
+use sts_code::Program;
+use sts_frames::root_frame;
+
+/// The call of the root task.
+pub fn root_call(alloc: Global, program: &Program) -> Call {
+    Call {
+        function: number(program.functions().len().saturating_sub(1)),
+        arguments: Vec::new(alloc),
+        environment: Vec::new(alloc),
+    }
+}
+
+/// The locals of a task that has just been forked.
+fn first_locals(arguments: &[i64]) -> [i64; 16] {
+    let mut locals = [0i64; 16];
+    for (place, value) in arguments.iter().enumerate() {
+        if place < 16 {
+            locals[place] = *value;
+        }
+    }
+    locals
+}
+
+/// The state in which the task of a call begins. The root task has no parent scope.
+pub fn first_state(alloc: Global, call: &Call, is_root: bool) -> Own {
+    let mut frame = root_frame(call.function);
+    frame.locals = first_locals(call.arguments.as_slice());
+    let mut held = [Held::Empty; 16];
+    if !is_root {
+        held[0] = Held::Lent;
+    }
+    Own {
+        frame,
+        held,
+        scopes: Vec::new(alloc),
+        used: 0,
+    }
+}

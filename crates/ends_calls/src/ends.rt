@@ -1,0 +1,156 @@
+//! The ends that a search by calls finds.
+
+ghost use Rattle.std.specs.Prelude.{IfOk, IfSome};
+ghost use Rattle.ends_plain.specs.Listed.{AreEnds, IsEndOf};
+ghost use Rattle.ends_plain.specs.declared.config.Setting.{Setting};
+
+use crate::call::number;
+use crate::player::Player;
+use crate::search::{Search, explored};
+use crate::table::Explored;
+use ends_plain::config::{Found, Setting};
+use ends_plain::shorter::end_after;
+use std::alloc::{AllocError, Global};
+use sts_model::Event;
+use sts_plain::PlainState;
+
+/// Traces are made as long as those before have no more than this number of events together.
+const MOST_EVENTS: usize = 16_000_000;
+
+/// Ends that were found by calls, each once.
+#[derive(Drop)]
+pub struct FoundByCalls {
+    pub found: Vec<Found>,
+    /// The number of states that the search found.
+    pub states: usize,
+    /// Was each state expanded, and has each end that the search found a trace? Then the ends that
+    /// were known are among those that it found, too.
+    pub is_closed: bool,
+}
+
+/// The events that lead to the end of one of the root's ways, if the run can be made.
+fn events_to(
+    alloc: Global,
+    setting: &Setting,
+    search: &Search,
+    root: &Explored,
+    way: u32,
+) -> Result<Option<Vec<Event>>, AllocError> {
+    let player = Player::begin(alloc, setting, &search.table, root)?;
+    player.play(alloc, way)
+}
+
+/// The end of one of the root's ways, after a trace of it.
+fn traced(
+    alloc: Global,
+    setting: &Setting,
+    search: &Search,
+    root: &Explored,
+    way: u32,
+) -> Result<Option<Found>, AllocError>
+    ensures { IfOk result (λ found. IfSome found (IsEndOf setting.now)) }
+{
+    match events_to(alloc, setting, search, root, way)? {
+        Some(events) => end_after(alloc, setting, events.as_slice()),
+        None => Ok(None),
+    }
+}
+
+/// Is this the end of one of the root's ways?
+fn is_end_of(root: &Explored, way: usize, end: PlainState) -> bool {
+    match root.ways.get(way) {
+        Some(way) => end == PlainState::Ended(way.end),
+        None => false,
+    }
+}
+
+/// Is the end among these?
+fn is_listed(found: &[Found], end: PlainState) -> bool {
+    found.iter().any(|one| one.end == end)
+}
+
+/// Is the end that of one of the root's ways?
+fn is_way(root: &Explored, end: PlainState) -> bool {
+    root.ways
+        .iter()
+        .any(|way| end == PlainState::Ended(way.end))
+}
+
+/// Are these ends those of the root's ways?
+fn are_ways(root: &Explored, found: &[Found]) -> bool {
+    found.iter().all(|one| is_way(root, one.end))
+}
+
+/// The ends with one more, unless it is there.
+fn with_end(found: Vec<Found>, one: Found) -> Result<Vec<Found>, AllocError>
+    ensures { (g : Setting) → AreEnds g found.items → IsEndOf g one
+        → IfOk result (λ all. AreEnds g all.items) }
+{
+    if is_listed(found.as_slice(), one.end) {
+        return Ok(found);
+    }
+    let mut found = found;
+    found.push(one)?;
+    Ok(found)
+}
+
+/// The ends of the root's ways, after those that are known.
+fn listed(
+    alloc: Global,
+    setting: &Setting,
+    search: &Search,
+    root: &Explored,
+    known: Vec<Found>,
+) -> Result<FoundByCalls, AllocError>
+    requires { AreEnds setting.now known.items }
+    ensures { IfOk result (λ r. AreEnds setting.now r.found.items) }
+{
+    let mut is_closed = search.is_closed() && are_ways(root, known.as_slice());
+    let mut found = known;
+    let mut events: usize = 0;
+    for way in 0..root.ways.len() {
+        if events > MOST_EVENTS {
+            is_closed = false;
+            break;
+        }
+        match traced(alloc, setting, search, root, number(way))? {
+            Some(one) => {
+                is_closed = is_closed && is_end_of(root, way, one.end);
+                events = events.saturating_add(one.trace.len());
+                found = with_end(found, one)?;
+            }
+            None => is_closed = false,
+        }
+    }
+    Ok(FoundByCalls {
+        found,
+        states: search.states,
+        is_closed,
+    })
+}
+
+/// Ends of an accepted program, found call by call, after those that are known. The search stops
+/// once it has more than `most` states.
+///
+/// # Errors
+///
+/// There is no memory.
+pub fn ends_by_calls(
+    alloc: Global,
+    setting: &Setting,
+    most: usize,
+    known: Vec<Found>,
+) -> Result<FoundByCalls, AllocError>
+    requires { AreEnds setting.now known.items }
+    ensures { IfOk result (λ r. AreEnds setting.now r.found.items) }
+{
+    let search = explored(alloc, setting, most)?;
+    match search.root() {
+        Some(root) => listed(alloc, setting, &search, root, known),
+        None => Ok(FoundByCalls {
+            found: known,
+            states: search.states,
+            is_closed: false,
+        }),
+    }
+}

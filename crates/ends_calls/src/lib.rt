@@ -1,0 +1,19 @@
+//! Ends of an accepted program, found call by call.
+#![tactic(auto)]
+
+pub mod begin;
+pub mod call;
+pub mod ends;
+pub mod frames;
+pub mod joiners;
+pub mod joins;
+pub mod learned;
+pub mod own;
+pub mod part;
+pub mod pick;
+pub mod played;
+pub mod player;
+pub mod search;
+pub mod seen;
+pub mod steps;
+pub mod table;

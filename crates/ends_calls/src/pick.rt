@@ -1,0 +1,485 @@
+//! What the subtasks of a scope may have come to together.
+
+use crate::call::{Way, number};
+use crate::joiners::{is_success, is_trigger, limit};
+use crate::part::{Part, Run};
+use crate::seen::{Asked, Facts, Knowledge, Seen};
+use crate::table::Table;
+use std::alloc::{AllocError, Global};
+use sts_code::Joiner;
+use sts_model::End;
+
+/// How many ends count towards a cancel, and the counts that are needed; the others are 0.
+#[derive(Clone, Copy, PartialEq, Eq, PartialOrd, Ord)]
+pub struct Count {
+    pub triggers: u32,
+    pub successes: u32,
+    pub failures: u32,
+    pub unavailable: u32,
+    pub total: i64,
+}
+
+/// Which counts are needed.
+#[derive(Clone, Copy)]
+pub struct Needs {
+    pub successes: bool,
+    pub failures: bool,
+    pub unavailable: bool,
+    pub total: bool,
+}
+
+/// A count that some picks come to, and the fewest interrupts for it.
+#[derive(Clone, Copy)]
+pub struct Sum {
+    pub count: Count,
+    pub cost: u32,
+    /// The place of the sum without the last part.
+    before: u32,
+    /// The way of the last part, or `None` if it is unavailable.
+    way: Option<u32>,
+}
+
+/// What the sums may not exceed.
+#[derive(Clone, Copy)]
+struct Bounds {
+    triggers: u32,
+    cost: u32,
+    asked: Asked,
+}
+
+const NOTHING: Count = Count {
+    triggers: 0,
+    successes: 0,
+    failures: 0,
+    unavailable: 0,
+    total: 0,
+};
+
+impl Needs {
+    /// The counts that the owner has asked for.
+    pub fn asked(asked: Asked) -> Needs {
+        Needs {
+            successes: asked.successes.is_some(),
+            failures: asked.failures.is_some(),
+            unavailable: asked.unavailable.is_some(),
+            total: asked.total.is_some(),
+        }
+    }
+}
+
+/// The count of one part that came to this end, or is unavailable.
+fn contribution(joiner: Joiner, needs: Needs, end: Option<End>) -> Count {
+    match end {
+        None => Count {
+            unavailable: u32::from(needs.unavailable),
+            ..NOTHING
+        },
+        Some(end) => Count {
+            triggers: u32::from(is_trigger(joiner, end)),
+            successes: u32::from(needs.successes && is_success(end)),
+            failures: u32::from(needs.failures && !is_success(end)),
+            unavailable: 0,
+            total: match end {
+                End::Success(value) if needs.total => value,
+                _ => 0,
+            },
+        },
+    }
+}
+
+fn added(a: Count, b: Count) -> Count {
+    Count {
+        triggers: a.triggers.saturating_add(b.triggers),
+        successes: a.successes.saturating_add(b.successes),
+        failures: a.failures.saturating_add(b.failures),
+        unavailable: a.unavailable.saturating_add(b.unavailable),
+        total: a.total.wrapping_add(b.total),
+    }
+}
+
+fn is_at_most(count: u32, most: Option<u32>) -> bool {
+    match most {
+        None => true,
+        Some(most) => count <= most,
+    }
+}
+
+impl Bounds {
+    fn admit(&self, sum: &Sum) -> bool {
+        sum.cost <= self.cost
+            && sum.count.triggers <= self.triggers
+            && is_at_most(sum.count.successes, self.asked.successes)
+            && is_at_most(sum.count.failures, self.asked.failures)
+            && is_at_most(sum.count.unavailable, self.asked.unavailable)
+    }
+}
+
+/// The place of a count.
+fn place_of(sums: &[Sum], count: Count) -> Option<usize> {
+    sums.iter().position(|one| one.count == count)
+}
+
+/// Adds a choice, unless its count is there for no more interrupts.
+fn keep(sums: &mut Vec<Sum>, sum: Sum) -> Result<(), AllocError> {
+    let Some(place) = place_of(sums.as_slice(), sum.count) else {
+        sums.push(sum)?;
+        return Ok(());
+    };
+    if let Some(there) = sums.get_mut(place) {
+        if sum.cost < there.cost {
+            *there = sum;
+        }
+    }
+    Ok(())
+}
+
+/// What a part may add.
+fn choices(
+    alloc: Global,
+    joiner: Joiner,
+    needs: Needs,
+    part: Part,
+    ways: &[Way],
+) -> Result<Vec<Sum>, AllocError> {
+    let mut found = Vec::new(alloc);
+    if part.is_open {
+        found.push(Sum {
+            count: contribution(joiner, needs, None),
+            cost: 0,
+            before: 0,
+            way: None,
+        })?;
+    }
+    let mut place: u32 = 0;
+    for way in ways {
+        if part.filter.allows(joiner, place, way.end) {
+            let sum = Sum {
+                count: contribution(joiner, needs, Some(way.end)),
+                cost: way.cost,
+                before: 0,
+                way: Some(place),
+            };
+            keep(&mut found, sum)?;
+        }
+        place = place.saturating_add(1);
+    }
+    Ok(found)
+}
+
+/// The sums with this choice of one part more, in the same order.
+fn shifted(
+    alloc: Global,
+    bounds: &Bounds,
+    sums: &[Sum],
+    choice: &Sum,
+) -> Result<Vec<Sum>, AllocError> {
+    let mut after = Vec::new(alloc);
+    let mut before: u32 = 0;
+    for sum in sums {
+        let next = Sum {
+            count: added(sum.count, choice.count),
+            cost: sum.cost.saturating_add(choice.cost),
+            before,
+            way: choice.way,
+        };
+        if bounds.admit(&next) {
+            after.push(next)?;
+        }
+        before = before.saturating_add(1);
+    }
+    Ok(after)
+}
+
+/// Which of two lists the next sum comes from.
+#[derive(Clone, Copy)]
+enum Source {
+    Ours,
+    Theirs,
+    Both,
+}
+
+fn next_from(ours: &Sum, theirs: &Sum) -> Source {
+    if ours.count < theirs.count {
+        Source::Ours
+    } else if theirs.count < ours.count {
+        Source::Theirs
+    } else {
+        Source::Both
+    }
+}
+
+/// The sum with fewer interrupts.
+fn cheaper(ours: &Sum, theirs: &Sum) -> Sum {
+    if theirs.cost < ours.cost {
+        *theirs
+    } else {
+        *ours
+    }
+}
+
+/// Two lists of sums in rising order of their counts as one, each count once. (Totals that wrap
+/// break the order. Then a count may be there twice.)
+fn merged(alloc: Global, ours: &[Sum], theirs: &[Sum]) -> Result<Vec<Sum>, AllocError> {
+    let mut after = Vec::new(alloc);
+    let mut i: usize = 0;
+    let mut j: usize = 0;
+    for _ in 0..ours.len().saturating_add(theirs.len()) {
+        let (one, source) = match (ours.get(i), theirs.get(j)) {
+            (Some(one), Some(other)) => match next_from(one, other) {
+                Source::Ours => (*one, Source::Ours),
+                Source::Theirs => (*other, Source::Theirs),
+                Source::Both => (cheaper(one, other), Source::Both),
+            },
+            (Some(one), None) => (*one, Source::Ours),
+            (None, Some(other)) => (*other, Source::Theirs),
+            (None, None) => break,
+        };
+        after.push(one)?;
+        if !matches!(source, Source::Theirs) {
+            i = i.saturating_add(1);
+        }
+        if !matches!(source, Source::Ours) {
+            j = j.saturating_add(1);
+        }
+    }
+    Ok(after)
+}
+
+/// The sums with one part more.
+fn extended(
+    alloc: Global,
+    bounds: &Bounds,
+    sums: &[Sum],
+    choices: &[Sum],
+) -> Result<Vec<Sum>, AllocError> {
+    let mut after = Vec::new(alloc);
+    for choice in choices {
+        let more = shifted(alloc, bounds, sums, choice)?;
+        after = merged(alloc, after.as_slice(), more.as_slice())?;
+    }
+    Ok(after)
+}
+
+/// Have these the same counts for the same interrupts?
+fn are_same(ours: &[Sum], theirs: &[Sum]) -> bool {
+    ours.len() == theirs.len()
+        && ours.iter().zip(theirs.iter()).all(|(one, other)| one.count == other.count
+            && one.cost == other.cost)
+}
+
+/// The sums with a run of equal parts more.
+fn after_run(
+    alloc: Global,
+    bounds: &Bounds,
+    sums: Vec<Sum>,
+    choices: &[Sum],
+    count: u32,
+) -> Result<Vec<Sum>, AllocError> {
+    let mut sums = sums;
+    for _ in 0..count {
+        let next = extended(alloc, bounds, sums.as_slice(), choices)?;
+        if are_same(sums.as_slice(), next.as_slice()) {
+            return Ok(next);
+        }
+        sums = next;
+    }
+    Ok(sums)
+}
+
+/// What fits the facts of a scope, if `left` interrupts are left.
+fn bounds_of(facts: &Facts, left: u32) -> Bounds {
+    let limit = limit(facts.joiner);
+    let triggers = match facts.knowledge {
+        Knowledge::Heard => limit.saturating_sub(1),
+        _ => limit,
+    };
+    Bounds {
+        triggers,
+        cost: left,
+        asked: facts.asked,
+    }
+}
+
+fn is_count(count: u32, asked: Option<u32>) -> bool {
+    match asked {
+        None => true,
+        Some(there) => count == there,
+    }
+}
+
+/// Has a whole pick of this count all that the owner knows?
+fn fits(facts: &Facts, count: Count) -> bool {
+    let is_cancelled = facts.knowledge != Knowledge::ByJoiner
+        || count.triggers >= limit(facts.joiner);
+    let is_total = match facts.asked.total {
+        None => true,
+        Some(total) => count.total == total,
+    };
+    is_cancelled
+        && is_total
+        && is_count(count.successes, facts.asked.successes)
+        && is_count(count.failures, facts.asked.failures)
+        && is_count(count.unavailable, facts.asked.unavailable)
+}
+
+/// The sum of no parts.
+fn no_parts(alloc: Global) -> Result<Vec<Sum>, AllocError> {
+    let mut sums = Vec::new(alloc);
+    sums.push(Sum {
+        count: NOTHING,
+        cost: 0,
+        before: 0,
+        way: None,
+    })?;
+    Ok(sums)
+}
+
+/// The choices of the parts of a run.
+fn choices_of(
+    alloc: Global,
+    table: &Table,
+    facts: &Facts,
+    needs: Needs,
+    run: &Run,
+) -> Result<Vec<Sum>, AllocError> {
+    choices(
+        alloc,
+        facts.joiner,
+        needs,
+        run.part,
+        table.ways_of(run.part),
+    )
+}
+
+/// The sums of all parts of a scope.
+fn sums(
+    alloc: Global,
+    table: &Table,
+    scope: &Seen,
+    left: u32,
+    needs: Needs,
+) -> Result<Vec<Sum>, AllocError> {
+    let bounds = bounds_of(&scope.facts, left);
+    let mut found = no_parts(alloc)?;
+    for run in scope.runs.as_slice() {
+        let choices = choices_of(alloc, table, &scope.facts, needs, run)?;
+        found = after_run(alloc, &bounds, found, choices.as_slice(), run.count)?;
+    }
+    Ok(found)
+}
+
+/// The counts that fit a scope, if `left` interrupts are left, with the needed ones. Each comes
+/// with the fewest interrupts for it.
+pub fn fitting(
+    alloc: Global,
+    table: &Table,
+    scope: &Seen,
+    left: u32,
+    needs: Needs,
+) -> Result<Vec<Sum>, AllocError> {
+    let mut found = Vec::new(alloc);
+    for sum in &sums(alloc, table, scope, left, needs)? {
+        if fits(&scope.facts, sum.count) {
+            found.push(*sum)?;
+        }
+    }
+    Ok(found)
+}
+
+/// The fewest interrupts of a pick that fits, if one does.
+pub fn least_cost(
+    alloc: Global,
+    table: &Table,
+    scope: &Seen,
+    left: u32,
+) -> Result<Option<u32>, AllocError> {
+    let needs = Needs::asked(scope.facts.asked);
+    let found = fitting(alloc, table, scope, left, needs)?;
+    Ok(found.iter().map(|sum| sum.cost).min())
+}
+
+/// Does some pick fit?
+pub fn some_fits(
+    alloc: Global,
+    table: &Table,
+    scope: &Seen,
+    left: u32,
+) -> Result<bool, AllocError> {
+    Ok(least_cost(alloc, table, scope, left)?.is_some())
+}
+
+/// Adds the sums with each part of a run more.
+fn push_layers(
+    alloc: Global,
+    bounds: &Bounds,
+    layers: &mut Vec<Vec<Sum>>,
+    choices: &[Sum],
+    count: u32,
+) -> Result<(), AllocError> {
+    for _ in 0..count {
+        let next = match layers.last() {
+            None => Vec::new(alloc),
+            Some(last) => extended(alloc, bounds, last.as_slice(), choices)?,
+        };
+        layers.push(next)?;
+    }
+    Ok(())
+}
+
+/// The sums of no part, of the first one, of the first two, and so on.
+fn layers(
+    alloc: Global,
+    table: &Table,
+    scope: &Seen,
+    left: u32,
+) -> Result<Vec<Vec<Sum>>, AllocError> {
+    let bounds = bounds_of(&scope.facts, left);
+    let needs = Needs::asked(scope.facts.asked);
+    let mut found = Vec::new(alloc);
+    found.push(no_parts(alloc)?)?;
+    for run in scope.runs.as_slice() {
+        let choices = choices_of(alloc, table, &scope.facts, needs, run)?;
+        push_layers(alloc, &bounds, &mut found, choices.as_slice(), run.count)?;
+    }
+    Ok(found)
+}
+
+/// The place of the sum that fits for the fewest interrupts.
+fn best(facts: &Facts, sums: &[Sum]) -> Option<u32> {
+    let mut found: Option<u32> = None;
+    let mut least = u32::MAX;
+    for (place, sum) in sums.iter().enumerate() {
+        if fits(facts, sum.count) && (found.is_none() || sum.cost < least) {
+            found = Some(number(place));
+            least = sum.cost;
+        }
+    }
+    found
+}
+
+/// A pick that fits for the fewest interrupts: the way of each part, or `None` if it is
+/// unavailable.
+pub fn pick(
+    alloc: Global,
+    table: &Table,
+    scope: &Seen,
+    left: u32,
+) -> Result<Option<Vec<Option<u32>>>, AllocError> {
+    let mut layers = layers(alloc, table, scope, left)?;
+    let mut picked = Vec::new(alloc);
+    let last = layers.pop().unwrap_or(Vec::new(alloc));
+    let Some(mut place) = best(&scope.facts, last.as_slice()) else {
+        return Ok(None);
+    };
+    let mut layer = last;
+    for _ in 0..layers.len() {
+        let Some(sum) = layer.get(place as usize).copied() else {
+            return Ok(None);
+        };
+        picked.push(sum.way)?;
+        place = sum.before;
+        layer = layers.pop().unwrap_or(Vec::new(alloc));
+    }
+    picked.reverse();
+    Ok(Some(picked))
+}

@@ -1,0 +1,341 @@
+//! A task on its way to an end, as a trace plays it.
+
+use crate::call::{Way, number};
+use crate::joiners::is_trigger;
+use crate::own::Own;
+use crate::part::part_at;
+use crate::pick::pick;
+use crate::seen::{Knowledge, Seen};
+use crate::table::{Explored, Label, Node, Table};
+use std::alloc::{AllocError, Global};
+use sts_code::Joiner;
+use sts_model::End;
+
+/// A scope of a task that is being played.
+#[derive(Drop)]
+pub struct PlayedScope {
+    /// Its birth number.
+    pub birth: u32,
+    /// The birth numbers of its subtasks.
+    pub births: Vec<u32>,
+    /// Which of them were played.
+    pub played: Vec<bool>,
+    /// The way of each subtask that ends before a cancel.
+    pub ways: Vec<Option<u32>>,
+    /// The subtask that fails first, if that matters.
+    pub first: Option<u32>,
+}
+
+/// A task that is to be played up to the end of one of its call's ways.
+#[derive(Clone, Copy)]
+pub struct Start {
+    /// The number of its call, or `None` for the root's.
+    pub call: Option<u32>,
+    pub way: u32,
+    pub birth: u32,
+}
+
+/// A task that is being played.
+#[derive(Drop)]
+pub struct Played {
+    /// The number of its call, or `None` for the root's.
+    pub call: Option<u32>,
+    pub birth: u32,
+    /// The places of the states on the way, the first one first.
+    pub path: Vec<u32>,
+    /// How many steps of the way were taken.
+    pub at: usize,
+    pub scopes: Vec<PlayedScope>,
+    /// The subtasks that have to be played before the next step, the first one last.
+    pub waiting: Vec<Start>,
+    /// Is it known which those are?
+    pub is_ready: bool,
+}
+
+/// The places of the states that lead to one, the first one first.
+fn path_to(alloc: Global, nodes: &[Node], place: u32) -> Result<Vec<u32>, AllocError> {
+    let mut path = Vec::new(alloc);
+    let mut next = Some(place);
+    for _ in 0..nodes.len() {
+        let Some(here) = next else {
+            break;
+        };
+        path.push(here)?;
+        next = match nodes.get(here as usize) {
+            Some(node) => node.before,
+            None => None,
+        };
+    }
+    path.reverse();
+    Ok(path)
+}
+
+/// The end of a way.
+pub fn end_of(ways: &[Way], way: Option<u32>) -> Option<End> {
+    match way {
+        None => None,
+        Some(way) => ways.get(way as usize).map(|way| way.end),
+    }
+}
+
+impl Played {
+    /// A task that has taken no step.
+    pub fn begin(
+        alloc: Global,
+        explored: &Explored,
+        start: Start,
+    ) -> Result<Option<Played>, AllocError> {
+        let Some(way) = explored.ways.get(start.way as usize) else {
+            return Ok(None);
+        };
+        Ok(Some(Played {
+            call: start.call,
+            birth: start.birth,
+            path: path_to(alloc, explored.nodes.as_slice(), way.place)?,
+            at: 0,
+            scopes: Vec::new(alloc),
+            waiting: Vec::new(alloc),
+            is_ready: false,
+        }))
+    }
+
+    /// Were all steps but the last taken?
+    pub fn is_at_end(&self) -> bool {
+        self.at.saturating_add(1) >= self.path.len()
+    }
+
+    /// The state on the way after this number of steps.
+    pub fn node<'t>(&self, explored: &'t Explored, at: usize) -> Option<&'t Node> {
+        let place = self.path.get(at).copied()?;
+        explored.nodes.get(place as usize)
+    }
+
+    /// The state before the next step.
+    pub fn before<'t>(&self, explored: &'t Explored) -> Option<&'t Node> {
+        self.node(explored, self.at)
+    }
+
+    /// The state after the next step.
+    pub fn after<'t>(&self, explored: &'t Explored) -> Option<&'t Node> {
+        self.node(explored, self.at.saturating_add(1))
+    }
+
+    /// The number of steps before the one that closes the scope at a place.
+    fn closing(&self, explored: &Explored, place: u32) -> Option<usize> {
+        for at in self.at.saturating_add(1)..self.path.len() {
+            let next = self.node(explored, at.saturating_add(1))?;
+            if next.own.scopes.len() <= place as usize {
+                return Some(at);
+            }
+        }
+        None
+    }
+
+    /// The subtask that fails first in the scope at a place, if the way up to its close shows one.
+    fn first_failed(&self, explored: &Explored, place: u32, close: usize) -> Option<u32> {
+        for at in self.at..close.saturating_add(1) {
+            let node = self.node(explored, at)?;
+            if let Label::First { scope, part } = node.label {
+                if scope == place {
+                    return Some(part);
+                }
+            }
+        }
+        None
+    }
+
+    /// The scope that the next step opens. It has this birth number.
+    pub fn opening(
+        &self,
+        alloc: Global,
+        table: &Table,
+        explored: &Explored,
+        interrupts: u32,
+        birth: u32,
+    ) -> Result<Option<PlayedScope>, AllocError> {
+        let Some(before) = self.before(explored) else {
+            return Ok(None);
+        };
+        let place = number(before.own.scopes.len());
+        let Some(close) = self.closing(explored, place) else {
+            return Ok(None);
+        };
+        let Some(last) = self.node(explored, close) else {
+            return Ok(None);
+        };
+        let Some(scope) = last.own.scope(place) else {
+            return Ok(None);
+        };
+        let left = interrupts.saturating_sub(last.own.used);
+        let Some(ways) = pick(alloc, table, scope, left)? else {
+            return Ok(None);
+        };
+        Ok(Some(PlayedScope {
+            birth,
+            births: Vec::new(alloc),
+            played: Vec::new(alloc),
+            ways,
+            first: self.first_failed(explored, place, close),
+        }))
+    }
+}
+
+impl PlayedScope {
+    /// The way of a subtask, if the joiner is told of it.
+    fn way(&self, child: u32) -> Option<u32> {
+        match self.ways.get(child as usize) {
+            Some(way) => *way,
+            None => None,
+        }
+    }
+
+    /// Notes that a subtask is played. Returns whether it wasn't before.
+    fn note(&mut self, child: u32) -> bool {
+        match self.played.get_mut(child as usize) {
+            Some(played) if !*played => {
+                *played = true;
+                true
+            }
+            _ => false,
+        }
+    }
+
+    /// Adds a subtask to those that are to be played, if its end is heard and it wasn't played yet.
+    fn push(
+        &mut self,
+        scope: &Seen,
+        child: u32,
+        starts: &mut Vec<Start>,
+    ) -> Result<(), AllocError> {
+        let Some(part) = part_at(scope.runs.as_slice(), child) else {
+            return Ok(());
+        };
+        let Some(way) = self.way(child) else {
+            return Ok(());
+        };
+        let call = part.call;
+        let Some(birth) = self.births.get(child as usize).copied() else {
+            return Ok(());
+        };
+        if self.note(child) {
+            starts.push(Start { call, way, birth })?;
+        }
+        Ok(())
+    }
+
+    /// Does the end of a subtask count towards a cancel?
+    fn is_trigger(&self, table: &Table, scope: &Seen, child: u32) -> bool {
+        let Some(part) = part_at(scope.runs.as_slice(), child) else {
+            return false;
+        };
+        match end_of(table.ways_of(part), self.way(child)) {
+            Some(end) => is_trigger(scope.facts.joiner, end),
+            None => false,
+        }
+    }
+
+    /// Adds the subtasks whose ends count towards a cancel, or the others.
+    fn push_those(
+        &mut self,
+        table: &Table,
+        scope: &Seen,
+        triggers: bool,
+        starts: &mut Vec<Start>,
+    ) -> Result<(), AllocError> {
+        for child in 0..number(self.births.len()) {
+            if self.is_trigger(table, scope, child) == triggers {
+                self.push(scope, child, starts)?;
+            }
+        }
+        Ok(())
+    }
+
+    /// Adds the one that fails first, if that matters.
+    fn push_first(&mut self, scope: &Seen, starts: &mut Vec<Start>) -> Result<(), AllocError> {
+        match self.first {
+            Some(first) => self.push(scope, first, starts),
+            None => Ok(()),
+        }
+    }
+
+    /// The subtasks that end heard before the owner sees that the scope is cancelled or heard.
+    fn all_starts(
+        &mut self,
+        alloc: Global,
+        table: &Table,
+        scope: &Seen,
+    ) -> Result<Vec<Start>, AllocError> {
+        let mut starts = Vec::new(alloc);
+        self.push_first(scope, &mut starts)?;
+        self.push_those(table, scope, false, &mut starts)?;
+        self.push_those(table, scope, true, &mut starts)?;
+        Ok(starts)
+    }
+
+    /// The subtasks that end before the owner sees that this one has.
+    fn starts_of(
+        &mut self,
+        alloc: Global,
+        table: &Table,
+        scope: &Seen,
+        child: u32,
+    ) -> Result<Vec<Start>, AllocError> {
+        let mut starts = Vec::new(alloc);
+        let fails = match part_at(scope.runs.as_slice(), child) {
+            Some(part) => matches!(
+                end_of(table.ways_of(part), self.way(child)),
+                Some(End::Failed(_))
+            ),
+            None => false,
+        };
+        let is_any = matches!(scope.facts.joiner, Joiner::AnySucceeds);
+        if is_any && fails && !scope.facts.has_failure {
+            self.push_first(scope, &mut starts)?;
+        }
+        self.push(scope, child, &mut starts)?;
+        Ok(starts)
+    }
+
+    /// The subtasks that end before a look of their owner, the first one first. The look shows
+    /// the scope as it is afterwards, and it may be at one subtask.
+    pub fn starts(
+        &mut self,
+        alloc: Global,
+        table: &Table,
+        before: &Seen,
+        after: &Seen,
+        child: Option<u32>,
+    ) -> Result<Vec<Start>, AllocError> {
+        if before.facts.knowledge != Knowledge::Unseen {
+            return Ok(Vec::new(alloc));
+        }
+        if after.facts.knowledge != Knowledge::Unseen {
+            return self.all_starts(alloc, table, before);
+        }
+        match child {
+            Some(child) if hears(before, after, child) => {
+                self.starts_of(alloc, table, before, child)
+            }
+            _ => Ok(Vec::new(alloc)),
+        }
+    }
+}
+
+/// Does the owner see that this subtask has ended?
+fn hears(before: &Seen, after: &Seen, child: u32) -> bool {
+    match (
+        part_at(before.runs.as_slice(), child),
+        part_at(after.runs.as_slice(), child),
+    ) {
+        (Some(before), Some(after)) => before.is_open && !after.is_open,
+        _ => false,
+    }
+}
+
+/// The scope that a slot is about, as the task knows it before and after a step, and its place.
+pub fn scope_at<'t>(before: &'t Own, after: &'t Own, place: u32) -> Option<(&'t Seen, &'t Seen)> {
+    match (before.scope(place), after.scope(place)) {
+        (Some(before), Some(after)) => Some((before, after)),
+        _ => None,
+    }
+}

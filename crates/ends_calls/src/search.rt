@@ -1,0 +1,323 @@
+//! The search: each call is explored once, by itself.
+
+use crate::begin::{first_state, root_call};
+use crate::call::{Call, Way, number};
+use crate::own::Own;
+use crate::steps::{Around, Outcome, Step, followed};
+use crate::table::{Explored, Label, Node, Table};
+use ends_plain::config::Setting;
+use ends_search::index::Index;
+use std::alloc::{AllocError, Global};
+use sts_model::End;
+
+/// A call whose states are being found.
+#[derive(Drop)]
+struct Exploring {
+    explored: Explored,
+    index: Index,
+    /// The places of the states that wait, by the interrupts that they took.
+    waiting: Vec<Vec<u32>>,
+}
+
+/// A search so far.
+#[derive(Drop)]
+pub struct Search {
+    pub table: Table,
+    /// The calls that are being explored. Each waits for the one behind it.
+    stack: Vec<Exploring>,
+    /// How many states were found.
+    pub states: usize,
+    /// Did all instructions make sense? They do in an accepted program.
+    is_fine: bool,
+}
+
+fn empty_lists(alloc: Global, interrupts: u32) -> Result<Vec<Vec<u32>>, AllocError> {
+    let mut lists = Vec::new(alloc);
+    for _ in 0..u64::from(interrupts) + 1 {
+        lists.push(Vec::new(alloc))?;
+    }
+    Ok(lists)
+}
+
+impl Exploring {
+    /// A call of which the first state was found.
+    fn begin(
+        alloc: Global,
+        setting: &Setting,
+        call: Call,
+        is_root: bool,
+    ) -> Result<Exploring, AllocError> {
+        let first = first_state(alloc, &call, is_root);
+        let mut exploring = Exploring {
+            explored: Explored {
+                call,
+                nodes: Vec::new(alloc),
+                ways: Vec::new(alloc),
+            },
+            index: Index::new(alloc)?,
+            waiting: empty_lists(alloc, setting.interrupts)?,
+        };
+        let hash = first.hash();
+        exploring.push(alloc, first, hash, None, Label::Plain)?;
+        Ok(exploring)
+    }
+
+    /// Lets a state wait.
+    fn wait(&mut self, used: u32, place: u32) -> Result<(), AllocError> {
+        if let Some(list) = self.waiting.get_mut(used as usize) {
+            list.push(place)?;
+        }
+        Ok(())
+    }
+
+    /// Adds a state that is not there.
+    fn push(
+        &mut self,
+        alloc: Global,
+        own: Own,
+        hash: u64,
+        before: Option<u32>,
+        label: Label,
+    ) -> Result<(), AllocError> {
+        let place = number(self.explored.nodes.len());
+        let used = own.used;
+        self.index.add(alloc, hash)?;
+        self.explored.nodes.push(Node {
+            own,
+            before,
+            label,
+            is_done: false,
+        })?;
+        self.wait(used, place)
+    }
+
+    fn is_at(&self, place: usize, own: &Own) -> bool {
+        match self.explored.nodes.get(place) {
+            Some(node) => node.own.is_same(own),
+            None => false,
+        }
+    }
+
+    /// The place of a state that differs at most by the interrupts that it took.
+    fn find(&self, own: &Own, hash: u64) -> Option<usize> {
+        let mut place = self.index.first(hash);
+        for _ in 0..self.explored.nodes.len() {
+            if place >= self.explored.nodes.len() {
+                return None;
+            }
+            if self.is_at(place, own) {
+                return Some(place);
+            }
+            place = self.index.behind(place, hash);
+        }
+        None
+    }
+
+    /// Puts a state in the place of one that took more interrupts.
+    fn improve(&mut self, place: usize, step: Step, before: u32) -> Result<(), AllocError> {
+        let used = step.own.used;
+        let Some(node) = self.explored.nodes.get_mut(place) else {
+            return Ok(());
+        };
+        if node.is_done || node.own.used <= used {
+            return Ok(());
+        }
+        node.own = step.own;
+        node.before = Some(before);
+        node.label = step.label;
+        self.wait(used, number(place))
+    }
+
+    /// Adds a state, and returns whether it is new.
+    fn add(&mut self, alloc: Global, step: Step, before: u32) -> Result<bool, AllocError> {
+        let hash = step.own.hash();
+        match self.find(&step.own, hash) {
+            Some(place) => {
+                self.improve(place, step, before)?;
+                Ok(false)
+            }
+            None => {
+                self.push(alloc, step.own, hash, Some(before), step.label)?;
+                Ok(true)
+            }
+        }
+    }
+
+    /// Adds the states after one, and returns how many are new.
+    fn add_all(
+        &mut self,
+        alloc: Global,
+        steps: Vec<Step>,
+        before: u32,
+    ) -> Result<usize, AllocError> {
+        let mut count: usize = 0;
+        for step in steps {
+            if self.add(alloc, step, before)? {
+                count = count.saturating_add(1);
+            }
+        }
+        Ok(count)
+    }
+
+    /// Takes the place of a state that waits and took the fewest interrupts.
+    fn take(&mut self) -> Option<u32> {
+        for used in 0..self.waiting.len() {
+            if let Some(list) = self.waiting.get_mut(used) {
+                if let Some(place) = list.pop() {
+                    return Some(place);
+                }
+            }
+        }
+        None
+    }
+
+    /// Marks a state as done. Returns whether it was not.
+    fn finish(&mut self, place: u32) -> bool {
+        match self.explored.nodes.get_mut(place as usize) {
+            Some(node) if !node.is_done => {
+                node.is_done = true;
+                true
+            }
+            _ => false,
+        }
+    }
+
+    /// Lets a state wait again.
+    fn wait_again(&mut self, place: u32) -> Result<(), AllocError> {
+        let mut used: u32 = 0;
+        if let Some(node) = self.explored.nodes.get_mut(place as usize) {
+            node.is_done = false;
+            used = node.own.used;
+        }
+        self.wait(used, place)
+    }
+
+    /// Adds an end of the call, unless it was found before, for no more interrupts.
+    fn end(&mut self, place: u32, end: End) -> Result<(), AllocError> {
+        if self.explored.ways.iter().any(|way| way.end == end) {
+            return Ok(());
+        }
+        let cost = match self.explored.nodes.get(place as usize) {
+            Some(node) => node.own.used,
+            None => 0,
+        };
+        self.explored.ways.push(Way { end, cost, place })?;
+        Ok(())
+    }
+}
+
+impl Search {
+    /// A search that has found the first state.
+    pub fn begin(alloc: Global, setting: &Setting) -> Result<Search, AllocError> {
+        let mut stack = Vec::new(alloc);
+        let root = root_call(alloc, &setting.program);
+        stack.push(Exploring::begin(alloc, setting, root, true)?)?;
+        Ok(Search {
+            table: Table::new(alloc)?,
+            stack,
+            states: 1,
+            is_fine: true,
+        })
+    }
+
+    /// Was each state expanded?
+    pub fn is_closed(&self) -> bool {
+        self.is_fine && self.stack.is_empty()
+    }
+
+    /// The root's call, as far as it was explored.
+    pub fn root(&self) -> Option<&Explored> {
+        match self.stack.first() {
+            Some(exploring) => Some(&exploring.explored),
+            None => self.table.calls.last(),
+        }
+    }
+
+    /// Keeps the innermost call, all of whose states were found.
+    fn keep(&mut self, alloc: Global) -> Result<(), AllocError> {
+        if let Some(done) = self.stack.pop() {
+            self.table.add(alloc, done.explored)?;
+        }
+        Ok(())
+    }
+
+    /// Begins with another call.
+    fn ask(&mut self, alloc: Global, setting: &Setting, call: Call) -> Result<(), AllocError> {
+        self.stack
+            .push(Exploring::begin(alloc, setting, call, false)?)?;
+        self.states = self.states.saturating_add(1);
+        Ok(())
+    }
+
+    /// What comes of a state of the innermost call.
+    fn outcome(&self, alloc: Global, setting: &Setting, place: u32) -> Result<Outcome, AllocError> {
+        let Some(top) = self.stack.last() else {
+            return Ok(Outcome::Breaks);
+        };
+        let Some(node) = top.explored.nodes.get(place as usize) else {
+            return Ok(Outcome::Breaks);
+        };
+        let around = Around {
+            setting,
+            table: &self.table,
+            call: &top.explored.call,
+        };
+        followed(alloc, &around, &node.own)
+    }
+
+    /// Goes on with what comes of a state.
+    fn follow(
+        &mut self,
+        alloc: Global,
+        setting: &Setting,
+        place: u32,
+        outcome: Outcome,
+    ) -> Result<(), AllocError> {
+        let Some(top) = self.stack.last_mut() else {
+            return Ok(());
+        };
+        match outcome {
+            Outcome::Ends(end) => top.end(place, end),
+            Outcome::Goes(steps) => {
+                let count = top.add_all(alloc, steps, place)?;
+                self.states = self.states.saturating_add(count);
+                Ok(())
+            }
+            Outcome::Asks(call) => {
+                top.wait_again(place)?;
+                self.ask(alloc, setting, call)
+            }
+            Outcome::Breaks => {
+                self.is_fine = false;
+                Ok(())
+            }
+        }
+    }
+
+    /// Expands one state.
+    fn advance(&mut self, alloc: Global, setting: &Setting) -> Result<(), AllocError> {
+        let Some(top) = self.stack.last_mut() else {
+            return Ok(());
+        };
+        let Some(place) = top.take() else {
+            return self.keep(alloc);
+        };
+        if !top.finish(place) {
+            return Ok(());
+        }
+        let outcome = self.outcome(alloc, setting, place)?;
+        self.follow(alloc, setting, place, outcome)
+    }
+}
+
+/// A search that has expanded each state, unless it found more than `most` of them.
+pub fn explored(alloc: Global, setting: &Setting, most: usize) -> Result<Search, AllocError> {
+    let mut search = Search::begin(alloc, setting)?;
+    for _ in 0..u64::MAX {
+        if search.stack.is_empty() || !search.is_fine || search.states > most {
+            break;
+        }
+        search.advance(alloc, setting)?;
+    }
+    Ok(search)
+}

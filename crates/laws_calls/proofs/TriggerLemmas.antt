@@ -1,0 +1,47 @@
+-- Cancels by a count.
+use Rattle.std.proofs.Common.{◌≡◌, ℕ, zero, suc, ◌+◌, List, [], ◌∷◌, Bool, true, false, refl, sym, ◌∙◌, ap, arith, cond, count_by, ◌||◌}
+use Rattle.std.specs.Prelude.{nat_lt, nat_le}
+use Rattle.std.specs.List.{sum_by, list_any}
+use Rattle.std.proofs.lemmas.Bool.{lt-ltb}
+use Rattle.std.proofs.lemmas.Bool.Decides.{nat_tests}
+use Rattle.std.proofs.lemmas.List.Sums.{sum_by-cons}
+use Rattle.sts_code.specs.declared.instr.Joiner.{Joiner}
+use Rattle.sts_code.specs.declared.instr.Joiner.TheVariants.{AllSucceed, AnySucceeds, AwaitOk, AwaitAll, Until}
+use Rattle.sts_code.specs.declared.instr.Pred.TheVariants as pred
+use Rattle.sts_model.specs.declared.event.End.{End}
+use Rattle.sts_model.specs.Joining.{is_success, is_failure, is_at_least}
+use Rattle.laws_calls.specs.Triggers.{CancelsByCount}
+
+any_count : {X : Type 0} (q : X → Bool) (xs : List X) → list_any q xs ≡ nat_lt 0 (count_by q xs)
+any_count q [] = refl
+any_count {X} q (x ∷ xs) = by (q x) (any_count q xs) ∙ ap (λ m. nat_lt 0 m) (sym (sum_by-cons (λ y. cond (q y) 1 0) x xs))
+  where
+    nothing : (m : ℕ) → m ≡ 0 + m
+    nothing m = omega arith
+
+    by : (b : Bool) → list_any q xs ≡ nat_lt 0 (count_by q xs) → (b || list_any q xs) ≡ nat_lt 0 (cond b 1 0 + count_by q xs)
+    by true h = sym (lt-ltb 0 (1 + count_by q xs) (omega arith))
+    by false h = h ∙ ap (λ m. nat_lt 0 m) (nothing (count_by q xs))
+
+one_or_more : (n : ℕ) → nat_lt 0 n ≡ nat_le 1 n
+one_or_more zero = refl
+one_or_more (suc n) = refl
+
+any_one : {X : Type 0} (q : X → Bool) (xs : List X) → list_any q xs ≡ nat_le 1 (count_by q xs)
+any_one q xs = any_count q xs ∙ one_or_more (count_by q xs)
+
+none : {X : Type 0} (xs : List X) → false ≡ nat_le 1 (count_by (λ (x : X). false) xs)
+none [] = refl
+none {X} (x ∷ xs) = none xs ∙ ap (λ m. nat_le 1 m) (nothing (count_by (λ (y : X). false) xs) ∙ sym (sum_by-cons (λ (y : X). cond false 1 0) x xs))
+  where
+    nothing : (m : ℕ) → m ≡ 0 + m
+    nothing m = omega arith
+
+pub cancels_by_count : CancelsByCount
+cancels_by_count AllSucceed ends = any_one is_failure ends
+cancels_by_count AwaitOk ends = any_one is_failure ends
+cancels_by_count AnySucceeds ends = any_one is_success ends
+cancels_by_count AwaitAll ends = none ends
+cancels_by_count (Until (pred.Failed n)) ends = refl
+cancels_by_count (Until (pred.Success n)) ends = refl
+cancels_by_count (Until (pred.AtLeast v)) ends = any_one (is_at_least v) ends
