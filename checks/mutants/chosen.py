@@ -6,7 +6,8 @@ Each changed function gets all its bodies, and calls a function that reads the t
     if planted == 3 { BODY 3 } else if planted == 7 { BODY 7 } else { THE BODY AS IT IS }
 
 The table says 0, so the program does as it should. `choose` writes another number into a copy of the program. The table is
-read in 128 steps, from place to place: a compiler can't do that beforehand.
+read in 128 steps, from place to place: a compiler can't do that beforehand. It has more than 1,024 bytes: in a shorter one
+LLVM looks for the place of a number, and compares places in place of what was read.
 """
 import collections
 import os
@@ -14,10 +15,10 @@ import re
 import stat
 
 HEAD = re.compile(r'( *)(?:(?:pub(?:\(\w+\))?|const|unsafe|extern "C") )*fn \w')
-HOPS, MARK = 128, b"The byte before these says which wrong body runs."
+HOPS, SIZE, MARK = 128, 2048, b"The byte before these says which wrong body runs."
 TABLE = bytes([*range(1, HOPS), 0]) + MARK
 READER = f"""
-static PLANTED: [u8; 256] = [{', '.join(map(str, TABLE.ljust(256, b'.')))}];
+static PLANTED: [u8; {SIZE}] = [{', '.join(map(str, TABLE.ljust(SIZE, b'.')))}];
 
 fn planted_body() -> u8 {{
     let mut at: u8 = 0;
