@@ -1,5 +1,7 @@
 -- Cancels by a count.
-use Rattle.std.proofs.Common.{◌≡◌, ℕ, zero, suc, ◌+◌, List, [], ◌∷◌, Bool, true, false, refl, sym, ◌∙◌, ap, arith, cond, count_by, sum_by, ◌||◌, ◌++◌, ◌<◌, ◌≤◌, subst}
+use Rattle.std.proofs.Common.{◌≡◌, ℕ, zero, suc, ◌+◌, List, [], ◌∷◌, Bool, true, false, refl, sym, ◌∙◌, ap, arith, cond, count_by, sum_by, Some, None, find, ◌||◌, ◌++◌, ◌<◌, ◌≤◌, subst}
+use Rattle.std.specs.Option.{option_or}
+use Rattle.std.proofs.lemmas.List.Folds.{find-append}
 use Rattle.std.specs.Prelude.{nat_lt, nat_le}
 use Rattle.std.specs.List.{list_any}
 use Rattle.std.proofs.lemmas.Bool.{lt-ltb, leb-false, leb-true}
@@ -9,7 +11,7 @@ use Rattle.sts_model.specs.declared.event.End.{End}
 use Rattle.sts_code.specs.declared.instr.Joiner.TheVariants.{AllSucceed, AnySucceeds, AwaitOk, AwaitAll, Until}
 use Rattle.sts_code.specs.declared.instr.Pred.TheVariants as pred
 use Rattle.sts_model.specs.Joining.{cancels, is_success, is_failure, is_at_least}
-use Rattle.laws_calls.specs.Triggers.{CancelsByCount, LastCounts, StopsAtLimit, is_trigger, limit, triggers}
+use Rattle.laws_calls.specs.Triggers.{CancelsByCount, LastCounts, LastIsFound, StopsAtLimit, is_trigger, limit, triggers}
 
 any_count : {X : Type 0} (q : X → Bool) (xs : List X) → list_any q xs ≡ nat_lt 0 (count_by q xs)
 any_count q [] = refl
@@ -79,3 +81,17 @@ last_counts j ends e going stops =
     let reaches : limit j ≤ triggers j (ends ++ e ∷ []) = leb-true (limit j) (triggers j (ends ++ e ∷ [])) (sym (cancels_by_count j (ends ++ e ∷ [])) ∙ stops) in
     let p = counts (is_trigger j e) (triggers j ends) (limit j) (going_on j ends going) (subst (λ n. limit j ≤ n) more reaches) in
     (p.0, more ∙ p.1)
+
+none_found : {X : Type 0} (q : X → Bool) (xs : List X) → count_by q xs < 1 → find q xs ≡ None
+none_found q [] few = refl
+none_found {X} q (x ∷ xs) few = by (q x) (λ h. none_found q xs h) (subst (λ n. n < 1) (sum_by-cons (λ y. cond (q y) 1 0) x xs) few)
+  where
+    by : (b : Bool) → (count_by q xs < 1 → find q xs ≡ None) → cond b 1 0 + count_by q xs < 1 → cond b (Some x) (find q xs) ≡ None
+    by true later h = absurd (omega (arith, h))
+    by false later h = later (omega (arith, h))
+
+pub last_is_found : LastIsFound
+last_is_found j ends e one going is_one =
+    let q = is_trigger j in
+    let none = none_found q ends (subst (λ n. triggers j ends < n) one (going_on j ends going)) in
+    find-append q ends (e ∷ []) ∙ ap (λ o. option_or o (find q (e ∷ []))) none ∙ ap (λ b. cond b (Some e) None) is_one
