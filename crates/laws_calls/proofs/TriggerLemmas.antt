@@ -1,16 +1,17 @@
 -- Cancels by a count.
-use Rattle.std.proofs.Common.{◌≡◌, ℕ, zero, suc, ◌+◌, List, [], ◌∷◌, Bool, true, false, refl, sym, ◌∙◌, ap, arith, cond, count_by, ◌||◌}
+use Rattle.std.proofs.Common.{◌≡◌, ℕ, zero, suc, ◌+◌, List, [], ◌∷◌, Bool, true, false, refl, sym, ◌∙◌, ap, arith, cond, count_by, sum_by, Some, None, find, ◌||◌, ◌++◌, ◌<◌, ◌≤◌, subst}
+use Rattle.std.specs.Option.{option_or}
+use Rattle.std.proofs.lemmas.List.Folds.{find-append}
 use Rattle.std.specs.Prelude.{nat_lt, nat_le}
-use Rattle.std.specs.List.{sum_by, list_any}
-use Rattle.std.proofs.lemmas.Bool.{lt-ltb}
-use Rattle.std.proofs.lemmas.Bool.Decides.{nat_tests}
-use Rattle.std.proofs.lemmas.List.Sums.{sum_by-cons}
+use Rattle.std.specs.List.{list_any}
+use Rattle.std.proofs.lemmas.Bool.{lt-ltb, leb-false, leb-true}
+use Rattle.std.proofs.lemmas.List.Sums.{sum_by-cons, sum_by-append}
 use Rattle.sts_code.specs.declared.instr.Joiner.{Joiner}
+use Rattle.sts_model.specs.declared.event.End.{End}
 use Rattle.sts_code.specs.declared.instr.Joiner.TheVariants.{AllSucceed, AnySucceeds, AwaitOk, AwaitAll, Until}
 use Rattle.sts_code.specs.declared.instr.Pred.TheVariants as pred
-use Rattle.sts_model.specs.declared.event.End.{End}
-use Rattle.sts_model.specs.Joining.{is_success, is_failure, is_at_least}
-use Rattle.laws_calls.specs.Triggers.{CancelsByCount}
+use Rattle.sts_model.specs.Joining.{cancels, is_success, is_failure, is_at_least}
+use Rattle.laws_calls.specs.Triggers.{CancelsByCount, LastCounts, LastIsFound, StopsAtLimit, is_trigger, limit, triggers}
 
 any_count : {X : Type 0} (q : X → Bool) (xs : List X) → list_any q xs ≡ nat_lt 0 (count_by q xs)
 any_count q [] = refl
@@ -45,3 +46,52 @@ cancels_by_count AwaitAll ends = none ends
 cancels_by_count (Until (pred.Failed n)) ends = refl
 cancels_by_count (Until (pred.Success n)) ends = refl
 cancels_by_count (Until (pred.AtLeast v)) ends = any_one (is_at_least v) ends
+
+-- ---- one end more
+
+more_count : {X : Type 0} (q : X → Bool) (xs : List X) (x : X) → count_by q (xs ++ x ∷ []) ≡ count_by q xs + cond (q x) 1 0
+more_count {X} q xs x =
+    let f : X → ℕ = λ y. cond (q y) 1 0 in
+    let both = sum_by-append f xs (x ∷ []) in
+    let one = sum_by-cons f x [] in
+    let none : sum_by f [] ≡ 0 = refl in
+    omega (arith, both, one, none)
+
+going_on : (j : Joiner) (ends : List End) → cancels j ends ≡ false → triggers j ends < limit j
+going_on j ends going = leb-false (limit j) (triggers j ends) (sym (cancels_by_count j ends) ∙ going)
+
+at_most_one : (b : Bool) → cond b 1 0 ≤ 1
+at_most_one true = omega arith
+at_most_one false = omega arith
+
+pub stops_at_limit : StopsAtLimit
+stops_at_limit j ends e going =
+    let below = going_on j ends going in
+    let more = more_count (is_trigger j) ends e in
+    let one = at_most_one (is_trigger j e) in
+    omega (arith, below, more, one)
+
+counts : (b : Bool) (n m : ℕ) → n < m → m ≤ n + cond b 1 0 → (b ≡ true) × (n + cond b 1 0 ≡ m)
+counts true n m below reaches = (refl, omega (arith, below, reaches))
+counts false n m below reaches = absurd (omega (arith, below, reaches))
+
+pub last_counts : LastCounts
+last_counts j ends e going stops =
+    let more = more_count (is_trigger j) ends e in
+    let reaches : limit j ≤ triggers j (ends ++ e ∷ []) = leb-true (limit j) (triggers j (ends ++ e ∷ [])) (sym (cancels_by_count j (ends ++ e ∷ [])) ∙ stops) in
+    let p = counts (is_trigger j e) (triggers j ends) (limit j) (going_on j ends going) (subst (λ n. limit j ≤ n) more reaches) in
+    (p.0, more ∙ p.1)
+
+none_found : {X : Type 0} (q : X → Bool) (xs : List X) → count_by q xs < 1 → find q xs ≡ None
+none_found q [] few = refl
+none_found {X} q (x ∷ xs) few = by (q x) (λ h. none_found q xs h) (subst (λ n. n < 1) (sum_by-cons (λ y. cond (q y) 1 0) x xs) few)
+  where
+    by : (b : Bool) → (count_by q xs < 1 → find q xs ≡ None) → cond b 1 0 + count_by q xs < 1 → cond b (Some x) (find q xs) ≡ None
+    by true later h = absurd (omega (arith, h))
+    by false later h = later (omega (arith, h))
+
+pub last_is_found : LastIsFound
+last_is_found j ends e one going is_one =
+    let q = is_trigger j in
+    let none = none_found q ends (subst (λ n. triggers j ends < n) one (going_on j ends going)) in
+    find-append q ends (e ∷ []) ∙ ap (λ o. option_or o (find q (e ∷ []))) none ∙ ap (λ b. cond b (Some e) None) is_one

@@ -1,0 +1,5 @@
+use Rattle.laws_calls.proofs.TriggerLemmas as laws
+use Rattle.laws_calls.proofs.laws.last_counts.Goals as goal
+
+pub returns : goal.returns
+returns c = laws.last_counts
