@@ -1,4 +1,4 @@
-use Rattle.look.proofs.command.program.Goals as goal
+use Rattle.look_args.proofs.command.program.Goals as goal
 
 pub returns : goal.returns
 returns c =

@@ -4,7 +4,7 @@ ghost use Rattle.std.specs.Prelude.{◌≡◌, IfOk, codes, false};
 ghost use Rattle.clap.specs.Words.{app_of, rule_of};
 ghost use Rattle.clap.specs.declared.builder.Command.TheViews.{out-Command};
 ghost use Rattle.sts_args.specs.Command.{file_rule, option_rule};
-ghost use Rattle.look.specs.Command as def;
+ghost use Rattle.look_args.specs.Command as def;
 
 use clap::{Arg, ArgAction, Command};
 use std::alloc::{AllocError, Global};

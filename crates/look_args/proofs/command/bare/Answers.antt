@@ -1,8 +1,8 @@
 use Rattle.std.proofs.Common.{ap, ◌∙◌}
 use Rattle.clap.specs.Simple.{app_of_fields}
 use Rattle.sts_args.specs.Command.{required}
-use Rattle.look.specs.Command as def
-use Rattle.look.proofs.command.bare.Goals as goal
+use Rattle.look_args.specs.Command as def
+use Rattle.look_args.proofs.command.bare.Goals as goal
 
 pub returns : goal.returns
 returns c =
