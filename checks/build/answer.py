@@ -23,6 +23,7 @@ NO_KIT = """{name}: rt is not installed, or not on PATH: {name} is built by the 
 {name}: README.md#build-and-test says who gives you the kit
 {name}: without the kit this works: python3 vectors/reader vectors/*.jsonl
 """
+TRACE_HINT = "`./look ends FILE --trace 1 TRACE` and `./sts run FILE --workers 2 --trace TRACE` write a trace.\n"
 MISPLACED = "{name}: --unproved has to be the first word, as in ./{name} --unproved COMMAND FILE\n"
 # The files that a call reads: which of its FILEs, and which of its options.
 READ = {"plain": (2, []), "replay": (2, []), "view": (2, []), "draw": (2, []), "explain": (2, []), "run": (1, ["--outside"])}
@@ -107,7 +108,8 @@ def missing(command, files, options):
         return None
     lines = "".join(f"\n  {it}" for it in lacks)
     usage = " ".join([command.start, *command.needed, *(it for it in command.files if it.startswith("<"))])
-    return mistaken(f"the following required arguments were not provided:{lines}", usage)
+    answer = mistaken(f"the following required arguments were not provided:{lines}", usage)
+    return answer._replace(told=answer.told + TRACE_HINT) if "<TRACE>" in lacks else answer
 
 
 def unreadable(name, path):

@@ -10,15 +10,15 @@ def versions():
     kit = re.search(r"^proved with rattle-kit-(\w+) logic (\w+)$", text, re.M)
     if f"the Rattle kit {kit[1]}," not in read("README.md"):
         fail("README.md doesn't name the kit of VERSION")
-    said = re.search(r'const VERSION: &str = "(.*?)";', read("crates/look/src/command.rt"), re.S)
+    said = re.search(r'const VERSION: &str = "(.*?)";', read("crates/look_args/src/command.rt"), re.S)
     if re.sub(r"\\\n *", "", said[1]).replace("\\n", "\n") + "\n" != text:
-        fail("crates/look/src/command.rt doesn't say what VERSION says")
+        fail("crates/look_args/src/command.rt doesn't say what VERSION says")
 
 
 def states_of_searches():
     """Fails if help, docs/LOOK.md or docs/PAGE.md name another number of states for a search of ends than `look` and the page have."""
     for path, constant, shown in (
-        ("crates/look/src/asked.rt", r"MOST_STATES: u32", (("crates/look/src/command.rt", "stops when it has N states ({})"), ("docs/LOOK.md", "(default {})"))),
+        ("crates/look_args/src/asked.rt", r"MOST_STATES: u32", (("crates/look_args/src/command.rt", "stops when it has N states ({})"), ("docs/LOOK.md", "(default {})"))),
         ("page/page.js", "STATES_AT_ONCE", (("docs/PAGE.md", "with `--most {}`"),)),
         ("page/page.js", "STATES_ON_REQUEST", (("docs/PAGE.md", "with `--most {}`"),)),
     ):

@@ -94,7 +94,7 @@ class Folder:
 
 # Words that ask for nothing, and what the message says of them.
 MISTAKES = [
-    ("plain text", ["<TRACE>", "Usage"]),
+    ("plain text", ["<TRACE>", "Usage", "./sts run FILE --workers 2 --trace TRACE"]),
     ("replay text", ["<TRACE>", "Usage"]),
     ("verify text trace", ["'trace'", "Usage"]),
     ("play text", ["'play'", "Usage"]),

@@ -1,3 +1,2 @@
 mod Passing
 mod Printing
-mod Refusing

@@ -5,7 +5,7 @@ use Rattle.sts_output.specs.Output.{Output, Writes, file_output}
 use Rattle.sts_output.specs.declared.taking.TakeError.TheVariants.{Read}
 use Rattle.sts_output.specs.Streams.{Written, no_trace, whole}
 use Rattle.look_ends.specs.Listing.{IsListingOf, Listing, ListingWrites}
-use Rattle.look.specs.declared.asked.AskedEnds.{AskedEnds}
+use Rattle.look_args.specs.declared.asked.AskedEnds.{AskedEnds}
 use Rattle.look.specs.Ending.{IsPrinted, listed, without_file}
 
 -- the stream gets the output of the listing, or that the file of the trace failed

@@ -22,11 +22,11 @@ use Rattle.look_lines.specs.View.{IsViewOf}
 use Rattle.look_lines.specs.declared.view.ViewOptions.{ViewOptions}
 use Rattle.look_views.specs.Views.{AreViewsOf}
 use Rattle.look_ends.specs.Listing.{IsListingOf, Listing}
-use Rattle.look.specs.Asked.{Asks, AsksForWords, IsMistaken}
-use Rattle.look.specs.declared.asked.Asked.{Asked}
-use Rattle.look.specs.declared.asked.Asked.TheVariants as asked
-use Rattle.look.specs.declared.asked.AskedEnds.{AskedEnds}
-use Rattle.look.specs.declared.asked.Kept.{Kept}
+use Rattle.look_args.specs.Asked.{Asks, AsksForWords, IsMistaken}
+use Rattle.look_args.specs.declared.asked.Asked.{Asked}
+use Rattle.look_args.specs.declared.asked.Asked.TheVariants as asked
+use Rattle.look_args.specs.declared.asked.AskedEnds.{AskedEnds}
+use Rattle.look_args.specs.declared.asked.Kept.{Kept}
 use Rattle.look.specs.declared.program.Showing.{Showing}
 use Rattle.look.specs.declared.program.Showing.TheVariants as showing
 

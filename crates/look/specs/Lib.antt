@@ -1,5 +1,1 @@
-pub mod Asked
-pub mod AskedDraw
-pub mod AskedEnds
-pub mod Command
 pub mod Ending

@@ -2,13 +2,9 @@
 //! a program.
 #![tactic(auto)]
 
-pub mod asked;
-pub mod command;
 pub mod dashed;
 pub mod program;
-pub mod reading;
 pub mod terminal;
-pub mod window;
 
 use crate::program::start;
 use crate::terminal::Terminal;

@@ -8,9 +8,9 @@ ghost use Rattle.look_refusal.specs.Output.{IsExplanation};
 ghost use Rattle.look_cases.specs.Lines.{IsRepliesTo};
 ghost use Rattle.look.specs.Ending as def;
 
-use crate::asked::{Asked, AskedEnds, AskedView};
 use crate::dashed::Dashed;
-use crate::reading::line;
+use look_args::asked::{Asked, AskedEnds, AskedView};
+use look_args::line;
 use look_cases::write_answers;
 use look_ends::{Progress, write_ends, write_ends_and_trace};
 use look_lines::write_run;

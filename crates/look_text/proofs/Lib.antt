@@ -7,6 +7,7 @@ pub mod LineLemmas
 pub mod NameLemmas
 pub mod NameLineLemmas
 pub mod NearLemmas
+pub mod NearNameLemmas
 pub mod OperandLemmas
 pub mod PlaceLemmas
 pub mod StandLemmas

@@ -62,7 +62,7 @@ stops_at names lines i s small is left some =
 
 -- ---- functions
 
-draft_at : (drafts : List Draft) (f : ℕ) → f < length drafts → (d : Draft) × ((slice_get drafts f ≡ Some d) × (drop f drafts ≡ d ∷ drop (f + 1) drafts))
+pub draft_at : (drafts : List Draft) (f : ℕ) → f < length drafts → (d : Draft) × ((slice_get drafts f ≡ Some d) × (drop f drafts ≡ d ∷ drop (f + 1) drafts))
 draft_at drafts f small = by (slice_get_cases drafts f).1
   where
     both : {a b : ℕ} → a < b → b ≤ a → ⊥

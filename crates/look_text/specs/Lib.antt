@@ -7,6 +7,7 @@ pub mod Labels
 pub mod Lines
 pub mod Names
 pub mod Near
+pub mod NearName
 pub mod Places
 pub mod Sentences
 pub mod Wanted

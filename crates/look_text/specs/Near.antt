@@ -4,6 +4,8 @@ use Rattle.std.specs.Prelude.{nat_le}
 use Rattle.std.specs.Prelude.{if◌then◌else◌, codes, Option, Some, None, find}
 use Rattle.std.specs.Option.{option_or}
 use Rattle.std.specs.Str.{bytes_eq}
+use Rattle.look_text.specs.declared.near.Nearness.{Nearness}
+use Rattle.look_text.specs.declared.near.Nearness.TheVariants as n
 use Rattle.look_text.specs.declared.wanted.Expected.{Expected}
 use Rattle.look_text.specs.declared.wanted.Expected.TheVariants as w
 
@@ -46,6 +48,12 @@ is_same_word (x ∷ xs) (y ∷ ys) = lower x == lower y && is_same_word xs ys
 -- the same word in other case
 abbrev pub is_other_case : List ℕ → List ℕ → Bool
 is_other_case a b = if bytes_eq a b then false else is_same_word a b
+
+-- two words are near in this way
+abbrev pub is_near : Nearness → List ℕ → List ℕ → Bool
+is_near n.OtherCase word = is_other_case word
+is_near n.OneApart word = is_one_apart word
+is_near n.Begins word = begins_other word
 
 -- ---- the words of the language
 

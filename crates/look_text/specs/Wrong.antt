@@ -11,6 +11,7 @@ use Rattle.sts_asm.specs.declared.fault.AsmKind.TheVariants.{NotAscii, UnknownLa
 use Rattle.sts_list.specs.Spelling.{after_spaces}
 use Rattle.look_text.specs.Inside.{is_inside}
 use Rattle.look_text.specs.Near.{java_word, meant}
+use Rattle.look_text.specs.NearName.{near_in}
 use Rattle.look_text.specs.Names.{line_stop, lines_stop, unknown_name}
 use Rattle.look_text.specs.Wanted.{Stop, wrong_place}
 use Rattle.look_text.specs.declared.wanted.Expected.{Expected}
@@ -68,10 +69,11 @@ pub record StopsAt (names : Names) (lines : List Sentence) (s : Sentence) : Type
   pub here : line_stop names s.words ≡ Some stop
   pub first : lines_stop names lines ≡ Some stop
 
--- the line of an unknown name, from the functions of a text, if they were read
-abbrev pub unknown_line : Option Outline → List ℕ
-unknown_line None = []
-unknown_line (Some o) = wrong_line (unknown_name o)
+-- the line of an unknown name, and that of the name that may be meant, from the functions of a text,
+-- if they were read
+abbrev pub unknown_line : List ℕ → Option Outline → List ℕ
+unknown_line text None = []
+unknown_line text (Some o) = wrong_line (unknown_name o) ++ meant_line (near_in text o o.done)
 
 -- the first byte of a byte order mark in UTF-8
 abbrev pub byte_hint : ℕ → ℕ → List ℕ
@@ -109,7 +111,7 @@ form_part kind words = []
 
 -- the wrong word or byte of a fault in its place, if the fault is about one
 abbrev pub place_part : AsmKind → List ℕ → ℕ → List ℕ
-place_part UnknownLabel text line = unknown_line (functions_of text)
+place_part UnknownLabel text line = unknown_line text (functions_of text)
 place_part NotAscii text line = byte_line_of (line_at text line)
 place_part kind text line =
     wrong_line (wrong_place kind (is_inside text line) (words_at text line))

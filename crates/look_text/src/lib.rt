@@ -16,6 +16,7 @@ pub mod laws;
 mod lines;
 pub mod names;
 mod near;
+mod near_name;
 mod sentences;
 pub mod wanted;
 mod wrong;

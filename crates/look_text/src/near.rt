@@ -175,51 +175,51 @@ fn known_words(wanted: Expected) -> &'static [&'static str]
     }
 }
 
-fn same_among(word: &[u8], words: &[&'static str]) -> Option<&'static str>
+/// How two words are near each other.
+#[derive(Clone, Copy, Debug, PartialEq, Eq)]
+pub(crate) enum Nearness {
+    /// They are the same in other case.
+    OtherCase,
+    /// They are one letter apart.
+    OneApart,
+    /// One begins the other.
+    Begins,
+}
+
+/// Are two words near in this way?
+pub(crate) fn is_near(nearness: Nearness, word: &[u8], known: &[u8]) -> bool
+    ensures { result ≡ def.is_near nearness word.now known.now }
+{
+    match nearness {
+        Nearness::OtherCase => is_other_case(word, known),
+        Nearness::OneApart => is_one_apart(word, known),
+        Nearness::Begins => begins_other(word, known),
+    }
+}
+
+/// The first of these words that is near in this way.
+fn near_among(nearness: Nearness, word: &[u8], words: &[&'static str]) -> Option<&'static str>
     ensures { option_map (λ w. w.now) result
-        ≡ find (def.is_other_case word.now) (map (λ w. w.now) words.now) }
+        ≡ find (def.is_near nearness word.now) (map (λ w. w.now) words.now) }
 {
     for known in words {
-        if is_other_case(word, known.as_bytes()) {
+        if is_near(nearness, word, known.as_bytes()) {
             return Some(*known);
         }
     }
     None
 }
 
-fn one_apart_among(word: &[u8], words: &[&'static str]) -> Option<&'static str>
-    ensures { option_map (λ w. w.now) result
-        ≡ find (def.is_one_apart word.now) (map (λ w. w.now) words.now) }
-{
-    for known in words {
-        if is_one_apart(word, known.as_bytes()) {
-            return Some(*known);
-        }
-    }
-    None
-}
-
-fn begun_among(word: &[u8], words: &[&'static str]) -> Option<&'static str>
-    ensures { option_map (λ w. w.now) result
-        ≡ find (def.begins_other word.now) (map (λ w. w.now) words.now) }
-{
-    for known in words {
-        if begins_other(word, known.as_bytes()) {
-            return Some(*known);
-        }
-    }
-    None
-}
-
-/// The first word that is one letter apart, or else the first that begins the other or begins with it.
-fn near_among(word: &[u8], words: &[&'static str]) -> Option<&'static str>
+/// The first word that is one letter apart, or else the first that begins the other or begins with
+/// it.
+fn similar_among(word: &[u8], words: &[&'static str]) -> Option<&'static str>
     ensures { option_map (λ w. w.now) result
         ≡ option_or (find (def.is_one_apart word.now) (map (λ w. w.now) words.now))
         (find (def.begins_other word.now) (map (λ w. w.now) words.now)) }
 {
-    match one_apart_among(word, words) {
+    match near_among(Nearness::OneApart, word, words) {
         Some(known) => Some(known),
-        None => begun_among(word, words),
+        None => near_among(Nearness::Begins, word, words),
     }
 }
 
@@ -228,9 +228,9 @@ pub(crate) fn meant(wanted: Expected, word: &[u8]) -> Option<&'static str>
     ensures { option_map (λ w. w.now) result ≡ def.meant wanted word.now }
 {
     let words = known_words(wanted);
-    match same_among(word, words) {
+    match near_among(Nearness::OtherCase, word, words) {
         Some(known) => Some(known),
-        None => near_among(word, words),
+        None => similar_among(word, words),
     }
 }
 

@@ -10,6 +10,7 @@ ghost use Rattle.look_text.specs.Sentences.{join_form};
 ghost use Rattle.look_text.specs.Names.{line_stop, lines_stop, name_stop, unknown_name};
 ghost use Rattle.look_text.specs.Wanted.{stop, first_wrong, wrong_place};
 ghost use Rattle.look_text.specs.Functions.{functions_of};
+ghost use Rattle.look_text.specs.NearName.{near_in};
 ghost use Rattle.look_text.specs.Wrong as def;
 
 use crate::functions::functions_of;
@@ -17,18 +18,30 @@ use crate::inside::is_inside;
 use crate::lines::say;
 use crate::names::{known, names_nothing, names_some};
 use crate::near::{java_word, meant};
+use crate::near_name::near_in_line;
 use crate::sentences::{join_form, wanted_sentence};
 use crate::wanted::{Expected, in_place_of, operand};
 use std::alloc::{AllocError, Global};
 use sts_asm::{AsmKind, Outline, Sentence, is_allowed, line_at, words_at};
 use sts_text::Words;
 
-fn say_question(out: &mut Vec<u8>, known: &str) -> Result<(), AllocError>
+fn say_question(out: &mut Vec<u8>, known: &[u8]) -> Result<(), AllocError>
     ensures { OnOk result (out.new.items ≡ out.old.items ++ def.meant_line (Some known.now)) }
 {
     say(out, "did you mean ")?;
-    say(out, known)?;
+    out.extend_from_slice(known)?;
     say(out, "?\n")
+}
+
+/// The line of the name that may be meant.
+fn say_near(out: &mut Vec<u8>, name: Option<&[u8]>) -> Result<(), AllocError>
+    ensures { OnOk result (out.new.items
+        ≡ out.old.items ++ def.meant_line (option_map (λ n. n.now) name.entry)) }
+{
+    match name {
+        None => Ok(()),
+        Some(name) => say_question(out, name),
+    }
 }
 
 /// The line of the word that may be meant.
@@ -38,7 +51,7 @@ fn say_meant(out: &mut Vec<u8>, known: Option<&'static str>) -> Result<(), Alloc
 {
     match known {
         None => Ok(()),
-        Some(known) => say_question(out, known),
+        Some(known) => say_question(out, known.as_bytes()),
     }
 }
 
@@ -188,14 +201,36 @@ fn say_unknown(out: &mut Vec<u8>, outline: &Outline<'_>) -> Result<(), AllocErro
     Ok(())
 }
 
-/// The line of a name that there isn't.
+/// The name that may be meant by the first word of a text that names nothing.
+fn near_in<'a>(outline: &Outline<'_>, text: &'a [u8]) -> Option<&'a [u8]>
+    ensures { option_map (λ n. n.now) result
+        ≡ near_in text.now outline.now outline.now.done }
+{
+    for function in 0..outline.function_count() {
+        if let Some(sentence) = line_of_no_name(outline, function) {
+            return near_in_line(outline, function, sentence.words(), text);
+        }
+    }
+    None
+}
+
+/// The line of the first word that names nothing, and that of the name that may be meant.
+fn say_names(out: &mut Vec<u8>, outline: &Outline<'_>, text: &[u8]) -> Result<(), AllocError>
+    ensures { OnOk result (out.new.items
+        ≡ out.old.items ++ def.unknown_line text.now (Some outline.now)) }
+{
+    say_unknown(out, outline)?;
+    say_near(out, near_in(outline, text))
+}
+
+/// The lines of a name that there isn't.
 fn unknown_line(alloc: Global, out: &mut Vec<u8>, text: &[u8]) -> Result<(), AllocError>
     ensures { OnOk result (out.new.items
-        ≡ out.old.items ++ def.unknown_line (functions_of text.now)) }
+        ≡ out.old.items ++ def.unknown_line text.now (functions_of text.now)) }
 {
     match functions_of(alloc, text)? {
         None => Ok(()),
-        Some(outline) => say_unknown(out, &outline),
+        Some(outline) => say_names(out, &outline, text),
     }
 }
 

@@ -117,7 +117,11 @@ fn both<A: Drop, B: Drop>(
 }
 
 /// Adds a subcommand, if both commands were made.
-fn with_subcommand<'a>(
+///
+/// # Errors
+///
+/// Memory ran out, or it had for one of the commands.
+pub fn with_subcommand<'a>(
     command: Result<Command<'a>, AllocError>,
     subcommand: Result<Command<'a>, AllocError>,
 ) -> Result<Command<'a>, AllocError>

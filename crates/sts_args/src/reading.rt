@@ -19,6 +19,19 @@ use sts_text::digits_up_to;
 /// As many workers as may be asked for.
 const MOST_WORKERS: u32 = 16;
 
+/// What follows the message about a trace that is missing.
+const TRACE_HINT: &str =
+    "`./look ends FILE --trace 1 TRACE` and `./sts run FILE --workers 2 --trace TRACE` write a trace.\n";
+
+/// The words of an error. If they say that a trace is missing, where one comes from follows.
+fn words_of(error: &Error, kind: ErrorKind, alloc: Global) -> Result<String, AllocError> {
+    let mut words = error.to_string(alloc)?;
+    if matches!(kind, ErrorKind::MissingRequiredArgument) && words.as_str().contains("<TRACE>") {
+        words.push_str(TRACE_HINT)?;
+    }
+    Ok(words)
+}
+
 /// The message for an error of `clap`.
 pub fn told(error: &Error, alloc: Global) -> LineError
     ensures { TellsKind (kind_of error.now) result }
@@ -27,7 +40,7 @@ pub fn told(error: &Error, alloc: Global) -> LineError
     if matches!(kind, ErrorKind::OutOfMemory) {
         return LineError::Memory;
     }
-    match error.to_string(alloc) {
+    match words_of(error, kind, alloc) {
         Err(_) => LineError::Memory,
         Ok(text) => {
             if matches!(kind, ErrorKind::DisplayHelp) {

@@ -2,7 +2,7 @@ use Rattle.std.proofs.Common.{map, ap, subst}
 use Rattle.std.proofs.KnownBytes.{Keeps-refl}
 use Rattle.std.proofs.lemmas.Result.{IfOk-weaker}
 use Rattle.sts_output.specs.Output.{Output}
-use Rattle.look.specs.Asked.{Refuses}
+use Rattle.look_args.specs.Asked.{Refuses}
 use Rattle.look.specs.Ending as def
 use Rattle.look.proofs.program.run.Goals as goal
 

@@ -5,6 +5,6 @@ use Rattle.look_text.proofs.wrong.say_question.Goals as goal
 
 pub returns : goal.returns
 returns c =
-    on_ok_weaker c.say-3.result
-    (three_said (codes "did you mean ") c.args.known.now (codes "?\n") c.args.out.now.items c.say.new.out.items c.say-2.new.out.items c.say-3.new.out.items
-    c.in_ok-say.ensures c.in_ok-say-2.ensures) c.say-3.ensures
+    on_ok_weaker c.say-2.result
+    (three_said (codes "did you mean ") c.args.known.now (codes "?\n") c.args.out.now.items c.say.new.out.items c.extend_from_slice.new.self.items c.say-2.new.out.items
+    c.in_ok-say.ensures c.in_ok-extend_from_slice.ensures.items) c.say-2.ensures

@@ -4,11 +4,11 @@ ghost use Rattle.std.specs.Prelude.{◌≡◌, IfOk, IfErr, map, option_map, Som
 ghost use Rattle.clap.specs.Words.{all_of, rows_of, found_of, kind_of, subcommand_rows_of};
 ghost use Rattle.clap.specs.declared.error.kind.ErrorKind.TheVariants as kind;
 ghost use Rattle.sts_args.specs.Refused.{BlamesUnless};
-ghost use Rattle.look.specs.Asked.{Asks, IsGiven, IsLineOf, Refuses, TellsKind, is_set, is_whole};
-ghost use Rattle.look.specs.Asked.{view_at, wanted_at};
-ghost use Rattle.look.specs.AskedDraw.{window_at};
-ghost use Rattle.look.specs.AskedEnds.{ends_at, ends_wanted_at, kept_of, kept_words, manner_at};
-ghost use Rattle.look.specs.AskedEnds.{number_at, said_ends};
+ghost use Rattle.look_args.specs.Asked.{Asks, IsGiven, IsLineOf, Refuses, TellsKind, is_set, is_whole};
+ghost use Rattle.look_args.specs.Asked.{view_at, wanted_at};
+ghost use Rattle.look_args.specs.AskedDraw.{window_at};
+ghost use Rattle.look_args.specs.AskedEnds.{ends_at, ends_wanted_at, kept_of, kept_words, manner_at};
+ghost use Rattle.look_args.specs.AskedEnds.{number_at, said_ends};
 
 use crate::asked::{Asked, AskedEnds, AskedView, FIRST_SEED, Kept, MOST_STATES};
 use crate::command::program;

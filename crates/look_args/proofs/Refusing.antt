@@ -6,8 +6,8 @@ use Rattle.clap.specs.declared.error.kind.ErrorKind.TheVariants as kind
 use Rattle.sts_args.specs.declared.asked.LineError.{LineError}
 use Rattle.sts_args.specs.declared.asked.LineError.TheVariants as error
 use Rattle.sts_args.specs.Refused.{BlamesUnless}
-use Rattle.look.specs.Asked.{Refuses, TellsKind, is_whole}
-use Rattle.look.specs.Command.{program}
+use Rattle.look_args.specs.Asked.{Refuses, TellsKind, is_whole}
+use Rattle.look_args.specs.Command.{program}
 
 -- a command with something missing is refused
 pub refuses_blamed : (words : List Text) (e : LineError) → fault_of program words ≡ []

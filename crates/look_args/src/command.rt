@@ -4,11 +4,11 @@ ghost use Rattle.std.specs.Prelude.{◌≡◌, IfOk, codes, false};
 ghost use Rattle.clap.specs.Words.{app_of, rule_of};
 ghost use Rattle.clap.specs.declared.builder.Command.TheViews.{out-Command};
 ghost use Rattle.sts_args.specs.Command.{file_rule, option_rule};
-ghost use Rattle.look.specs.Command as def;
+ghost use Rattle.look_args.specs.Command as def;
 
 use clap::{Arg, ArgAction, Command};
 use std::alloc::{AllocError, Global};
-use sts_args::{on_file, on_trace};
+use sts_args::{on_file, on_trace, with_subcommand};
 
 /// What `--version` prints after the name of the program.
 const VERSION: &str = "1.0.0\n\
@@ -34,31 +34,27 @@ fn view<'a>(alloc: Global) -> Result<Command<'a>, AllocError>
     ensures app { IfOk result (λ c. app_of c ≡ def.view) }
     ensures local { IfOk result (λ c. (out-Command c).has_globals ≡ false) }
 {
-    let each = flag(
-        alloc,
-        "each",
-        "also before the first event and after each one",
-    );
-    let full = flag(
-        alloc,
-        "full",
-        "also the operands, locals and bindings of living tasks, and the ends that joiners got",
-    );
-    let living = flag(
-        alloc,
-        "living",
-        "only the tasks that live and the open scopes, and how many others there are",
-    );
-    let json = flag(alloc, "json", "as lines of JSON, one for each view");
     on_trace(
         alloc,
         "view",
         "Prints the state of every task and scope after a trace, or just before a fault",
     )?
-    .arg(each)?
-    .arg(full)?
-    .arg(living)?
-    .arg(json)
+    .arg(flag(
+        alloc,
+        "each",
+        "also before the first event and after each one",
+    ))?
+    .arg(flag(
+        alloc,
+        "full",
+        "also the operands, locals and bindings of living tasks, and the ends that joiners got",
+    ))?
+    .arg(flag(
+        alloc,
+        "living",
+        "only the tasks that live and the open scopes, and how many others there are",
+    ))?
+    .arg(flag(alloc, "json", "as lines of JSON, one for each view"))
 }
 
 /// A trace that may be left out.
@@ -98,18 +94,17 @@ fn draw<'a>(alloc: Global) -> Result<Command<'a>, AllocError>
     ensures app { IfOk result (λ c. app_of c ≡ def.draw) }
     ensures local { IfOk result (λ c. (out-Command c).has_globals ≡ false) }
 {
-    let events = option(
-        alloc,
-        "events",
-        "A..B",
-        "draws the events from line A to line B of the trace (the last 2000)",
-    );
     on_trace(
         alloc,
         "draw",
         "Prints the run of a trace as an SVG picture, a lane for each task, a column for each event",
     )?
-    .arg(events)
+    .arg(option(
+        alloc,
+        "events",
+        "A..B",
+        "draws the events from line A to line B of the trace (the last 2000)",
+    ))
 }
 
 /// The option that keeps the trace of an end.
@@ -128,24 +123,22 @@ fn ends_by_events<'a>(alloc: Global) -> Result<Command<'a>, AllocError>
     ensures app { IfOk result (λ c. app_of c ≡ def.ends_by_events) }
     ensures local { IfOk result (λ c. (out-Command c).has_globals ≡ false) }
 {
-    let no_expiries = flag(
-        alloc,
-        "no-expiries",
-        "no scope expires; else a scope with a timeout may expire at any time",
-    );
-    let interrupts = option(
-        alloc,
-        "interrupts",
-        "N",
-        "up to N interrupts from outside, of any living task (0)",
-    );
     on_file(
         alloc,
         "ends",
         "Finds every end that a program can come to, over all schedules, with a trace for each",
     )?
-    .arg(no_expiries)?
-    .arg(interrupts)
+    .arg(flag(
+        alloc,
+        "no-expiries",
+        "no scope expires; else a scope with a timeout may expire at any time",
+    ))?
+    .arg(option(
+        alloc,
+        "interrupts",
+        "N",
+        "up to N interrupts from outside, of any living task (0)",
+    ))
 }
 
 /// The command `ends`.
@@ -153,18 +146,15 @@ fn ends<'a>(alloc: Global) -> Result<Command<'a>, AllocError>
     ensures app { IfOk result (λ c. app_of c ≡ def.ends) }
     ensures local { IfOk result (λ c. (out-Command c).has_globals ≡ false) }
 {
-    let most = option(alloc, "most", "N", "stops when it has N states (1000000)");
-    let sample = option(alloc, "sample", "N", "tries N random schedules, not all");
-    let seed = option(
-        alloc,
-        "seed",
-        "S",
-        "a number that fixes the random schedules (1)",
-    );
     ends_by_events(alloc)?
-        .arg(most)?
-        .arg(sample)?
-        .arg(seed)?
+        .arg(option(alloc, "most", "N", "stops when it has N states (1000000)"))?
+        .arg(option(alloc, "sample", "N", "tries N random schedules, not all"))?
+        .arg(option(
+            alloc,
+            "seed",
+            "S",
+            "a number that fixes the random schedules (1)",
+        ))?
         .arg(kept_trace(alloc))
 }
 
@@ -188,6 +178,16 @@ fn cases<'a>(alloc: Global) -> Result<Command<'a>, AllocError>
         .arg(case_file(alloc))
 }
 
+/// The program with no command yet.
+fn bare<'a>(alloc: Global) -> Command<'a>
+    ensures { app_of result ≡ def.bare }
+{
+    Command::new(alloc, "look")
+        .about("Shows runs of structured task scopes, and every end of a program")
+        .version(VERSION)
+        .subcommand_required(true)
+}
+
 /// The whole program.
 ///
 /// # Errors
@@ -196,18 +196,9 @@ fn cases<'a>(alloc: Global) -> Result<Command<'a>, AllocError>
 pub fn program<'a>(alloc: Global) -> Result<Command<'a>, AllocError>
     ensures { IfOk result (λ c. app_of c ≡ def.program) }
 {
-    let view = view(alloc)?;
-    let explain = explain(alloc)?;
-    let draw = draw(alloc)?;
-    let ends = ends(alloc)?;
-    let cases = cases(alloc)?;
-    Command::new(alloc, "look")
-        .about("Shows runs of structured task scopes, and every end of a program")
-        .version(VERSION)
-        .subcommand_required(true)
-        .subcommand(view)?
-        .subcommand(explain)?
-        .subcommand(draw)?
-        .subcommand(ends)?
-        .subcommand(cases)
+    let program = with_subcommand(Ok(bare(alloc)), view(alloc));
+    let program = with_subcommand(program, explain(alloc));
+    let program = with_subcommand(program, draw(alloc));
+    let program = with_subcommand(program, ends(alloc));
+    with_subcommand(program, cases(alloc))
 }

@@ -2,9 +2,9 @@ use Rattle.std.proofs.Common.{map, ap, sym, subst, ◌∙◌}
 use Rattle.std.proofs.lemmas.Result.{IfOk-weaker, IfErr-weaker}
 use Rattle.clap.specs.Words.{App, is_simple, is_simple_and_free, kind_of, HasKind, fault_of, subcommand_of}
 use Rattle.sts_args.specs.Refused.{BlamesUnless}
-use Rattle.look.specs.Asked.{IsLineOf, is_whole}
-use Rattle.look.proofs.Refusing.{refuses_blamed, refuses_told}
-use Rattle.look.proofs.reading.line.Goals as goal
+use Rattle.look_args.specs.Asked.{IsLineOf, is_whole}
+use Rattle.look_args.proofs.Refusing.{refuses_blamed, refuses_told}
+use Rattle.look_args.proofs.reading.line.Goals as goal
 
 pub returns-in-Ok-clause-asked : goal.returns-in-Ok-clause-asked
 returns-in-Ok-clause-asked c =

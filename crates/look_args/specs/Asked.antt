@@ -12,12 +12,12 @@ use Rattle.sts_args.specs.declared.asked.LineError.{LineError}
 use Rattle.sts_args.specs.declared.asked.LineError.TheVariants as error
 use Rattle.look_lines.specs.declared.view.ViewOptions.{ViewOptions}
 use Rattle.look_picture.specs.declared.window.Window.{Window}
-use Rattle.look.specs.declared.asked.Asked.{Asked}
-use Rattle.look.specs.declared.asked.AskedView.{AskedView}
-use Rattle.look.specs.declared.asked.Asked.TheVariants as asked
-use Rattle.look.specs.AskedDraw.{window_at}
-use Rattle.look.specs.AskedEnds.{SaidEnds, ends_at, is_true, said_ends}
-use Rattle.look.specs.Command.{program}
+use Rattle.look_args.specs.declared.asked.Asked.{Asked}
+use Rattle.look_args.specs.declared.asked.AskedView.{AskedView}
+use Rattle.look_args.specs.declared.asked.Asked.TheVariants as asked
+use Rattle.look_args.specs.AskedDraw.{window_at}
+use Rattle.look_args.specs.AskedEnds.{SaidEnds, ends_at, is_true, said_ends}
+use Rattle.look_args.specs.Command.{program}
 
 -- what a line says: the command, its files in order, and the options of `view`, `draw` and `ends`
 pub record Said : Type 0 where

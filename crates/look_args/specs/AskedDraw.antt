@@ -4,7 +4,7 @@ use Rattle.std.specs.Prelude.{None, if◌then◌else◌, codes, option_map, opti
 use Rattle.std.specs.List.{after_first, before_first}
 use Rattle.clap.specs.Words.{Text, Row, first_of}
 use Rattle.look_picture.specs.declared.window.Window.{Window}
-use Rattle.look.specs.AskedEnds.{number}
+use Rattle.look_args.specs.AskedEnds.{number}
 
 abbrev pub is_dot : ℕ → Bool
 is_dot b = b == 46

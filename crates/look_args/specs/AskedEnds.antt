@@ -7,9 +7,9 @@ use Rattle.sts_text.specs.Number.{digits_up_to}
 use Rattle.look_ends.specs.declared.wanted.Manner.{Manner}
 use Rattle.look_ends.specs.declared.wanted.Manner.TheVariants.{All, Sample}
 use Rattle.look_ends.specs.declared.wanted.EndsOptions.{EndsOptions}
-use Rattle.look.specs.declared.asked.AskedEnds.{AskedEnds}
-use Rattle.look.specs.declared.asked.Kept.{Kept}
-use Rattle.look.specs.declared.asked.TheConstants.{FIRST_SEED, MOST_STATES}
+use Rattle.look_args.specs.declared.asked.AskedEnds.{AskedEnds}
+use Rattle.look_args.specs.declared.asked.Kept.{Kept}
+use Rattle.look_args.specs.declared.asked.TheConstants.{FIRST_SEED, MOST_STATES}
 
 -- the number of an end and the name of a file
 abbrev pub KeptWords : Type 0

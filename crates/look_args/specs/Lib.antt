@@ -1,0 +1,4 @@
+pub mod Asked
+pub mod AskedDraw
+pub mod AskedEnds
+pub mod Command
