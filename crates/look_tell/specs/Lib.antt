@@ -1,0 +1,6 @@
+pub mod Deed
+pub mod Line
+pub mod Outcome
+pub mod Story
+pub mod Telling
+pub mod Words

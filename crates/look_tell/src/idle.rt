@@ -1,0 +1,139 @@
+//! The line of an event that doesn't count.
+
+ghost use Rattle.std.specs.Prelude.{◌≡◌, ◌++◌, OnOk};
+ghost use Rattle.sts_plain.specs.Seen.{shown};
+ghost use Rattle.look_tell.specs.Line as def;
+
+use crate::line::say_event_number;
+use crate::story::Story;
+use crate::words::{say_number, say_task};
+use look_names::Names;
+use look_text::say;
+use std::alloc::{AllocError, Global};
+use sts_model::Event;
+use sts_plain::PlainState;
+
+/// Why a task can't step, or why it can't be interrupted.
+fn rest_words(story: &Story<'_>, t: u32) -> &'static str
+    ensures { result.now ≡ def.rest_words story.now t }
+{
+    let records = story.records();
+    if records.lives(t) {
+        " waits"
+    } else if records.has_started(t) {
+        " has ended"
+    } else {
+        " never starts"
+    }
+}
+
+fn has_task(story: &Story<'_>, t: u32) -> bool
+    ensures { result ≡ def.has_task story.now t }
+{
+    (t as usize) < story.records().tasks_born()
+}
+
+fn has_scope(story: &Story<'_>, s: u32) -> bool
+    ensures { result ≡ def.has_scope story.now s }
+{
+    (s as usize) < story.records().scopes_born()
+}
+
+fn say_idle_task(
+    alloc: Global,
+    out: &mut Vec<u8>,
+    names: &Names<'_>,
+    story: &Story<'_>,
+    t: u32,
+) -> Result<(), AllocError>
+    ensures { OnOk result (out.new.items ≡ out.old.items
+        ++ def.idle_task names.now story.now t) }
+{
+    if has_task(story, t) {
+        say_task(alloc, out, names, story, t)?;
+        say(out, rest_words(story, t))
+    } else {
+        say(out, "there is no task ")?;
+        say_number(alloc, out, t)
+    }
+}
+
+fn say_idle_scope(
+    alloc: Global,
+    out: &mut Vec<u8>,
+    story: &Story<'_>,
+    s: u32,
+) -> Result<(), AllocError>
+    ensures { OnOk result (out.new.items ≡ out.old.items ++ def.idle_scope story.now s) }
+{
+    if has_scope(story, s) {
+        say(out, "scope ")?;
+        say_number(alloc, out, s)?;
+        say(out, " can't expire now")
+    } else {
+        say(out, "there is no scope ")?;
+        say_number(alloc, out, s)
+    }
+}
+
+fn say_idle_words(
+    alloc: Global,
+    out: &mut Vec<u8>,
+    names: &Names<'_>,
+    story: &Story<'_>,
+    event: Event,
+) -> Result<(), AllocError>
+    ensures { OnOk result (out.new.items ≡ out.old.items
+        ++ def.idle_words names.now story.now event) }
+{
+    match event {
+        Event::Step(t) => {
+            say(out, "idle: ")?;
+            say_idle_task(alloc, out, names, story, t)
+        }
+        Event::Interrupt(t) => {
+            say(out, "idle interrupt: ")?;
+            say_idle_task(alloc, out, names, story, t)
+        }
+        Event::Expire(s) => {
+            say(out, "idle expiry: ")?;
+            say_idle_scope(alloc, out, story, s)
+        }
+    }
+}
+
+/// What is said of an event that doesn't count. After a fault none counts.
+fn say_idle_by(
+    alloc: Global,
+    out: &mut Vec<u8>,
+    names: &Names<'_>,
+    story: &Story<'_>,
+    event: Event,
+) -> Result<(), AllocError>
+    ensures { OnOk result (out.new.items ≡ out.old.items
+        ++ def.idle_by names.now story.now (shown story.now.watched.state) event) }
+{
+    match story.state() {
+        PlainState::Fault { .. } => say(out, "idle: the run has stopped at its fault"),
+        PlainState::Running | PlainState::Ended(_) => {
+            say_idle_words(alloc, out, names, story, event)
+        }
+    }
+}
+
+/// Appends the line of an event that doesn't count.
+pub(crate) fn say_idle(
+    alloc: Global,
+    out: &mut Vec<u8>,
+    names: &Names<'_>,
+    number: u32,
+    story: &Story<'_>,
+    event: Event,
+) -> Result<(), AllocError>
+    ensures { OnOk result (out.new.items ≡ out.old.items
+        ++ def.idle_line names.now number story.now event) }
+{
+    say_event_number(alloc, out, number)?;
+    say_idle_by(alloc, out, names, story, event)?;
+    say(out, "\n")
+}

@@ -1,0 +1,120 @@
+//! Tells the story of a text's run of a trace.
+
+ghost use Rattle.std.specs.Prelude.{◌≡◌, IfOk, take};
+ghost use Rattle.sts_asm.specs.Text.{judged};
+ghost use Rattle.sts_trace.specs.Reading.{trace_read};
+ghost use Rattle.sts_output.specs.Output as cli;
+ghost use Rattle.look_refusal.specs.Stops.{Prints};
+ghost use Rattle.look_tell.specs.Telling as def;
+
+use crate::ends::say_end_lines;
+use crate::line::{TellOptions, say_events};
+use crate::story::Story;
+use look_names::Names;
+use look_refusal::{ExplainError, Explanation, program_of, write_explained};
+use look_run::trace_fault;
+use std::alloc::{AllocError, Global};
+use std::io::Write;
+use sts_code::Program;
+use sts_model::Event;
+use sts_output::{WriteFailed, state_status};
+use sts_trace::read_trace;
+
+fn status_of(story: &Story<'_>) -> u8
+    ensures { result ≡ def.story_status story.now }
+{
+    if story.has_stopped() {
+        5
+    } else {
+        state_status(story.state())
+    }
+}
+
+/// The first events, up to the last one with lines.
+fn up_to(events: &[Event], last: u32) -> &[Event]
+    ensures { result.now ≡ take last events.now }
+{
+    if events.len() <= last as usize {
+        events
+    } else {
+        &events[..last as usize]
+    }
+}
+
+/// The story of these events.
+fn of_events(
+    alloc: Global,
+    options: TellOptions,
+    names: &Names<'_>,
+    program: &Program,
+    events: &[Event],
+) -> Result<Explanation, AllocError>
+    ensures { IfOk result (λ o. o
+        ≡ def.story_output names.now options program.now events.now) }
+{
+    let mut story = Story::begun(alloc, program)?;
+    let mut bytes = Vec::new(alloc);
+    let told = up_to(events, options.last);
+    say_events(alloc, &mut bytes, names, options, &mut story, told)?;
+    if options.strict {
+        say_end_lines(alloc, &mut bytes, names, &story)?;
+    }
+    Ok(Explanation {
+        bytes,
+        status: status_of(&story),
+    })
+}
+
+/// The story of a program with these lines.
+fn of_trace(
+    alloc: Global,
+    options: TellOptions,
+    names: &Names<'_>,
+    program: &Program,
+    trace: &[u8],
+) -> Result<Explanation, AllocError>
+    ensures { IfOk result (λ o. o ≡ def.traced_output options program.now names.now trace.now
+        (trace_read trace.now)) }
+{
+    match read_trace(alloc, trace) {
+        Ok(events) => of_events(alloc, options, names, program, events.as_slice()),
+        Err(error) => trace_fault(alloc, trace, error),
+    }
+}
+
+fn story_of(
+    alloc: Global,
+    options: TellOptions,
+    text: &[u8],
+    trace: &[u8],
+) -> Result<Explanation, ExplainError>
+    ensures { Prints result (def.Tells options (judged text.now) text.now trace.now) }
+{
+    let program = program_of(alloc, text)?;
+    let names = Names::read(alloc, text)?;
+    let output = of_trace(alloc, options, &names, &program, trace)?;
+    Ok(output)
+}
+
+/// Writes the story of a text's run of a trace, a line for each event that others can notice, and
+/// gives the status that `sts plain` gives. A strict story stops at the first event that doesn't
+/// count, has status 5 then, and ends with the end of each task. A faulty text or trace is reported
+/// as `explain` reports it. It runs refused programs too, since it doesn't verify them.
+///
+/// It takes all its memory before the first byte is written.
+///
+/// # Errors
+///
+/// A write failed.
+pub fn tell<W: Write>(
+    alloc: Global,
+    options: TellOptions,
+    text: &[u8],
+    trace: &[u8],
+    out: &mut W,
+) -> Result<u8, WriteFailed>
+    ensures { IfOk result (λ s. (o : cli.Output) × def.IsStoryOf options text.now trace.now o
+        × cli.Writes (W.contents out.old) (W.contents out.new) s o) }
+{
+    write_explained(story_of(alloc, options, text, trace), out)
+}
