@@ -26,7 +26,7 @@ NO_KIT = """{name}: rt is not installed, or not on PATH: {name} is built by the 
 TRACE_HINT = "`./look ends FILE --trace 1 TRACE` and `./sts run FILE --workers 2 --trace TRACE` write a trace.\n"
 MISPLACED = "{name}: --unproved has to be the first word, as in ./{name} --unproved COMMAND FILE\n"
 # The files that a call reads: which of its FILEs, and which of its options.
-READ = {"plain": (2, []), "replay": (2, []), "view": (2, []), "draw": (2, []), "explain": (2, []), "run": (1, ["--outside"])}
+READ = {"plain": (2, []), "replay": (2, []), "view": (2, []), "draw": (2, []), "tell": (2, []), "explain": (2, []), "run": (1, ["--outside"])}
 
 # What is said of a call: its status, standard output and standard error.
 Answer = collections.namedtuple("Answer", "status printed told", defaults=("", ""))

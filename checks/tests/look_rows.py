@@ -2,6 +2,7 @@
 
 The files `.rows` have the notation of the tables in crates/tests_rows/data, with these questions:
 - `? explain` asks for the explanation of the text above; `? explain TRACE` for that of its run;
+- `? tell [FROM..TO] [--each] [--strict] TRACE` asks for the story of its run;
 - `? view [--each] [--full] [--living] [--json] TRACE` and `? draw [--events A..B] TRACE` ask for what these commands print, and
   `? ends OPTIONS` for the ends.
 A TRACE is short (`0*5`), or `trace LINES`. A remark `# ---- GROUP` begins a group, and one above a text is the row's name.

@@ -8,12 +8,15 @@
   with `--full` and without;
 - `view --living` is `view` without the tasks that have ended or never started and without the scopes that are closed, and
   says how many these are, also with `--full` and `--each`;
+- `tell --each` of each example has a line for each event, and says of those that are idle in `view --each`, and of no other,
+  that they are. Without `--each` it has some of these lines. With `--strict` its status is 5 if an event is idle. LOOK.md
+  shows one of these stories;
 - `draw` of each example is well formed, and has the same bytes a second time. It has the status and the heading of
   `plain`, a lane for each task, and a column for each event that `view --each` shows;
 - `draw --events` of the first half of an example's events is `draw` of these events, but says which others there are. Of
   the other half it has the columns that the whole picture has;
 - the stored pictures are what `draw` prints;
-- `view`, `explain` and `draw` of a run of 65,536 tasks are right, and so is `explain` of the largest text that is accepted and
+- `view`, `explain`, `tell` and `draw` of a run of 65,536 tasks are right, and so is `explain` of the largest text that is accepted and
   of one with 64 functions that is refused for its budget (`large_of_look`).
 With a PART, which is `large_of_look`, only that is tried. The last line is `N passed, M failed`, of comparisons.
 """
@@ -90,6 +93,33 @@ def example(look, sts, folder, text):
             yield f"{name} after {count}, living", says(look, "view", text, path, "--living", *words) == (status, only_living(printed))
             if not words:
                 yield f"{name} after {count}, by lines", says(look, "explain", text, path) == (status, by_lines(source, printed))
+
+
+def story(look, text):
+    """Yields whether the stories of an example have a line for each event, and name those that are idle."""
+    name, trace = os.path.basename(text), text[:-4] + ".trace"
+    status, printed = says(look, "tell", text, trace, "--each")
+    told = [line.split(" ", 1) for line in printed.splitlines()]
+    heads = parts(says(look, "view", text, trace, "--each")[1])[1]
+    idle = [str(number) for number, head in enumerate(heads, 1) if head.endswith(" idle\n")]
+    yield f"each event of {name} told", list(dict.fromkeys(number for number, _ in told)) == [*map(str, range(1, len(heads) + 1))]
+    yield f"idle events of {name} told", [number for number, words in told if words.startswith("idle")] == idle
+    yield f"the status of {name} told", status == says(look, "view", text, trace)[0]
+    brief = says(look, "tell", text, trace)
+    left = iter(printed.splitlines())
+    yield f"{name} told in brief", brief[0] == status and all(line in left for line in brief[1].splitlines())
+    strict, lines = says(look, "tell", text, trace, "--strict")
+    yield f"{name} told strictly", strict == (5 if idle else status) and bool(idle or lines.startswith(brief[1]))
+
+
+def stories(look):
+    """Yields whether LOOK.md shows a story."""
+    page = STORY.findall(read("docs/LOOK.md"))
+    yield "LOOK.md shows a story", page != []
+    for name, block, ends in page:
+        files = [os.path.join(ROOT, "examples", f"{name}.{it}") for it in ("sts", "trace")]
+        yield f"the story of {name} in LOOK.md", says(look, "tell", *files)[1] == dedented(block)
+        yield f"the ends of {name} in LOOK.md", says(look, "tell", *files, "--strict")[1] == dedented(block + ends)
 
 
 def of_class(picture, name):
@@ -173,6 +203,10 @@ def large_of_look(look, folder):
     subtasks = "".join(f"task {it} under 0 in kid at 2 success 0\n" for it in range(1, 65_536))
     viewed = f"success 65535\nsteps 262191\ntask 0 under - in main at 11 success 65535\n{subtasks}scope 0 of 0 all closed cancelled\n"
     yield "the view of 65,536 tasks", says(look, "view", text, trace) == (0, viewed)
+    status, printed = says(look, "tell", text, trace)
+    ended = [line.split(" ", 1)[1] for line in printed.splitlines() if ": ret, " in line]
+    told = [f"task {it}, kid, line 3: ret, success 0; the joiner of scope 0 is told" for it in range(1, 65_536)]
+    yield "65,536 tasks told", status == 0 and ended == [*told, "task 0, main, line 16: ret, success 65535"]
     yield "65,536 tasks explained", says(look, "explain", text, trace) == (0, "success 65535\n")
     status, printed = says(look, "draw", text, trace)
     title = "success 65535\n steps 262191\n (events 1 to 260191 left out)\n"
@@ -204,6 +238,7 @@ def tried(look, sts):
         for text in sorted(glob.glob(os.path.join(ROOT, "examples", "*.sts"))):
             yield from example(look, sts, folder, text)
             yield from drawing(look, sts, folder, text)
+            yield from story(look, text)
         yield from large_of_look(look, folder)
     yield "the stored pictures", list(drawn.stale(look)) == []
 

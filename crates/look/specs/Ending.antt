@@ -17,6 +17,7 @@ use Rattle.look_cases.specs.Lines.{IsRepliesTo}
 use Rattle.look_picture.specs.Picture.{IsPictureOf}
 use Rattle.look_refusal.specs.Output.{IsExplanation}
 use Rattle.look_run.specs.Output.{IsRunExplanation}
+use Rattle.look_tell.specs.Telling.{IsStoryOf}
 use Rattle.look_traces.specs.Short.{full_trace}
 use Rattle.look_lines.specs.View.{IsViewOf}
 use Rattle.look_lines.specs.declared.view.ViewOptions.{ViewOptions}
@@ -79,6 +80,7 @@ abbrev pub Shows : Showing → List ℕ → List ℕ → Output → Type 0
 Shows (showing.View view) = IsViewed view.json view.wanted
 Shows showing.Run = IsRunExplanation
 Shows (showing.Picture window) = IsPictureOf window
+Shows (showing.Story options) = IsStoryOf options
 
 -- what is shown of a text and a trace, which may be in the short form, or that memory ran out
 abbrev pub ShowsInFull : Showing → List ℕ → List ℕ → Output → Type 0
@@ -97,6 +99,8 @@ IsShown (asked.View file trace view) files same o =
 IsShown (asked.Explain file trace) files same o = IsExplained files (files file.now) trace o
 IsShown (asked.Draw file trace window) files same o =
     IsOfTexts (ShowsInFull (showing.Picture window)) (files file.now) (files trace.now) o
+IsShown (asked.Tell file trace tell) files same o =
+    IsOfTexts (ShowsInFull (showing.Story tell)) (files file.now) (files trace.now) o
 IsShown (asked.Ends file ends) files same o =
     IsOfEnds ends (Spares same file.now ends.kept) (files file.now) o
 IsShown (asked.Cases file) files same o = IsOfStream IsRepliesTo (files file.now) o

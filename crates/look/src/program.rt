@@ -17,6 +17,7 @@ use look_lines::write_run;
 use look_picture::{Picture, Window};
 use look_refusal::explain;
 use look_run::explain_run;
+use look_tell::{TellOptions, tell};
 use look_traces::in_full;
 use look_views::JsonViews;
 use std::alloc::Global;
@@ -38,13 +39,14 @@ enum Showing {
     View(AskedView),
     Run,
     Picture(Option<Window>),
+    Story(TellOptions),
 }
 
 impl Showing {
     /// Notes where the text or the trace has its fault, if the output doesn't say it.
     fn note(self, status: u8, text: Named<'_>, trace: Named<'_>, notes: &mut Notes) {
         match self {
-            Showing::Run => {}
+            Showing::Run | Showing::Story(_) => {}
             Showing::View(_) | Showing::Picture(_) => notes.status(
                 status,
                 text,
@@ -90,6 +92,7 @@ fn show<W: Write>(
         Showing::View(view) => show_view(alloc, view, text, trace, out),
         Showing::Run => explain_run(alloc, text, trace, out),
         Showing::Picture(window) => write_run(alloc, &Picture { window }, text, trace, out),
+        Showing::Story(options) => tell(alloc, options, text, trace, out),
     }
 }
 
@@ -301,6 +304,15 @@ fn on_line<S: Sources + Sinks, P: Progress, W: Write>(
             alloc,
             &*sources,
             Showing::Picture(window),
+            file,
+            trace,
+            out,
+            notes,
+        ),
+        Asked::Tell { file, trace, tell } => on_texts(
+            alloc,
+            &*sources,
+            Showing::Story(tell),
             file,
             trace,
             out,

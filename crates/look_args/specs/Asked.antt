@@ -12,19 +12,23 @@ use Rattle.sts_args.specs.declared.asked.LineError.{LineError}
 use Rattle.sts_args.specs.declared.asked.LineError.TheVariants as error
 use Rattle.look_lines.specs.declared.view.ViewOptions.{ViewOptions}
 use Rattle.look_picture.specs.declared.window.Window.{Window}
+use Rattle.look_tell.specs.declared.line.TellOptions.{TellOptions}
 use Rattle.look_args.specs.declared.asked.Asked.{Asked}
 use Rattle.look_args.specs.declared.asked.AskedView.{AskedView}
 use Rattle.look_args.specs.declared.asked.Asked.TheVariants as asked
 use Rattle.look_args.specs.AskedDraw.{window_at}
 use Rattle.look_args.specs.AskedEnds.{SaidEnds, ends_at, is_true, said_ends}
+use Rattle.look_args.specs.AskedTell.{tell_at}
 use Rattle.look_args.specs.Command.{program}
 
--- what a line says: the command, its files in order, and the options of `view`, `draw` and `ends`
+-- what a line says: the command, its files in order, and the options of `view`, `draw`, `tell` and
+-- `ends`
 pub record Said : Type 0 where
   pub name : Text
   pub files : List Text
   pub view : Option AskedView
   pub draw : Option (Option Window)
+  pub tell : Option TellOptions
   pub ends : Option SaidEnds
 
 -- the file that is named, if one is
@@ -38,6 +42,7 @@ said (asked.View file trace view) = record {
   files = file.now ∷ trace.now ∷ [];
   view = Some view;
   draw = None;
+  tell = None;
   ends = None;
 }
 said (asked.Explain file trace) = record {
@@ -45,6 +50,7 @@ said (asked.Explain file trace) = record {
   files = file.now ∷ named trace;
   view = None;
   draw = None;
+  tell = None;
   ends = None;
 }
 said (asked.Draw file trace window) = record {
@@ -52,6 +58,15 @@ said (asked.Draw file trace window) = record {
   files = file.now ∷ trace.now ∷ [];
   view = None;
   draw = Some window;
+  tell = None;
+  ends = None;
+}
+said (asked.Tell file trace tell) = record {
+  name = codes "tell";
+  files = file.now ∷ trace.now ∷ [];
+  view = None;
+  draw = None;
+  tell = Some tell;
   ends = None;
 }
 said (asked.Ends file ends) = record {
@@ -59,6 +74,7 @@ said (asked.Ends file ends) = record {
   files = file.now ∷ [];
   view = None;
   draw = None;
+  tell = None;
   ends = Some (said_ends ends);
 }
 said (asked.Cases file) = record {
@@ -66,6 +82,7 @@ said (asked.Cases file) = record {
   files = file.now ∷ [];
   view = None;
   draw = None;
+  tell = None;
   ends = None;
 }
 
@@ -88,12 +105,15 @@ is_view name = bytes_eq name (codes "view")
 abbrev pub is_draw : Text → Bool
 is_draw name = bytes_eq name (codes "draw")
 
+abbrev pub is_tell : Text → Bool
+is_tell name = bytes_eq name (codes "tell")
+
 abbrev pub is_ends : Text → Bool
 is_ends name = bytes_eq name (codes "ends")
 
 -- does a command need a trace?
 abbrev pub wants_trace : Text → Bool
-wants_trace name = is_view name || is_draw name
+wants_trace name = is_view name || (is_draw name || is_tell name)
 
 -- does a command take one file alone?
 abbrev pub takes_one : Text → Bool
@@ -114,6 +134,7 @@ given (name, rows) = record {
   files = files_at name rows;
   view = if is_view name then Some (view_at rows) else None;
   draw = if is_draw name then window_at rows else None;
+  tell = if is_tell name then tell_at rows else None;
   ends = if is_ends name then ends_at rows else None;
 }
 
@@ -147,13 +168,17 @@ has_numbers name rows = if is_ends name then is_some (ends_at rows) else true
 abbrev pub has_window : Text → List Row → Bool
 has_window name rows = if is_draw name then is_some (window_at rows) else true
 
+-- the events of `tell` have numbers
+abbrev pub has_events : Text → List Row → Bool
+has_events name rows = if is_tell name then is_some (tell_at rows) else true
+
 -- the words name a command of the program, all files that it has to be given, and the numbers that
 -- its options need
 abbrev pub is_whole : Option (Text × List Row) → Bool
 is_whole None = false
 is_whole (Some (name, rows)) = is_command name
     && (list_all (λ id. is_some (first_of id rows)) (ids_of name)
-    && (has_window name rows && has_numbers name rows))
+    && (has_window name rows && (has_events name rows && has_numbers name rows)))
 
 -- the message for an error of `clap` of this kind: the words of help or of the version, or a mistake
 abbrev pub TellsKind : ErrorKind → LineError → Type 0

@@ -24,6 +24,12 @@ abbrev pub draw : App
 draw = with_rule (with_rule (with_rule (new_app (codes "draw")) file_rule) trace_rule)
     (option_rule (codes "events"))
 
+-- a number in its place among the words, which may be left out
+abbrev pub tell : App
+tell = with_rule (with_rule (with_rule (with_rule (with_rule (with_rule (new_app (codes "tell"))
+    file_rule) trace_rule) (new_rule (codes "FROM"))) (new_rule (codes "TO")))
+    (flag_rule (codes "each"))) (flag_rule (codes "strict"))
+
 -- the number and the file of a trace that is kept
 abbrev pub kept_rule : Rule
 kept_rule = record (new_rule (codes "trace")) { long = Some (codes "trace"); value_names = 2 }
@@ -50,4 +56,4 @@ bare = required (versioned (new_app (codes "look")))
 abbrev pub program : App
 program =
     with_subcommand (with_subcommand (with_subcommand (with_subcommand (with_subcommand
-    bare view.top) explain.top) draw.top) ends.top) cases.top
+    (with_subcommand bare view.top) explain.top) draw.top) tell.top) ends.top) cases.top

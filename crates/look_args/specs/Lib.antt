@@ -1,4 +1,5 @@
 pub mod Asked
 pub mod AskedDraw
 pub mod AskedEnds
+pub mod AskedTell
 pub mod Command

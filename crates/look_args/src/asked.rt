@@ -3,12 +3,19 @@
 use look_ends::EndsOptions;
 use look_lines::ViewOptions;
 use look_picture::Window;
+use look_tell::TellOptions;
 
 /// How many states a search keeps if the command line names no other number.
 pub const MOST_STATES: u32 = 1_000_000;
 
 /// The seed of random schedules if no other one is asked for.
 pub const FIRST_SEED: u32 = 1;
+
+/// The first event that `tell` tells if the command line names no other one.
+pub const FIRST_EVENT: u32 = 1;
+
+/// The last event that `tell` may tell.
+pub const LAST_EVENT: u32 = 4_294_967_295;
 
 /// The end whose trace is kept, by its number, and the file that gets the trace.
 #[derive(Clone, Copy, Debug)]
@@ -55,6 +62,12 @@ pub enum Asked<'a> {
         file: &'a str,
         trace: &'a str,
         window: Option<Window>,
+    },
+    /// The story of a run.
+    Tell {
+        file: &'a str,
+        trace: &'a str,
+        tell: TellOptions,
     },
     /// Every end that a program can come to.
     Ends {

@@ -1,7 +1,7 @@
 //! The commands that the program knows, as `clap` gets them.
 
 ghost use Rattle.std.specs.Prelude.{◌≡◌, IfOk, codes, false};
-ghost use Rattle.clap.specs.Words.{app_of, rule_of};
+ghost use Rattle.clap.specs.Words.{app_of, new_rule, rule_of};
 ghost use Rattle.clap.specs.declared.builder.Command.TheViews.{out-Command};
 ghost use Rattle.sts_args.specs.Command.{file_rule, option_rule};
 ghost use Rattle.look_args.specs.Command as def;
@@ -118,6 +118,38 @@ fn kept_trace<'a>(alloc: Global) -> Arg<'a>
         .help("writes the trace of the end with number K to the file TRACE")
 }
 
+/// A number that may be left out, in its place among the words.
+fn maybe_number<'a>(alloc: Global, name: &'a str, help: &'a str) -> Arg<'a>
+    ensures rule { rule_of result ≡ new_rule name.entry.now }
+    ensures local { result.global ≡ false }
+{
+    Arg::new(alloc, name).help(help)
+}
+
+/// The command `tell`.
+fn tell<'a>(alloc: Global) -> Result<Command<'a>, AllocError>
+    ensures app { IfOk result (λ c. app_of c ≡ def.tell) }
+    ensures local { IfOk result (λ c. (out-Command c).has_globals ≡ false) }
+{
+    let first = maybe_number(alloc, "FROM", "the first event that is told (1)");
+    let last = maybe_number(alloc, "TO", "the last event that is told; the run ends there");
+    let each = flag(alloc, "each", "also the steps that no other task can notice");
+    let strict = flag(
+        alloc,
+        "strict",
+        "stops at the first event that does nothing, with status 5, and ends with the end of each task",
+    );
+    on_trace(
+        alloc,
+        "tell",
+        "Tells the run of a trace: a line for each event, with the line of the text and what it did",
+    )?
+    .arg(first)?
+    .arg(last)?
+    .arg(each)?
+    .arg(strict)
+}
+
 /// The command `ends` with the options that say which events may come.
 fn ends_by_events<'a>(alloc: Global) -> Result<Command<'a>, AllocError>
     ensures app { IfOk result (λ c. app_of c ≡ def.ends_by_events) }
@@ -199,6 +231,7 @@ pub fn program<'a>(alloc: Global) -> Result<Command<'a>, AllocError>
     let program = with_subcommand(Ok(bare(alloc)), view(alloc));
     let program = with_subcommand(program, explain(alloc));
     let program = with_subcommand(program, draw(alloc));
+    let program = with_subcommand(program, tell(alloc));
     let program = with_subcommand(program, ends(alloc));
     with_subcommand(program, cases(alloc))
 }

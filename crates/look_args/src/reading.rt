@@ -9,8 +9,11 @@ ghost use Rattle.look_args.specs.Asked.{view_at, wanted_at};
 ghost use Rattle.look_args.specs.AskedDraw.{window_at};
 ghost use Rattle.look_args.specs.AskedEnds.{ends_at, ends_wanted_at, kept_of, kept_words, manner_at};
 ghost use Rattle.look_args.specs.AskedEnds.{number_at, said_ends};
+ghost use Rattle.look_args.specs.AskedTell.{tell_at};
 
-use crate::asked::{Asked, AskedEnds, AskedView, FIRST_SEED, Kept, MOST_STATES};
+use crate::asked::{
+    Asked, AskedEnds, AskedView, FIRST_EVENT, FIRST_SEED, Kept, LAST_EVENT, MOST_STATES,
+};
 use crate::command::program;
 use crate::window::window_of;
 use clap::error::ErrorKind;
@@ -18,6 +21,7 @@ use clap::{ArgMatches, Error};
 use look_ends::{EndsOptions, Manner};
 use look_lines::ViewOptions;
 use look_picture::Window;
+use look_tell::TellOptions;
 use std::alloc::{AllocError, Global};
 use sts_args::{LineError, text_of, told, trace_of, unknown};
 use sts_text::digits_up_to;
@@ -29,6 +33,10 @@ const NO_NUMBER: &str =
 /// The error for a window that isn't written as one.
 const NO_WINDOW: &str =
     "error: `--events` takes A..B, from line A to line B of the trace: numbers from 1 to 4294967295, B not below A\n\nFor more information, try '--help'.\n";
+
+/// The error for an event of `tell` that is no number.
+const NO_EVENT: &str =
+    "error: FROM and TO of `tell` are numbers of events, from 0 to 4294967295\n\nFor more information, try '--help'.\n";
 
 /// The words of the version, which were asked for.
 fn version(error: &Error, alloc: Global) -> LineError
@@ -110,6 +118,12 @@ fn asked_of<'a>(
                     }),
                     None => Err(usage(alloc, NO_WINDOW)),
                 }
+            } else if name == "tell" {
+                let trace = trace_of(alloc, inner)?;
+                match asked_tell(inner) {
+                    Some(tell) => Ok(Asked::Tell { file, trace, tell }),
+                    None => Err(usage(alloc, NO_EVENT)),
+                }
             } else if name == "ends" {
                 match asked_ends(inner) {
                     Some(ends) => Ok(Asked::Ends { file, ends }),
@@ -173,6 +187,20 @@ fn number_of(inner: &ArgMatches<'_>, id: &str, otherwise: u32) -> Option<u32>
         None => Some(otherwise),
         Some(text) => digits_up_to(text.as_bytes(), u32::MAX),
     }
+}
+
+/// What `tell` is asked for; nothing if an event has no number.
+fn asked_tell(inner: &ArgMatches<'_>) -> Option<TellOptions>
+    ensures { result ≡ tell_at (rows_of (found_of inner.now)) }
+{
+    let first = number_of(inner, "FROM", FIRST_EVENT)?;
+    let last = number_of(inner, "TO", LAST_EVENT)?;
+    Some(TellOptions {
+        each: is_set(inner, "each"),
+        strict: is_set(inner, "strict"),
+        first,
+        last,
+    })
 }
 
 /// All schedules, or this number of random ones.

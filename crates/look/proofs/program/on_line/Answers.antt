@@ -9,6 +9,9 @@ returns-in-Explain g c = rw c.in-Explain.is c.on_explain.ensures
 pub returns-in-Draw : goal.returns-in-Draw
 returns-in-Draw g c = rw c.in-Draw.is c.on_texts-in-Draw.ensures
 
+pub returns-in-Tell : goal.returns-in-Tell
+returns-in-Tell g c = rw c.in-Tell.is c.on_texts-in-Tell.ensures
+
 pub returns-in-Cases : goal.returns-in-Cases
 returns-in-Cases g c = rw c.in-Cases.is c.on_cases.ensures
 
