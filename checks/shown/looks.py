@@ -1,5 +1,5 @@
 """What docs/LOOK.md shows: what `view` and `explain` print for a beginning of a trace, what `explain` prints for a text or an
-example, and the title of a window that `draw` shows."""
+example, the title of a window that `draw` shows, and the story that `tell` prints."""
 import os
 import re
 import tempfile
@@ -15,6 +15,7 @@ TOLD = re.compile(r"This is printed after the first (\d+) events of \[(\w+)\].*?
 TITLED = re.compile(r"For the (\d+) events of \[(\w+)\]\S*, `--events (\S+)` gives this title:\n\n((?:    .*\n)+)")
 EXPLAINED = re.compile(r"\n\n((?:    .*\n)+)\n`explain` prints:\n\n((?:    .*\n)+)")
 EXAMPLE = re.compile(r"`\./look explain (examples/\S+)` prints:\n\n((?:    .*\n)+)")
+STORY = re.compile(r"This is the trace of \[(\w+)\]\S*:\n\n((?:    .*\n)+)(?:.*\n)+?.*comes a line for each task:\n\n((?:    .*\n)+)")
 SVG = "{http://www.w3.org/2000/svg}"
 
 
@@ -62,9 +63,20 @@ def explained(look, folder):
         yield f"{name} in LOOK.md", says(look, "explain", os.path.join(ROOT, name))[1] == dedented(block)
 
 
+def stories(look):
+    """Yields whether LOOK.md shows a story."""
+    page = STORY.findall(read("docs/LOOK.md"))
+    yield "LOOK.md shows a story", page != []
+    for name, block, ends in page:
+        files = [os.path.join(ROOT, "examples", f"{name}.{it}") for it in ("sts", "trace")]
+        yield f"the story of {name} in LOOK.md", says(look, "tell", *files)[1] == dedented(block)
+        yield f"the ends of {name} in LOOK.md", says(look, "tell", *files, "--strict")[1] == dedented(block + ends)
+
+
 def shown(sts, look):
     """Yields what is compared, and whether it is as it is shown."""
     with tempfile.TemporaryDirectory() as folder:
         yield from of_runs(look, folder)
         yield from explained(look, folder)
         yield from titled(look)
+        yield from stories(look)

@@ -49,8 +49,8 @@ def tables():
         for row in notation.table(path):
             words, trace = row.asked.split(), None
             if words[0] != "ends":
-                asked = re.fullmatch(r"(explain|view|draw)((?: --\w+(?: \d+\.\.\d+)?)*)(?: (.*))?", row.asked)
-                words, trace = [asked[1], *asked[2].split()], None if asked[3] is None else notation.trace(asked[3])
+                asked = re.fullmatch(r"(explain|view|draw|tell(?: \d+\.\.\d+)?)((?: --\w+(?: \d+\.\.\d+)?)*)(?: (.*))?", row.asked)
+                words, trace = [*asked[1].replace("..", " ").split(), *asked[2].split()], None if asked[3] is None else notation.trace(asked[3])
             status, printed = notation.answer(row)
             yield f"{os.path.basename(path)} line {row.number}", row.group, row.name, notation.whole(row.text), words, trace, status, printed or b""
 

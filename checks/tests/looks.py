@@ -9,8 +9,7 @@
 - `view --living` is `view` without the tasks that have ended or never started and without the scopes that are closed, and
   says how many these are, also with `--full` and `--each`;
 - `tell --each` of each example has a line for each event, and says of those that are idle in `view --each`, and of no other,
-  that they are. Without `--each` it has some of these lines. With `--strict` its status is 5 if an event is idle. LOOK.md
-  shows one of these stories;
+  that they are. Without `--each` it has some of these lines. With `--strict` its status is 5 if an event is idle;
 - `draw` of each example is well formed, and has the same bytes a second time. It has the status and the heading of
   `plain`, a lane for each task, and a column for each event that `view --each` shows;
 - `draw --events` of the first half of an example's events is `draw` of these events, but says which others there are. Of
@@ -110,16 +109,6 @@ def story(look, text):
     yield f"{name} told in brief", brief[0] == status and all(line in left for line in brief[1].splitlines())
     strict, lines = says(look, "tell", text, trace, "--strict")
     yield f"{name} told strictly", strict == (5 if idle else status) and bool(idle or lines.startswith(brief[1]))
-
-
-def stories(look):
-    """Yields whether LOOK.md shows a story."""
-    page = STORY.findall(read("docs/LOOK.md"))
-    yield "LOOK.md shows a story", page != []
-    for name, block, ends in page:
-        files = [os.path.join(ROOT, "examples", f"{name}.{it}") for it in ("sts", "trace")]
-        yield f"the story of {name} in LOOK.md", says(look, "tell", *files)[1] == dedented(block)
-        yield f"the ends of {name} in LOOK.md", says(look, "tell", *files, "--strict")[1] == dedented(block + ends)
 
 
 def of_class(picture, name):
