@@ -132,8 +132,16 @@ fn tell<'a>(alloc: Global) -> Result<Command<'a>, AllocError>
     ensures local { IfOk result (λ c. (out-Command c).has_globals ≡ false) }
 {
     let first = maybe_number(alloc, "FROM", "the first event that is told (1)");
-    let last = maybe_number(alloc, "TO", "the last event that is told; the run ends there");
-    let each = flag(alloc, "each", "also the steps that no other task can notice");
+    let last = maybe_number(
+        alloc,
+        "TO",
+        "the last event that is told; the run ends there",
+    );
+    let each = flag(
+        alloc,
+        "each",
+        "also the steps that no other task can notice",
+    );
     let strict = flag(
         alloc,
         "strict",

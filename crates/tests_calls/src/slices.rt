@@ -4,9 +4,10 @@ ghost use Rattle.std.specs.Prelude.{IfSome};
 
 use crate::outsides::{Open, Weather};
 use crate::paths::{PATHS, ending};
-use crate::texts::{LOOPS, MANY_ROWS, SHORT_THEN_LONG, accepted};
+use crate::texts::{LATE, LOOPS, MANY_ROWS, SHORT_THEN_LONG, accepted};
 use std::sync::atomic::{AtomicU64, Ordering};
 use std::test::Fail;
+use std::time::CpuClock;
 use sts_model::{End, Event};
 use sts_pool::{Gate, Outside};
 
@@ -183,6 +184,88 @@ fn all_slices_of_a_batch_come_back(rt: HostRuntime) -> Result<(), Fail> {
             assert_eq!(rt; ended.end, End::Success(64), "{workers} workers, {path:?}");
             assert_eq!(rt; ended.steps, 774_790, "{workers} workers, {path:?}");
         }
+    }
+    Ok(())
+}
+
+/// Adds up the processor time that the only worker uses between a question of the outside and the
+/// gate behind it, and between the gate and the next question. In nanoseconds.
+#[derive(Drop)]
+struct Meter<'r, R> {
+    rt: &'r R,
+    last: AtomicU64,
+    has_entered: AtomicU64,
+    before: AtomicU64,
+    behind: AtomicU64,
+}
+
+impl<'r, R: CpuClock> Meter<'r, R> {
+    fn new(rt: &'r R) -> Meter<'r, R> {
+        Meter {
+            rt,
+            last: AtomicU64::new(0),
+            has_entered: AtomicU64::new(0),
+            before: AtomicU64::new(0),
+            behind: AtomicU64::new(0),
+        }
+    }
+
+    /// The time that has passed since the last call.
+    fn passed(&self) -> u64 {
+        let now = self.rt.thread_cpu_time().map_or(0, |time| {
+            let nanos = u64::from(time.subsec_nanos());
+            time.as_secs()
+                .saturating_mul(1_000_000_000)
+                .saturating_add(nanos)
+        });
+        now.saturating_sub(self.last.swap(now, Ordering::SeqCst))
+    }
+}
+
+impl<R: CpuClock> Gate for Meter<'_, R> {
+    fn enter(&self, _worker: u32, _task: u32) {
+        self.before.fetch_add(self.passed(), Ordering::SeqCst);
+        self.has_entered.store(1, Ordering::SeqCst);
+    }
+}
+
+/// Gives no event, and notes the time behind the gate.
+#[derive(Drop)]
+struct Questions<'m, 'r, R> {
+    meter: &'m Meter<'r, R>,
+}
+
+impl<R: CpuClock> Outside for Questions<'_, '_, R> {
+    ghost use Rattle.std.specs.Prelude.{⊤};
+
+    // (any answer: the tests look at what comes of it)
+    ghost gives = { λ before entries answer after. ⊤ };
+
+    fn next(&mut self, _journal_length: u64) -> Option<Event> {
+        let passed = self.meter.passed();
+        if self.meter.has_entered.swap(0, Ordering::SeqCst) == 1 {
+            self.meter.behind.fetch_add(passed, Ordering::SeqCst);
+        }
+        None
+    }
+}
+
+/// A worker passes the gate before it works on a slice. Only its time shows that: nearly all of it
+/// passes between the gate and the next question.
+#[test]
+fn the_gate_is_before_a_slice(rt: HostRuntime) -> Result<(), Fail> {
+    let verified = accepted(rt.alloc(), LATE)?;
+    for path in PATHS {
+        let meter = Meter::new(&rt);
+        let questions = Questions { meter: &meter };
+        let ended = ending(&rt, rt.alloc(), path, &verified, 1, &meter, questions)?;
+        assert_eq!(rt; ended.end, End::Success(1), "{path:?}");
+        let before = meter.before.load(Ordering::SeqCst);
+        let behind = meter.behind.load(Ordering::SeqCst);
+        assert!(rt;
+            before < behind / 2,
+            "{before} ns before, {behind} ns behind, {path:?}"
+        );
     }
     Ok(())
 }
