@@ -287,10 +287,17 @@ def all_calls(page, programs):
         yield from same_ends(page, programs, f"odd text {number}", text)
 
 
+def is_utf_8(content):
+    try:
+        return content.decode() is not None
+    except UnicodeDecodeError:
+        return False
+
+
 def rows():
-    """Yields the text, the explanation and the status of each row of explanations of texts."""
+    """Yields the text, the explanation and the status of each row of explanations of texts that the page's field can hold."""
     for _, _, _, text, words, events, status, printed in look_rows.tables():
-        if words == ["explain"] and events is None:
+        if words == ["explain"] and events is None and is_utf_8(text):
             yield text.decode(), printed.decode(), status
 
 
