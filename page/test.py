@@ -533,7 +533,9 @@ def place_kept(page, programs):
 
 def legends(page):
     """Yields whether the words and marks are explained as docs/LOOK.md explains them, once they are opened."""
-    tables = re.findall(r"^(\| (?:Line|Drawn|Printed) \|.*\n)\|.*\n((?:\|.*\n)+)", read(LOOK_PAGE), re.M)
+    sections = re.findall("<!-- legend: ([^,>]*)(?:,.*)? -->", read(os.path.join(HERE, "index.html")))
+    shown_there = "".join(re.search(f"^## {re.escape(it)}\n.*?(?=^## |\\Z)", read(LOOK_PAGE), re.M | re.S)[0] for it in sections)
+    tables = re.findall(r"^(\| (?:Line|Drawn|Printed) \|.*\n)\|.*\n((?:\|.*\n)+)", shown_there, re.M)
     lines = [line for head, body in tables for line in [head.strip(), *body.splitlines()]]
     wanted = [[it.strip().replace("`", "") for it in line.strip("|").split("|")] for line in lines]
     shown = page.each(".legend tr", "[...it.children].map((cell) => cell.textContent)")

@@ -45,9 +45,17 @@ class Program:
             yield self.answer("list", expected[1]), expected
 
 
+def file_of(name):
+    """Returns the path of a table: the name of one of crates/tests_rows/data, or a path."""
+    for path in (f"{notation.DATA}/{name.removesuffix('.rows')}.rows", name):
+        if os.path.isfile(path):
+            return path
+    raise SystemExit(f"rows: there is no table {name}: crates/tests_rows/data has the tables")
+
+
 def main():
     [path], names = programs.taken(sys.argv[1:], "sts")
-    names = names or [f"{notation.DATA}/{it}" for it in notation.tables()]
+    names = [file_of(it) for it in names or notation.tables()]
     compared = wrong = 0
     with tempfile.TemporaryDirectory() as folder:
         program = Program(path, folder)
