@@ -177,10 +177,30 @@ def words_of_look(look):
     ends = (["--most"], ["--most", "x"], ["--interrupts", "4294967296"], ["--trace", "1"], ["--trace", "x", "made"], ["trace"])
     yield from mistaken(look, [["ends"], ["cases"], *(["ends", "text", *it] for it in ends)])
     yield from windows(look)
+    yield from stories(look)
     yield "no trace is made", look.names(), ["text", "trace"]
     yield from helped(look, COMMANDS_OF_LOOK, is_printed=True)
     for words in (["--version"], ["-V"]):
         yield f"{words}", look.says(*words), (0, f"look {of_repository('VERSION')}", "")
+
+
+# What is no number of an event. Then FROM and TO for a run of two steps, which ends at TO: its status, and whether event 2 has a line.
+NO_EVENTS = ["x", "", "-1", "+1", " 1", "1..2", "4294967296", "18446744073709551617"]
+EVENTS = [([], 0, True), (["0"], 0, True), (["2"], 0, True), (["02"], 0, True), (["3"], 0, False), (["4294967295"], 0, False), (["1", "1"], 5, False),
+          (["1", "0"], 5, False), (["1", "2"], 0, True), (["0", "4294967295"], 0, True)]
+
+
+def stories(look):
+    """Tries the events that `tell` takes, and words that it doesn't take."""
+    for words in NO_EVENTS:
+        for given in ([words], ["1", words]):
+            said = look.names_all(["tell", *(["--"] if words.startswith("-") else []), "text", "trace", *given], ["FROM and TO of `tell` are numbers of events"])
+            yield f"tell {given}", said, (2, "", [])
+    look.has(text=SEVEN, trace="step 0\nstep 0\n")
+    for given, status, has_line in EVENTS:
+        line = "2 task 0, main, line 3: ret, success 7\n" if has_line else ""
+        yield f"tell {given}", look.says("tell", "text", "trace", *given), (status, line, "")
+    yield from mistaken(look, [["tell"], ["tell", "text"], ["tell", "text", "trace", "1", "2", "3"], ["tell", "text", "trace", "--eech"]])
 
 
 # Events that can't be drawn, and some that can, with the words of the title that say which of two are left out.
