@@ -211,9 +211,25 @@ function run() {
   const viewed = calls.view(text, trace(), { each: true, full: element("full").checked });
   hasRun = !HAS_NO_RUN.includes(viewed.status);
   drawn = hasRun ? calls.draw(text, trace()).text : "";
+  shareRun();
   parts = partsOf(viewed.text, hasRun ? "before the first event" : "");
   element("course-words").textContent = viewed.text;
   show();
+}
+
+// ---- what goes out of the page
+
+// A link that carries the text and the trace, and the picture as files.
+function shareRun() {
+  element("link").href = linkTo(element("text").value, trace());
+  element("save-svg").href = hasRun ? svgAddress(drawn) : "";
+  element("saving").hidden = !hasRun;
+}
+
+function savePng() {
+  pngOf(drawn).then((blob) => save("run.png", URL.createObjectURL(blob)), (error) => {
+    element("verdict").textContent = `the page failed: ${error.message}`;
+  });
 }
 
 // ---- the whole page
@@ -244,6 +260,25 @@ function choose() {
   change();
 }
 
+// Takes the text and the trace that the address carries, if it does.
+function takeLink() {
+  const given = linked(location.hash);
+  if (given === null) {
+    return false;
+  }
+  element("text").value = given.text;
+  element("trace").value = given.trace;
+  place = linesOf(trace()).length;
+  change();
+  return true;
+}
+
+function start() {
+  if (!takeLink()) {
+    choose();
+  }
+}
+
 function connect() {
   element("example").append(...EXAMPLES.map((example) => new Option(example.name)));
   element("example").onchange = guarded(choose);
@@ -251,6 +286,8 @@ function connect() {
   element("text").onblur = guarded(revealMark);
   element("trace").oninput = guarded(run);
   element("full").onchange = guarded(run);
+  element("save-png").onclick = guarded(savePng);
+  window.onhashchange = guarded(takeLink);
   element("more").textContent = `Search ${STATES_ON_REQUEST} states`;
   element("more").onclick = guarded(() => findEnds(STATES_ON_REQUEST));
   element("first").onclick = guarded(() => move(0));
@@ -266,7 +303,7 @@ async function begin() {
   }
   calls = await Calls.load(MODULE);
   connect();
-  guarded(choose)();
+  guarded(start)();
   document.body.dataset.ready = "yes";
 }
 

@@ -84,3 +84,16 @@ function listed(listing) {
     return { line, at: isInstruction ? `${name} ${place++}` : null };
   });
 }
+
+// ---- links
+
+// An address that carries a text and a trace, for this page.
+function linkTo(text, trace) {
+  return `#${new URLSearchParams({ text, trace })}`;
+}
+
+// The text and the trace that an address carries, or null if it carries no text.
+function linked(hash) {
+  const given = new URLSearchParams(hash.slice(1));
+  return given.has("text") ? { text: given.get("text"), trace: given.get("trace") ?? "" } : null;
+}

@@ -14,6 +14,7 @@
   scopes after each event;
 - the page does the same with texts and traces with faults, and with runs that fault. It passes a trace on as it is written,
   except for the last newline. It keeps the place over faults;
+- a link carries the text and the trace, and the picture is saved as SVG and PNG;
 - the words and marks are explained as docs/LOOK.md does; the keyboard plays; every control has a name for screen readers.
 
 Pictures of the page, light and dark, are left in page/out. The last line is `N passed, M failed`, of comparisons; where no
@@ -549,6 +550,25 @@ def legends(page):
     page.each(".legend", "it.open = false")
 
 
+def taken_along(page):
+    """Yields whether a link carries the text and the trace, and whether the picture can be saved."""
+    text, trace = "func main 0\npush 1 ; a & b = \"c\" #1+1\nret\nend\n", "step 0\nstep 0\n"
+    page.write("text", text)
+    page.write("trace", trace)
+    address = page.chromium.value("element('link').getAttribute('href')")
+    page.choose(0)
+    page.chromium.value(f"location.hash = {json.dumps(address)}, new Promise((done) => setTimeout(done, 100))")
+    yield "the text of a link", page.written("text") == text
+    yield "the trace of a link", page.written("trace") == trace
+    yield "the run of a link", page.shown().startswith("success 1\n")
+    saved = "decodeURIComponent(element('save-svg').getAttribute('href').replace(/^[^,]*,/, ''))"
+    yield "the picture as SVG", page.chromium.value(saved) == page.drawn()
+    yield "the picture as PNG", page.chromium.value("pngOf(drawn).then((it) => it.type)") == "image/png"
+    yield "its size", page.chromium.value("pngOf(drawn).then(createImageBitmap).then((it) => it.width)") == 960
+    page.write("trace", "step x\n")
+    yield "no picture, no file", page.chromium.value("element('saving').checkVisibility()") is False
+
+
 def mouse(page):
     """Yields whether a number next to the listing and a column can be reached by the mouse."""
     page.choose(NAMES.index("failure_stops_siblings.sts"))
@@ -617,6 +637,7 @@ def tried(path, programs):
         yield from in_view(page)
         yield from place_kept(page, programs)
         yield from legends(page)
+        yield from taken_along(page)
         yield from mouse(page)
         yield from keyboard(page)
         yield from names(page)
