@@ -78,7 +78,7 @@ class Programs:
         """Returns the words of each task after the trace, and which scopes have expired."""
         tasks, expired = {}, set()
         for line in self.says(self.look, "view", self.bare(text), trace)[1].splitlines():
-            if m := re.match(r"task (\d+) under \S+ in \S+ at \d+ (.*?)( interrupted)?$", line):
+            if m := re.match(r"task (\d+) under \S+ in \S+ at \d+, (?:(?:after )?line \d+|its end) (.*?)( interrupted)?$", line):
                 tasks[int(m[1])] = m[2]
             elif m := re.match(r"scope (\d+) .* expired", line):
                 expired.add(int(m[1]))

@@ -19,7 +19,7 @@ from checks.documents import relied
 from checks.documents.causes import pairs
 from checks.documents.pages import STATUS, read, shown_commands
 from checks.programs import ROOT, kept
-from checks.tests.places import place_words
+from checks.tests.places import place_words, with_lines, without_lines
 
 SECONDS = 600
 VERIFIER, LANGUAGE = "docs/VERIFIER.md", "docs/LANGUAGE.md"
@@ -151,7 +151,7 @@ def run_right(look, case, file, steps, viewed):
     status, explained = says(look, "explain", file, steps)
     by_rules = STATUS[ends[0].split(" ")[0]]
     return [
-        (f"view {case.code}, by the rules", viewed[0] == by_rules and viewed[1].split("\n")[:2] == ends),
+        (f"view {case.code}, by the rules", viewed[0] == by_rules and without_lines(viewed[1]).split("\n")[:2] == ends and viewed[1] == with_lines(case.text.decode(), without_lines(viewed[1]))),
         (f"explain {case.code} with its trace", status == by_rules and explained.split("\n")[0] == told),
     ]
 
@@ -174,7 +174,7 @@ def looked_at(look, sts, folder, case):
         (f"explain {case.code}, its status", explained[0] == told[0]),
         (f"explain {case.code}, its code", case.code.split(" ")[0] in explained[1].split("\n")[0].replace(",", "").split(" ")),
         (f"{case.code} is what sts prints", case.code in told[1]),
-        (f"view {case.code}", viewed[0] == plain[0] and viewed[1].startswith(plain[1])),
+        (f"view {case.code}", viewed[0] == plain[0] and without_lines(viewed[1]).startswith(plain[1])),
         (f"draw {case.code}", drawn[0] == begun[0] and (is_picture(drawn[1]) if begun[0] in (0, 1, 5) else drawn == viewed)),
     ]
     return right + (run_right(look, case, file, steps, viewed) if case.code in RUNS else [])

@@ -160,9 +160,9 @@ def of_repository(path):
 def words_of_look(look):
     """Tries the words of `look`."""
     look.has(text=SEVEN, trace="step 0\n")
-    last = "running\nsteps 1\ntask 0 under - in main at 1 ready\n"
+    last = "running\nsteps 1\ntask 0 under - in main at 1, line 3 ready\n"
     full = f"{last}  operands 7\n  locals\n  bound\n"
-    first = "running\nsteps 0\ntask 0 under - in main at 0 ready\n"
+    first = "running\nsteps 0\ntask 0 under - in main at 0, line 2 ready\n"
     each = f"{first}after 1 step 0\n{last}"
     both = f"{first}  operands\n  locals\n  bound\nafter 1 step 0\n{full}"
     none = "not shown: 0 tasks that don't live, 0 closed scopes\n"
@@ -294,11 +294,11 @@ def names_of_look(look):
         look.has(text=POPS, trace="", **{name: SEVEN})
         yield f"explain {name!r}", look.says("explain", name), (0, "accepted\n", "")
         look.add({"seven": SEVEN, name: TWICE})
-        ended = "success 7\nsteps 2\ntask 0 under - in main at 2 success 7\n"
+        ended = "success 7\nsteps 2\ntask 0 under - in main at 2, after line 3 success 7\n"
         yield f"view with {name!r}", look.says("view", "seven", name), (0, ended, "")
         yield f"explain with {name!r}", look.says("explain", "seven", name), (0, "success 7\n", "")
         status, printed, told = look.says("draw", "seven", name)
-        yield f"draw with {name!r}", (status, ended in printed, told), (0, True, "")
+        yield f"draw with {name!r}", (status, ended.replace(", after line 3", "") in printed, told), (0, True, "")
         look.has(text=POPS, trace="kept\n", **{name: SEVEN})
         made = f"{name[:200]}.trace "
         yield f"ends of {name!r}", look.says("ends", name, "--trace", "1", made), (0, ENDS, "")
@@ -308,15 +308,15 @@ def names_of_look(look):
 
 # A text, a trace, and what `view` prints of them, with its status
 VIEWS = [
-    (SEVEN, TWICE, "success 7\nsteps 2\ntask 0 under - in main at 2 success 7\n", 0),
-    (FAILS, TWICE, "failed 8\nsteps 2\ntask 0 under - in main at 2 failed 8\n", 1),
-    (SEVEN, "", "running\nsteps 0\ntask 0 under - in main at 0 ready\n", 5),
-    (POPS, TWICE, "fault Operand task 0 in main at 0\nsteps 1\ntask 0 under - in main at 0 ready\n", 5),
+    (SEVEN, TWICE, "success 7\nsteps 2\ntask 0 under - in main at 2, after line 3 success 7\n", 0),
+    (FAILS, TWICE, "failed 8\nsteps 2\ntask 0 under - in main at 2, after line 3 failed 8\n", 1),
+    (SEVEN, "", "running\nsteps 0\ntask 0 under - in main at 0, line 2 ready\n", 5),
+    (POPS, TWICE, "fault Operand task 0 in main at 0, line 2\nsteps 1\ntask 0 under - in main at 0, line 2 ready\n", 5),
     (SEVEN, "step 0\nstep", "error T3\n", 3),
     (SEVEN, "step 0\nstep 01\n", "error T2 line 2\n", 3),
     ("func main 0\npuhs 7\nret\nend\n", "step\n", "error A2 line 2\n", 3),
     # a task that has ended isn't interrupted
-    (OWNER, ENDED, "running\nsteps 4\ntask 0 under - in main at 2 ready\ntask 1 under 0 in kid at 2 success 4\nscope 0 of 0 any opened cancelled\n", 5),
+    (OWNER, ENDED, "running\nsteps 4\ntask 0 under - in main at 2, line 8 ready\ntask 1 under 0 in kid at 2, after line 3 success 4\nscope 0 of 0 any opened cancelled\n", 5),
 ]
 # A text, what `explain` prints first, and the status
 EXPLAINED = [

@@ -1,7 +1,8 @@
 """Runs the built program `look` over the examples.  [LOOK [STS]|--unproved] [PART]
 
 - `explain` of each example says that it is accepted, and where it relies on a rule that JDK 25 doesn't share;
-- `view` of each beginning of each example's trace begins with what `plain` of `sts` prints, with its status;
+- `view` of each beginning of each example's trace begins with what `plain` of `sts` prints, with its status, and names the
+  line of the text at each place;
 - `explain` of each of these says the state of the run, with that status. For each task that lives in `view`, and for no
   other, it says the line of its place, and which living subtasks it waits for;
 - `view --each` of the whole trace is `view` of each beginning in turn, after a line `after N EVENT` for each event,
@@ -31,12 +32,12 @@ from checks.documents import relied
 from checks.documents.pages import dedented, read
 from checks.programs import ROOT, says
 from checks.tests.edges import WIDE
-from checks.tests.places import beginnings, place_words
+from checks.tests.places import beginnings, place_words, with_lines, without_lines
 
 sys.path.insert(0, os.path.join(ROOT, "docs", "pictures"))
 import drawn  # noqa: E402
 
-LIVING = re.compile(r"task (\d+) under (\S+) in (\S+) at (\d+) (ready|waits (?:join|close) (\d+))(?: interrupted)?")
+LIVING = re.compile(r"task (\d+) under (\S+) in (\S+) at (\d+), (?:line \d+|its end) (ready|waits (?:join|close) (\d+))(?: interrupted)?")
 CLOSED = re.compile(r"scope .* closed(?: timed)?(?: cancelled)?(?: expired)?")
 SVG = "{http://www.w3.org/2000/svg}"
 
@@ -89,6 +90,7 @@ def example(look, sts, folder, text):
             ended, plain = says(sts, "plain", text, path)
             yield f"{name} after {count}", status == ended and printed.startswith(plain)
             yield f"{name} after {count}, each", each[count:count + 1] == [printed]
+            yield f"{name} after {count}, its lines", printed == with_lines(source, without_lines(printed))
             yield f"{name} after {count}, living", says(look, "view", text, path, "--living", *words) == (status, only_living(printed))
             if not words:
                 yield f"{name} after {count}, by lines", says(look, "explain", text, path) == (status, by_lines(source, printed))
@@ -132,7 +134,7 @@ def drawing(look, sts, folder, text):
     title, described = (picture.find(SVG + it).text for it in ("title", "desc"))
     yield f"{name} drawn, status", status == ended
     yield f"{name} drawn, title", title.split() == plain.split()
-    yield f"{name} drawn, description", described == last
+    yield f"{name} drawn, description", described == without_lines(last)
     yield f"{name} drawn, lanes", len(of_class(picture, "name")) == len(re.findall("^task ", last, flags=re.M))
     yield f"{name} drawn, columns", len(of_class(picture, "number")) == len(heads)
     idle = [it for it in of_class(picture, "number") if "idle" in it.get("class")]
@@ -189,8 +191,9 @@ def large_of_look(look, folder):
 
     write(text, WIDE)
     write(trace, wide_trace())
-    subtasks = "".join(f"task {it} under 0 in kid at 2 success 0\n" for it in range(1, 65_536))
-    viewed = f"success 65535\nsteps 262191\ntask 0 under - in main at 11 success 65535\n{subtasks}scope 0 of 0 all closed cancelled\n"
+    subtasks = "".join(f"task {it} under 0 in kid at 2, after line 3 success 0\n" for it in range(1, 65_536))
+    root = "task 0 under - in main at 11, after line 16 success 65535"
+    viewed = f"success 65535\nsteps 262191\n{root}\n{subtasks}scope 0 of 0 all closed cancelled\n"
     yield "the view of 65,536 tasks", says(look, "view", text, trace) == (0, viewed)
     status, printed = says(look, "tell", text, trace)
     ended = [line.split(" ", 1)[1] for line in printed.splitlines() if ": ret, " in line]
@@ -199,7 +202,7 @@ def large_of_look(look, folder):
     yield "65,536 tasks explained", says(look, "explain", text, trace) == (0, "success 65535\n")
     status, printed = says(look, "draw", text, trace)
     title = "success 65535\n steps 262191\n (events 1 to 260191 left out)\n"
-    yield "65,536 tasks drawn", status == 0 and f"<title>{title}</title>" in printed and f"<desc>{viewed}</desc>" in printed
+    yield "65,536 tasks drawn", status == 0 and f"<title>{title}</title>" in printed and f"<desc>{without_lines(viewed)}</desc>" in printed
     yield "65,536 lanes", len(re.findall(r"<text class='name'", printed)) == 65_536
     yield "2,000 columns", re.findall(r"<text class='number'[^>]*>.*?</title>(\d+)<", printed) == [*map(str, range(260_192, 262_192))]
     # 64 functions of 4,096 instructions, and a comment up to the last byte that a text may have

@@ -122,28 +122,28 @@ ENDS = {
 }
 # What `look` says after these events of "a timeout". Its subtask is at its `ret` when the time is up.
 SEEN = "0*2 1*1 x0"
-EXPIRED = "task 1 under 0 in kid at 1 ready interrupted"
+EXPIRED = "task 1 under 0 in kid at 1, line 3 ready interrupted"
 SCOPE = "scope 0 of 0 awaitall opened timed"
 VIEWS = [
-    ([], f"running / steps 3 / task 0 under - in main at 2 ready / {EXPIRED} / {SCOPE} cancelled expired"),
+    ([], f"running / steps 3 / task 0 under - in main at 2, line 8 ready / {EXPIRED} / {SCOPE} cancelled expired"),
     (
         ["--full"],
-        "running / steps 3 / task 0 under - in main at 2 ready /   operands /   locals /   bound / "
+        "running / steps 3 / task 0 under - in main at 2, line 8 ready /   operands /   locals /   bound / "
         f"{EXPIRED} /   operands 0 /   locals /   bound / {SCOPE} cancelled expired",
     ),
     (
         ["--each"],
-        "running / steps 0 / task 0 under - in main at 0 ready / "
-        f"after 1 step 0 / running / steps 1 / task 0 under - in main at 1 ready / {SCOPE} may-expire / "
-        "after 2 step 0 / running / steps 2 / task 0 under - in main at 2 waits join 0 / task 1 under 0 in kid at 0 ready / "
+        "running / steps 0 / task 0 under - in main at 0, line 6 ready / "
+        f"after 1 step 0 / running / steps 1 / task 0 under - in main at 1, line 7 ready / {SCOPE} may-expire / "
+        "after 2 step 0 / running / steps 2 / task 0 under - in main at 2, line 8 waits join 0 / task 1 under 0 in kid at 0, line 2 ready / "
         f"{SCOPE} may-expire / "
-        "after 3 step 1 / running / steps 3 / task 0 under - in main at 2 waits join 0 / task 1 under 0 in kid at 1 ready / "
+        "after 3 step 1 / running / steps 3 / task 0 under - in main at 2, line 8 waits join 0 / task 1 under 0 in kid at 1, line 3 ready / "
         f"{SCOPE} may-expire / "
-        f"after 4 expire 0 / running / steps 3 / task 0 under - in main at 2 ready / {EXPIRED} / {SCOPE} cancelled expired",
+        f"after 4 expire 0 / running / steps 3 / task 0 under - in main at 2, line 8 ready / {EXPIRED} / {SCOPE} cancelled expired",
     ),
     (
         ["--living"],
-        f"running / steps 3 / task 0 under - in main at 2 ready / {EXPIRED} / {SCOPE} cancelled expired / "
+        f"running / steps 3 / task 0 under - in main at 2, line 8 ready / {EXPIRED} / {SCOPE} cancelled expired / "
         "not shown: 0 tasks that don't live, 0 closed scopes",
     ),
 ]

@@ -1,5 +1,6 @@
 """How `look` names a place of a program, and the beginnings of a trace. Several checks use them."""
 import os
+import re
 
 
 def beginnings(folder, events):
@@ -28,3 +29,25 @@ def place_words(source, name, pc):
     """Returns how a place of a function is named by a line of the text."""
     lines = instructions(source)[name]
     return f"{name}, line {lines[pc][0]}: {lines[pc][1]}" if pc < len(lines) else f"{name}, at its end"
+
+
+def at_line(source, name, pc):
+    """Returns how `view` names the line of the instruction at a place of a function."""
+    lines = instructions(source)[name]
+    return f"line {lines[pc][0]}" if pc < len(lines) else "its end"
+
+
+def with_lines(source, viewed):
+    """Returns what `view` prints of a text without names, from the same without the lines of the text."""
+    def placed(found):
+        _, name, place, words = found.groups()
+        if words.split(" ")[1:2] in (["success"], ["failed"], ["unheard"]):
+            return f"{found[1]} in {name} at {place}, after {at_line(source, name, int(place) - 1)}{words}"
+        return f"{found[1]} in {name} at {place}, {at_line(source, name, int(place))}{words}"
+
+    return re.sub(r"^(task \d+ under \S+|fault \w+ task \d+) in (\S+) at (\d+)(.*)$", placed, viewed, flags=re.M)
+
+
+def without_lines(viewed):
+    """Returns what `view` prints of a text without names, without the lines of the text."""
+    return re.sub(r"^((?:task|fault) .* at \d+), (?:(?:after )?line \d+|its end)", r"\1", viewed, flags=re.M)

@@ -19,8 +19,8 @@ use Rattle.look_refusal.specs.Output.{IsExplanation}
 use Rattle.look_run.specs.Output.{IsRunExplanation}
 use Rattle.look_tell.specs.Telling.{IsStoryOf}
 use Rattle.look_traces.specs.Short.{full_trace}
-use Rattle.look_lines.specs.View.{IsViewOf}
 use Rattle.look_lines.specs.declared.view.ViewOptions.{ViewOptions}
+use Rattle.look_view.specs.View.{IsNamedViewOf}
 use Rattle.look_views.specs.Views.{AreViewsOf}
 use Rattle.look_ends.specs.Listing.{IsListingOf, Listing}
 use Rattle.look_args.specs.Asked.{Asks, AsksForWords, IsMistaken}
@@ -73,7 +73,7 @@ IsOfEnds ends spares file o = IsOfText (IsPrinted ends spares) file o
 -- the views of a run, as lines of JSON or not
 abbrev pub IsViewed : Bool → ViewOptions → List ℕ → List ℕ → Output → Type 0
 IsViewed true = AreViewsOf
-IsViewed false = IsViewOf
+IsViewed false = IsNamedViewOf
 
 -- what is shown of a text and a trace
 abbrev pub Shows : Showing → List ℕ → List ℕ → Output → Type 0

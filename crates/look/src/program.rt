@@ -19,6 +19,7 @@ use look_refusal::explain;
 use look_run::explain_run;
 use look_tell::{TellOptions, tell};
 use look_traces::in_full;
+use look_view::write_view;
 use look_views::JsonViews;
 use std::alloc::Global;
 use std::io::{Input, Write};
@@ -74,7 +75,7 @@ fn show_view<W: Write>(
         };
         write_run(alloc, &views, text, trace, out)
     } else {
-        write_run(alloc, &view.wanted, text, trace, out)
+        write_view(alloc, view.wanted, text, trace, out)
     }
 }
 

@@ -1,0 +1,4 @@
+pub mod Named
+pub mod Scopes
+pub mod Tasks
+pub mod View

@@ -1,0 +1,45 @@
+//! How many tasks don't live, and how many scopes are closed.
+
+ghost use Rattle.std.specs.Prelude.{◌≡◌, ◌++◌, OnOk};
+ghost use Rattle.std.specs.String.{string_bytes};
+ghost use Rattle.look_lines.specs.Lines as def;
+
+use look_lines::{ViewOptions, closed, resting};
+use std::alloc::AllocError;
+use std::fmt::Write;
+use sts_world::Records;
+
+/// The word for one, or that for none or several.
+fn counted_word(n: usize, one: &'static str, several: &'static str) -> &'static str
+    ensures { result.now ≡ def.counted_word n one.now several.now }
+{
+    if n == 1 { one } else { several }
+}
+
+fn others_line(out: &mut String, tasks: usize, scopes: usize) -> Result<(), AllocError>
+    ensures { OnOk result (string_bytes out.new
+        ≡ string_bytes out.old ++ def.others_line tasks scopes) }
+{
+    let after_tasks = counted_word(tasks, " task that doesn't live", " tasks that don't live");
+    let after_scopes = counted_word(scopes, " closed scope", " closed scopes");
+    writeln!(
+        out,
+        "not shown: {tasks}{after_tasks}, {scopes}{after_scopes}"
+    )
+}
+
+/// How many tasks don't live, and how many scopes are closed, if those have no line.
+pub(crate) fn others(
+    out: &mut String,
+    wanted: ViewOptions,
+    records: &Records,
+) -> Result<(), AllocError>
+    ensures { OnOk result (string_bytes out.new
+        ≡ string_bytes out.old ++ def.others wanted records.now) }
+{
+    if wanted.living {
+        others_line(out, resting(records), closed(records))
+    } else {
+        Ok(())
+    }
+}

@@ -1,0 +1,104 @@
+//! The lines of the scopes, with the names of a text.
+
+ghost use Rattle.std.specs.Prelude.{◌≡◌, ◌++◌, OnOk};
+ghost use Rattle.std.specs.String.{string_bytes};
+ghost use Rattle.sts_model.specs.World as model;
+ghost use Rattle.look_lines.specs.Lines as plain;
+ghost use Rattle.look_view.specs.Scopes as def;
+
+use crate::tasks::{end_words, ended_by};
+use look_lines::{ViewOptions, phase_word, scope_place};
+use look_names::Names;
+use std::alloc::AllocError;
+use std::fmt::Write;
+use sts_model::Completion;
+use sts_world::Records;
+
+/// Writes a word if `holds` is true.
+fn only_if(out: &mut String, holds: bool, word: &str) -> Result<(), AllocError>
+    ensures { OnOk result (string_bytes out.new
+        ≡ string_bytes out.old ++ plain.only_if holds word.now) }
+{
+    if holds { write!(out, "{word}") } else { Ok(()) }
+}
+
+/// The phase of a scope, and its marks.
+fn scope_marks(out: &mut String, records: &Records, s: u32) -> Result<(), AllocError>
+    ensures { OnOk result (string_bytes out.new
+        ≡ string_bytes out.old ++ plain.scope_marks (model.scope_at records.now s)) }
+{
+    let phase = phase_word(records.phase(s));
+    write!(out, " {phase}")?;
+    only_if(out, records.is_timed(s), " timed")?;
+    only_if(out, records.is_cancelled(s), " cancelled")?;
+    only_if(out, records.is_expired(s), " expired")?;
+    ended_by(out, records.can_expire(s), " may-expire")
+}
+
+/// `told T success V` or `told T failed C`
+fn told_line(out: &mut String, names: &Names<'_>, told: Completion) -> Result<(), AllocError>
+    ensures { OnOk result (string_bytes out.new
+        ≡ string_bytes out.old ++ def.told_line names.now told) }
+{
+    let t = told.task;
+    write!(out, "  told {t}")?;
+    end_words(out, names, Some(told.end))?;
+    writeln!(out)
+}
+
+/// The ends that a joiner was told of.
+fn told_lines(
+    out: &mut String,
+    names: &Names<'_>,
+    completions: &[Completion],
+) -> Result<(), AllocError>
+    ensures { OnOk result (string_bytes out.new
+        ≡ string_bytes out.old ++ def.told_lines names.now completions.now) }
+{
+    for told in completions {
+        told_line(out, names, *told)?;
+    }
+    Ok(())
+}
+
+/// The lines of a scope that is wanted. In full they show all ends that the joiner counted.
+fn scope_block(
+    out: &mut String,
+    names: &Names<'_>,
+    wanted: ViewOptions,
+    records: &Records,
+    s: u32,
+) -> Result<(), AllocError>
+    ensures { OnOk result (string_bytes out.new ≡ string_bytes out.old ++ def.scope_block
+        names.now wanted s (model.scope_at records.now s)) }
+{
+    if wanted.living && records.phase(s).is_closed() {
+        return Ok(());
+    }
+    scope_place(out, records, s)?;
+    scope_marks(out, records, s)?;
+    if wanted.full {
+        told_lines(out, names, records.completions(s))?;
+    }
+    Ok(())
+}
+
+/// The lines of all scopes that were ever born, or of those that aren't closed.
+///
+/// # Errors
+///
+/// Memory ran out; `out` may then have a part of them.
+pub(crate) fn scope_lines(
+    out: &mut String,
+    names: &Names<'_>,
+    wanted: ViewOptions,
+    records: &Records,
+) -> Result<(), AllocError>
+    ensures { OnOk result (string_bytes out.new ≡ string_bytes out.old ++ def.scope_lines
+        names.now wanted records.now records.now.scopes 0) }
+{
+    for s in 0..records.scopes_born() {
+        scope_block(out, names, wanted, records, s as u32)?;
+    }
+    Ok(())
+}
