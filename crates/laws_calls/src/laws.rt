@@ -1,6 +1,7 @@
 //! The laws of the count.
 
 ghost use Rattle.laws_calls.specs.Triggers.{CancelsByCount, LastCounts, LastIsFound, StopsAtLimit};
+ghost use Rattle.laws_calls.specs.Watching.{WatchedIsNotCancelled, WatchedWasWatched};
 
 /// The joiner cancels its scope exactly if as many ends as its limit count towards a cancel.
 pub fn cancels_by_count()
@@ -20,4 +21,14 @@ pub fn last_counts()
 /// Where one end is enough to cancel a scope, the first one that counts is the one that cancels it.
 pub fn last_is_found()
     ensures { LastIsFound }
+{}
+
+/// A task that is watched after an event was watched before it, if it was born.
+pub fn watched_was_watched()
+    ensures { WatchedWasWatched }
+{}
+
+/// The flag of a watched task is set only by an interrupt of the task.
+pub fn watched_is_not_cancelled()
+    ensures { WatchedIsNotCancelled }
 {}

@@ -1,0 +1,109 @@
+-- What a table covers of a run: the tasks that its owner still looks at, each by a state of its
+-- call (this project's own).
+use Rattle.std.specs.Prelude.{◌≡◌, ℕ, ◌⊎◌, List, [], ◌∷◌, Bool, true, false, Some}
+use Rattle.std.specs.Prelude.{slice_get}
+use Rattle.std.specs.List.{filter}
+use Rattle.sts_code.specs.Program.{Program}
+use Rattle.sts_model.specs.declared.event.End.{End}
+use Rattle.sts_model.specs.declared.event.Event.{Event}
+use Rattle.sts_model.specs.declared.event.Phase.TheVariants.{Closing}
+use Rattle.sts_model.specs.declared.record.Slot.{Slot}
+use Rattle.sts_model.specs.declared.record.Slot.TheVariants as slots
+use Rattle.sts_model.specs.declared.record.Frame.{Frame}
+use Rattle.sts_model.specs.declared.record.Scope.{Scope}
+use Rattle.sts_model.specs.World.{World, task_at, scope_at}
+use Rattle.sts_model.specs.Living.{lives, is_subtask, completion_of, scope_of}
+use Rattle.sts_model.specs.Misuse.{is_joined}
+use Rattle.sts_model.specs.Run.{is_step}
+use Rattle.laws_runs.specs.Tallies.{births}
+use Rattle.laws_calls.specs.Held.{Held}
+use Rattle.laws_calls.specs.Held as held
+use Rattle.laws_calls.specs.Tasks.{Among, AllTwo, at_place, HasWay, Part, Knowledge, Unseen}
+use Rattle.laws_calls.specs.Tasks.{ByJoiner}
+use Rattle.laws_calls.specs.Tasks.{Heard, Seen, May, Own, bare, births_in}
+use Rattle.laws_calls.specs.Steps.{Row, Table}
+
+-- the subtasks of a scope by birth, in fork order
+abbrev pub subs : World → ℕ → List ℕ
+subs w s = filter (λ u. is_subtask s (task_at w u)) (births w)
+
+-- ---- scopes
+
+-- What became of the subtask u is possible for its part. While it lives and its scope is not
+-- cancelled, each way of its call is.
+pub record PartFits (rows : ℕ → Row) (alive : ℕ → Bool) (scope : Scope) (u : ℕ) (part : Part)
+    : Type 0 where
+  pub may : May part (completion_of scope.completions u)
+  pub whole : alive u ≡ true → scope.cancelled ≡ false → (e : End) → HasWay (rows u).ways e
+      → HasWay part.ways e
+
+-- what is known of a cancel is right
+abbrev pub IsRight : Knowledge → Scope → Type 0
+IsRight Unseen scope = Unit {0}
+IsRight ByJoiner scope = scope.cancelled ≡ true
+IsRight Heard scope = (scope.cancelled ≡ false) × (is_joined scope.phase ≡ true)
+
+pub record ScopeFits (rows : ℕ → Row) (alive : ℕ → Bool) (scope : Scope) (subtasks : List ℕ)
+    (x : Seen) : Type 0 where
+  pub joiner : x.joiner ≡ scope.joiner
+  pub timed : x.timed ≡ scope.timed
+  pub environment : x.environment ≡ scope.environment
+  pub phase : (scope.phase ≡ x.phase) ⊎ (scope.phase ≡ Closing)
+  pub known : IsRight x.knowledge scope
+  pub parts : AllTwo (PartFits rows alive scope) subtasks x.parts
+
+-- ---- tasks
+
+-- the slots of a task whose open scopes are these, by birth
+abbrev pub HeldFits : World → List ℕ → Slot → Held → Type 0
+HeldFits w opened slots.Empty held.Empty = Unit {0}
+HeldFits w opened (slots.Own s) (held.Own place) = at_place opened place ≡ Some s
+HeldFits w opened (slots.Lent s) held.Lent = Unit {0}
+HeldFits w opened (slots.Sub u) (held.Sub place i) =
+    (s : ℕ) × ((at_place opened place ≡ Some s) × (slice_get (subs w s) i ≡ Some u))
+HeldFits w opened _ _ = ⊥
+
+abbrev pub alive_in : World → ℕ → Bool
+alive_in w u = lives (task_at w u)
+
+-- the scope s fits what its owner knows of it
+abbrev pub SeenFits : (ℕ → Row) → World → ℕ → Seen → Type 0
+SeenFits rows w s x = ScopeFits rows (alive_in w) (scope_at w s) (subs w s) x
+
+-- a frame of a task is that of the state
+pub record FrameFits (rows : ℕ → Row) (w : World) (f : Frame) (own : Own) : Type 0 where
+  pub frame : bare f ≡ own.frame
+  pub held : AllTwo (HeldFits w (births_in f.entries)) f.slots own.held
+  pub scopes : AllTwo (SeenFits rows w) (births_in f.entries) own.scopes
+
+-- the task u is in this state of its row
+pub record TaskFits (rows : ℕ → Row) (w : World) (u : ℕ) (own : Own) : Type 0 where
+  pub there : Among (rows u).states own
+  pub fits : FrameFits rows w (task_at w u).frame own
+  pub flag : (task_at w u).flag ≡ false
+  pub environment : (scope_of w u).environment ≡ (rows u).call.environment
+
+-- ---- runs
+
+-- the root is watched, and a subtask of a scope that is not cancelled and whose owner is watched
+pub data Watched (w : World) : ℕ → Type 0 where
+  watched_root : Watched w 0
+  watched_sub : {u : ℕ} (s : ℕ) → (task_at w u).scope ≡ Some s → (scope_at w s).cancelled ≡ false
+      → Watched w (scope_at w s).owner → Watched w u
+
+pub record Covers (p : Program) (t : Table) (root : Row) (w : World) : Type 0 where
+  pub rows : ℕ → Row
+  pub listed : (u : ℕ) → Among t (rows u)
+  pub first : rows 0 ≡ root
+  -- no scope has expired
+  pub calm : (s : ℕ) → (scope_at w s).expired ≡ false
+  -- each living task that is watched is in a state of its row
+  pub tasks : (u : ℕ) → lives (task_at w u) ≡ true → Watched w u
+      → (own : Own) × TaskFits rows w u own
+  -- the root has ended by a way of its call
+  pub ended : (e : End) → (task_at w 0).outcome ≡ Some e → HasWay root.ways e
+
+-- only steps: no interrupts, no expiries
+abbrev pub AreSteps : List Event → Type 0
+AreSteps [] = Unit {0}
+AreSteps (e ∷ es) = (is_step e ≡ true) × AreSteps es

@@ -1,0 +1,329 @@
+-- The steps of a task by itself, and the tables that are closed under them (this project's own).
+-- No interrupt and no expiry comes. A step may lead to more states than a run does.
+use Rattle.std.specs.Prelude.{◌≡◌, ℕ, ◌+◌, ◌-◌, ℤ, pos, List, [], ◌∷◌, ◌++◌, length, take, drop}
+use Rattle.std.specs.Prelude.{reverse}
+use Rattle.std.specs.Prelude.{map, count_by, Bool, true, false, Option, Some, None, is_some}
+use Rattle.std.specs.Prelude.{unwrap_or, if◌then◌else◌, slice_get, slice_set}
+use Rattle.std.specs.List.{filter}
+use Rattle.sts_code.specs.Program.{Program, routine}
+use Rattle.sts_code.specs.declared.instr.Instr.{Instr}
+use Rattle.sts_code.specs.declared.instr.Instr.TheVariants.{Open, Fork, Join, Close, Cancelled}
+use Rattle.sts_code.specs.declared.instr.Instr.TheVariants.{Case, Get, Except, Tally, Total, Forget}
+use Rattle.sts_code.specs.declared.instr.Instr.TheVariants.{Bind, Unbind, Read, Bound, OrElse}
+use Rattle.sts_code.specs.declared.instr.Instr.TheVariants.{Interrupted, Ret, Fail}
+use Rattle.sts_code.specs.declared.instr.Joiner.{Joiner}
+use Rattle.sts_code.specs.declared.instr.Joiner.TheVariants.{AllSucceed, AnySucceeds, AwaitOk}
+use Rattle.sts_code.specs.declared.instr.Joiner.TheVariants.{Until}
+use Rattle.sts_code.specs.declared.instr.Kind.{Kind}
+use Rattle.sts_model.specs.declared.event.End.{End}
+use Rattle.sts_model.specs.declared.event.End.TheVariants.{Success, Failed}
+use Rattle.sts_model.specs.declared.event.Phase.TheVariants.{Opened, Joined}
+use Rattle.sts_model.specs.declared.event.Verdict.{Verdict}
+use Rattle.sts_model.specs.declared.event.Verdict.TheVariants as verdict
+use Rattle.sts_model.specs.declared.record.Entry.TheVariants as entry
+use Rattle.sts_model.specs.declared.record.Frame.{Frame}
+use Rattle.sts_model.specs.World.{code, instr_at}
+use Rattle.sts_model.specs.Local as local
+use Rattle.sts_model.specs.Local.{is_local, operand, goes, steps, truth}
+use Rattle.sts_model.specs.Environment.{read}
+use Rattle.sts_model.specs.Joining.{is_success, is_failure, result_of}
+use Rattle.laws_runs.specs.Tallies.{is_kind}
+use Rattle.laws_calls.specs.Held.{Held, is_at}
+use Rattle.laws_calls.specs.Held as held
+use Rattle.laws_calls.specs.Tasks.{Among, at_place, put_place, Call, Way, HasWay, Part, Knowledge}
+use Rattle.laws_calls.specs.Tasks.{Unseen, ByJoiner, Heard, Seen, Picks, Own, begin, bindings}
+use Rattle.laws_calls.specs.Tasks.{held_at}
+use Rattle.laws_calls.specs.Triggers.{is_trigger}
+
+-- ---- tables
+
+-- a call with the states that its task may be in, and the ways that it may end
+pub record Row : Type 0 where
+  pub call : Call
+  pub states : List Own
+  pub ways : List Way
+
+abbrev pub Table : Type 0
+Table = List Row
+
+-- ---- a state with a change
+
+-- with another frame
+abbrev pub to : Own → Frame → Own
+to own f = record own { frame = f }
+
+-- at the next place, after it popped n operands and pushed a value
+abbrev pub pushes : Own → ℕ → ℤ → Own
+pushes own n value = to own (steps own.frame n (value ∷ []))
+
+-- with another scope at a place
+abbrev pub with_seen : Own → ℕ → Seen → Own
+with_seen own place x = record own { scopes = put_place own.scopes place x }
+
+-- with another part in a scope at a place
+abbrev pub with_part : Own → ℕ → Seen → ℕ → Part → Own
+with_part own place x i part = with_seen own place (record x { parts = slice_set x.parts i part })
+
+-- ---- parts
+
+-- the part has ended by this end
+abbrev pub only : End → Part
+only e = record { ways = record { end = e } ∷ []; is_open = false }
+
+-- the part has ended by one of its ways that pass the test
+abbrev pub kept : (End → Bool) → Part → Part
+kept test part = record { ways = filter (λ (way : Way). test way.end) part.ways; is_open = false }
+
+-- the part has ended
+abbrev pub ended : Part → Part
+ended part = record part { is_open = false }
+
+-- the part had not ended when the owner looked; after that it may end only if nothing is known of a
+-- cancel
+abbrev pub missed : Knowledge → Part → Part
+missed Unseen part = part
+missed _ part = record { ways = []; is_open = true }
+
+-- ---- open, fork, close
+
+abbrev pub opened : Call → Own → ℕ → Joiner → Bool → Own
+opened c own x joiner timed =
+    record {
+      frame = record (steps own.frame 0 []) { entries = entry.Scope 0 ∷ own.frame.entries };
+      held = slice_set own.held x (held.Own (length own.scopes));
+      scopes = record {
+        joiner = joiner;
+        timed = timed;
+        environment = bindings c own;
+        phase = Opened;
+        knowledge = Unseen;
+        parts = [];
+      } ∷ own.scopes;
+    }
+
+-- the call of a subtask
+abbrev pub call_of : Program → Own → Seen → ℕ → Call
+call_of p own x g =
+    record {
+      function = g;
+      args = reverse (take (routine p g).args own.frame.operands);
+      environment = x.environment;
+    }
+
+abbrev pub with_handle : List Held → Option ℕ → Held → List Held
+with_handle slots None x = slots
+with_handle slots (Some h) x = slice_set slots h x
+
+-- a new part, all of whose ways are possible
+abbrev pub forked : Program → Own → ℕ → Seen → Row → ℕ → Option ℕ → Own
+forked p own place x row g h =
+    record {
+      frame = steps own.frame (routine p g).args [];
+      held = with_handle own.held h (held.Sub place (length x.parts));
+      scopes = put_place own.scopes place
+          (record x { parts = x.parts ++ record { ways = row.ways; is_open = true } ∷ [] });
+    }
+
+abbrev pub clear : ℕ → Held → Held
+clear place x = if is_at place x then held.Empty else x
+
+-- after the innermost scope was closed
+abbrev pub closed : Own → Own
+closed own =
+    record {
+      frame = record (steps own.frame 0 []) { entries = drop 1 own.frame.entries };
+      held = map (clear (length (drop 1 own.scopes))) own.held;
+      scopes = drop 1 own.scopes;
+    }
+
+-- ---- join
+
+abbrev pub answered : Verdict → Frame → ℕ → Frame
+answered (verdict.Ok None) f failed = steps f 0 []
+answered (verdict.Ok (Some v)) f failed = steps f 0 (v ∷ [])
+answered (verdict.Failed c) f failed = goes f failed 0 (c ∷ [])
+
+abbrev pub joined : Own → ℕ → Seen → Verdict → ℕ → Own
+joined own place x answer failed =
+    record (with_seen own place (record x { phase = Joined })) {
+      frame = answered answer own.frame failed;
+    }
+
+-- does one end alone decide what `join` answers after a cancel?
+abbrev pub is_by_one : Joiner → Bool
+is_by_one AllSucceed = true
+is_by_one AwaitOk = true
+is_by_one AnySucceeds = true
+is_by_one _ = false
+
+abbrev pub is_until : Joiner → Bool
+is_until (Until p) = true
+is_until _ = false
+
+abbrev pub is_any : Joiner → Bool
+is_any AnySucceeds = true
+is_any _ = false
+
+-- known to be cancelled; known not to be
+abbrev pub is_cancelled : Knowledge → Bool
+is_cancelled ByJoiner = true
+is_cancelled _ = false
+
+abbrev pub is_heard : Knowledge → Bool
+is_heard Heard = true
+is_heard _ = false
+
+-- the scope after a `join` of a cancelled scope, and of one whose subtasks have all ended
+abbrev pub after_cancel : Seen → Seen
+after_cancel x = record x { knowledge = ByJoiner }
+
+abbrev pub after_all : Seen → Seen
+after_all x = record x { knowledge = Heard; parts = map ended x.parts }
+
+-- with one part that has ended by this end
+abbrev pub decided : Seen → ℕ → End → Seen
+decided x i e = record x { parts = slice_set x.parts i (only e) }
+
+-- ---- what a state has
+
+-- the slot holds the open scope at this place
+pub record Owns (own : Own) (x place : ℕ) (seen : Seen) : Type 0 where
+  pub holds : held_at own x ≡ held.Own place
+  pub there : at_place own.scopes place ≡ Some seen
+
+-- the slot holds a part of an open scope
+pub record Knows (own : Own) (h place : ℕ) (seen : Seen) (i : ℕ) (part : Part) : Type 0 where
+  pub holds : held_at own h ≡ held.Sub place i
+  pub there : at_place own.scopes place ≡ Some seen
+  pub known : slice_get seen.parts i ≡ Some part
+
+-- the part may have ended by this end
+pub record MayEnd (seen : Seen) (i : ℕ) (e : End) : Type 0 where
+  pub part : Part
+  pub known : slice_get seen.parts i ≡ Some part
+  pub way : HasWay part.ways e
+
+-- a row of the table for this call, which has the call's beginning
+pub record IsRowOf (t : Table) (row : Row) (c : Call) : Type 0 where
+  pub there : Among t row
+  pub call : row.call ≡ c
+  pub begins : Among row.states (begin held.Lent c)
+
+-- ---- steps
+
+-- from a state of a call by an instruction to another state
+pub data Steps (p : Program) (t : Table) (c : Call) (own : Own) : Instr → Own → Type 0 where
+  -- the frame alone
+  local_step : {i : Instr} → is_local i ≡ true
+      → Steps p t c own i (to own (local.local (code p own.frame) i own.frame))
+  read_step : {k : ℕ}
+      → Steps p t c own (Read k) (pushes own 0 (unwrap_or (read (bindings c own) k) (pos 0)))
+  bound_step : {k : ℕ}
+      → Steps p t c own (Bound k) (pushes own 0 (truth (is_some (read (bindings c own) k))))
+  or_else_step : {k : ℕ} → Steps p t c own (OrElse k)
+      (pushes own 1 (unwrap_or (read (bindings c own) k) (operand own.frame 0)))
+  bind_step : {k : ℕ} → Steps p t c own (Bind k) (to own (record (steps own.frame 1 []) {
+    entries = entry.Binding k (operand own.frame 0) ∷ own.frame.entries;
+  }))
+  unbind_step : Steps p t c own Unbind
+      (to own (record (steps own.frame 0 []) { entries = drop 1 own.frame.entries }))
+  forget_step : {h : ℕ} → Steps p t c own (Forget h)
+      (record own { frame = steps own.frame 0 []; held = slice_set own.held h held.Empty })
+  -- no interrupt comes
+  interrupted_step : Steps p t c own Interrupted (pushes own 0 (truth false))
+  -- the task's own scope: if it was cancelled, nobody sees what the task does
+  lent_step : {x : ℕ} → held_at own x ≡ held.Lent
+      → Steps p t c own (Cancelled x) (pushes own 0 (truth false))
+  going_step : {x : ℕ} (place : ℕ) (seen : Seen) → Owns own x place seen
+      → is_cancelled seen.knowledge ≡ false
+      → Steps p t c own (Cancelled x) (pushes own 0 (truth false))
+  cancelled_step : {x : ℕ} (place : ℕ) (seen : Seen) → Owns own x place seen
+      → is_heard seen.knowledge ≡ false
+      → Steps p t c own (Cancelled x)
+      (pushes (with_seen own place (after_cancel seen)) 0 (truth true))
+  -- scopes
+  open_step : {x : ℕ} {joiner : Joiner} {timed : Bool}
+      → Steps p t c own (Open x joiner timed) (opened c own x joiner timed)
+  fork_step : {x g : ℕ} {h : Option ℕ} (place : ℕ) (seen : Seen) (row : Row)
+      → Owns own x place seen → IsRowOf t row (call_of p own seen g)
+      → Steps p t c own (Fork x g h) (forked p own place seen row g h)
+  close_step : {x : ℕ} → Steps p t c own (Close x) (closed own)
+  -- `join` of a cancelled scope: one end decided, or as many as the joiner waits for
+  by_one_step : {x to_i : ℕ} {failed timeout : Option ℕ} (place : ℕ) (seen : Seen) (i : ℕ) (e : End)
+      → Owns own x place seen → is_heard seen.knowledge ≡ false → is_by_one seen.joiner ≡ true
+      → MayEnd seen i e → is_trigger seen.joiner e ≡ true
+      → Steps p t c own (Join x failed timeout to_i)
+      (joined own place (decided (after_cancel seen) i e)
+      (result_of seen.joiner (e ∷ []) (length seen.parts)) (unwrap_or failed 0))
+  by_count_step : {x to_i : ℕ} {failed timeout : Option ℕ} (place : ℕ) (seen : Seen)
+      → Owns own x place seen → is_heard seen.knowledge ≡ false → is_until seen.joiner ≡ true
+      → Steps p t c own (Join x failed timeout to_i)
+      (joined own place (after_cancel seen) (result_of seen.joiner [] (length seen.parts))
+      (unwrap_or failed 0))
+  -- `join` after all subtasks ended: nothing decided; under `any` one failure is reported
+  heard_step : {x to_i : ℕ} {failed timeout : Option ℕ} (place : ℕ) (seen : Seen)
+      → Owns own x place seen → is_cancelled seen.knowledge ≡ false
+      → (is_any seen.joiner ≡ true → seen.parts ≡ [])
+      → Steps p t c own (Join x failed timeout to_i)
+      (joined own place (after_all seen) (result_of seen.joiner [] (length seen.parts))
+      (unwrap_or failed 0))
+  none_step : {x to_i : ℕ} {failed timeout : Option ℕ} (place : ℕ) (seen : Seen) (i : ℕ) (e : End)
+      → Owns own x place seen → is_cancelled seen.knowledge ≡ false → is_any seen.joiner ≡ true
+      → MayEnd seen i e → is_failure e ≡ true
+      → Steps p t c own (Join x failed timeout to_i)
+      (joined own place (decided (after_all seen) i e)
+      (result_of seen.joiner (e ∷ []) (length seen.parts)) (unwrap_or failed 0))
+  -- a subtask
+  success_step : {h succeeded failed : ℕ} (place : ℕ) (seen : Seen) (i : ℕ) (part : Part)
+      → Knows own h place seen i part
+      → Steps p t c own (Case h succeeded failed)
+      (to (with_part own place seen i (kept is_success part)) (goes own.frame succeeded 0 []))
+  failure_step : {h succeeded failed : ℕ} (place : ℕ) (seen : Seen) (i : ℕ) (part : Part)
+      → Knows own h place seen i part
+      → Steps p t c own (Case h succeeded failed)
+      (to (with_part own place seen i (kept is_failure part)) (goes own.frame failed 0 []))
+  missed_step : {h succeeded failed : ℕ} (place : ℕ) (seen : Seen) (i : ℕ) (part : Part)
+      → Knows own h place seen i part → part.is_open ≡ true
+      → Steps p t c own (Case h succeeded failed)
+      (to (with_part own place seen i (missed seen.knowledge part))
+      (goes own.frame (own.frame.pc + 1) 0 []))
+  get_step : {h : ℕ} (place : ℕ) (seen : Seen) (i : ℕ) (part : Part) (v : ℤ)
+      → Knows own h place seen i part → HasWay part.ways (Success v)
+      → Steps p t c own (Get h) (pushes (with_part own place seen i (only (Success v))) 0 v)
+  except_step : {h : ℕ} (place : ℕ) (seen : Seen) (i : ℕ) (part : Part) (v : ℤ)
+      → Knows own h place seen i part → HasWay part.ways (Failed v)
+      → Steps p t c own (Except h) (pushes (with_part own place seen i (only (Failed v))) 0 v)
+  -- a count, a sum: of some pick
+  tally_step : {x : ℕ} {kind : Kind} (place : ℕ) (seen : Seen) (pick : List (Option End))
+      → Owns own x place seen → Picks seen.parts pick
+      → Steps p t c own (Tally x kind) (pushes own 0 (pos (count_by (is_kind kind) pick)))
+  -- (nothing is said of the sum yet, so no table of a program with `total` has all steps)
+  total_step : {x : ℕ} (sum : ℤ) → Steps p t c own (Total x) (pushes own 0 sum)
+
+-- ---- a table that has all steps
+
+-- the end of a task by its last instruction
+abbrev pub end_by : Instr → Frame → Option End
+end_by Ret f = Some (Success (operand f 0))
+end_by Fail f = Some (Failed (operand f 0))
+end_by _ f = None
+
+-- the call of the root task
+abbrev pub root_call : Program → Call
+root_call p = record { function = length p.routines - 1; args = []; environment = [] }
+
+pub record IsTable (p : Program) (t : Table) (root : Row) : Type 0 where
+  -- the root's call begins; its slot 0 is empty
+  pub listed : Among t root
+  pub call : root.call ≡ root_call p
+  pub begins : Among root.states (begin held.Empty (root_call p))
+  -- each fork has a row for its call
+  pub forks : (row : Row) (own : Own) (x g place : ℕ) (h : Option ℕ) (seen : Seen) → Among t row
+      → Among row.states own → instr_at p own.frame ≡ Some (Fork x g h) → Owns own x place seen
+      → (to_row : Row) × IsRowOf t to_row (call_of p own seen g)
+  -- each step leads to a state of the row
+  pub closed : (row : Row) (own next : Own) (i : Instr) → Among t row → Among row.states own
+      → instr_at p own.frame ≡ Some i → Steps p t row.call own i next → Among row.states next
+  -- each end is a way of the row
+  pub ends : (row : Row) (own : Own) (i : Instr) (e : End) → Among t row → Among row.states own
+      → instr_at p own.frame ≡ Some i → end_by i own.frame ≡ Some e → HasWay row.ways e
