@@ -1,10 +1,10 @@
 """Prints which parts of a crate's proof take longest.
 
-    python3 -m checks dear CRATE [FUNCTION ..]     such as python3 -m checks dear sts_args command::program
+    python3 -m checks dear [--test] CRATE [FUNCTION ..]     such as python3 -m checks dear sts_args command::program
 
-It proves the crate, or only these functions and what they call, with one job and nothing kept. The crates below have to
-be built, as ./sts or ./look leaves them. The prover writes a file whenever it is done with a module, and the seconds are
-those between two files. A function has several modules:
+It proves the crate, or only these functions and what they call, with one job and nothing kept. With --test it proves the
+tests, too. The crates below have to be built, as ./sts or ./look leaves them. The prover writes a file whenever it is done
+with a module, and the seconds are those between two files. A function has several modules:
 
 - `Lts` is the borrow checker's part. It grows with the steps of the body and with the values that are alive. So a body is
   dear if it has many ways out (`?`, `return`, arms) on which an owned value is dropped. A `Book` or a `Machine` takes some
@@ -29,11 +29,11 @@ MODULE = re.compile(r"/Rattle-(\w+)-(?:specs|proofs)\.(.+)\.oantt$")
 PARTS = ("Lts", "Tie", "Goals", "Answers", "Proof")
 
 
-def check(crate, functions, kept):
-    """Checks the crate, or these functions, and returns the prover's status."""
+def check(crate, tests, functions, kept):
+    """Checks the crate, or these functions, and returns the prover's status. `tests` is --test, or nothing."""
     only = [word for it in functions for word in ("--only", it)]
     with open(os.devnull, "w", encoding="utf-8") as crate.out:
-        words = kit.checking(crate, [*only, "--incremental", kept])
+        words = kit.checking(crate, [*tests, *only, "--incremental", kept])
     how = {"cwd": crate.folder, "stdin": subprocess.DEVNULL, "stdout": subprocess.PIPE, "stderr": subprocess.STDOUT}
     ran = subprocess.run(words, text=True, errors="replace", **how)
     print(*(it[:1000] for it in ran.stdout.splitlines() if not kit.OF_A_PROOF.match(it)), sep="\n")
@@ -60,10 +60,12 @@ def report(modules):
 
 
 def main():
-    if not sys.argv[1:] or sys.argv[1].startswith("-"):
+    words = sys.argv[1:]
+    tests = [it for it in words[:1] if it == "--test"]
+    name, *functions = words[len(tests) :] or [""]
+    if not name or name.startswith("-"):
         print(__doc__)
-        return 0 if sys.argv[1:] else 2
-    name, *functions = sys.argv[1:]
+        return 0 if name else 2
     if name not in sources.crates():
         print(f"checks dear: crates.txt has no crate {name}", file=sys.stderr)
         return 2
@@ -73,6 +75,6 @@ def main():
         print(f"checks dear: these crates aren't built: {', '.join(unbuilt)}; ./sts or ./look builds them", file=sys.stderr)
         return 2
     with tempfile.TemporaryDirectory(prefix="sts-dear-") as kept:
-        status = check(crate, functions, kept)
+        status = check(crate, tests, functions, kept)
         report(seconds(crate, kept))
     return status
