@@ -2,28 +2,44 @@
 
 ghost use Rattle.std.specs.Prelude.{◌≡◌, ◌≢◌, Some, None, slice_index_or};
 
-use std::process::Abort;
 use std::test::Fail;
 use sts_records::Held;
 
-fn push(rt: &impl Abort, held: &mut Held<u32>, body: u32) -> usize {
-    assert!(rt; held.room() > 0 && held.born() < 1000000);
-    held.push(body)
+/// Returns the birth of a record that is added, if there is room for it.
+fn push(held: &mut Held<u32>, body: u32) -> Option<usize> {
+    if held.room() > 0 && held.born() < 1000000 {
+        Some(held.push(body))
+    } else {
+        None
+    }
 }
 
-fn skip(rt: &impl Abort, held: &mut Held<u32>) -> usize {
-    assert!(rt; held.born() < 1000000);
-    held.skip()
+/// Returns a birth that never has a record, if there may be one.
+fn skip(held: &mut Held<u32>) -> Option<usize> {
+    if held.born() < 1000000 {
+        Some(held.skip())
+    } else {
+        None
+    }
 }
 
-fn write(rt: &impl Abort, held: &mut Held<u32>, birth: usize, body: u32) {
-    assert!(rt; held.get(birth).is_some());
-    *held.at(birth) = body;
+/// Writes into a record, and returns whether the birth has one.
+fn write(held: &mut Held<u32>, birth: usize, body: u32) -> bool {
+    if held.get(birth).is_some() {
+        *held.at(birth) = body;
+        true
+    } else {
+        false
+    }
 }
 
-fn remove(rt: &impl Abort, held: &mut Held<u32>, birth: usize) -> u32 {
-    assert!(rt; held.get(birth).is_some());
-    held.remove(birth)
+/// Returns what a record had that is removed, if the birth has one.
+fn remove(held: &mut Held<u32>, birth: usize) -> Option<u32> {
+    if held.get(birth).is_some() {
+        Some(held.remove(birth))
+    } else {
+        None
+    }
 }
 
 /// Returns the birth in the record under the key of this birth: the same birth.
@@ -45,55 +61,57 @@ fn is_gone(held: &Held<u32>, birth: usize) -> bool {
 }
 
 /// Births 0 and 1 have all the room.
-fn two_come(rt: &impl Abort, held: &mut Held<u32>) {
-    assert!(rt; held.born() == 0 && is_gone(held, 0));
-    assert_eq!(rt; push(rt, held, 10), 0);
-    assert_eq!(rt; push(rt, held, 20), 1);
-    write(rt, held, 1, 25);
-    assert!(rt; held.room() == 0 && is_there(held, 0, 10) && is_there(held, 1, 25));
+fn two_come(held: &mut Held<u32>) -> bool {
+    let is_empty = held.born() == 0 && is_gone(held, 0);
+    let births = [push(held, 10), push(held, 20)];
+    let is_written = write(held, 1, 25) && held.room() == 0;
+    let are_there = is_there(held, 0, 10) && is_there(held, 1, 25);
+    is_empty && births == [Some(0), Some(1)] && is_written && are_there
 }
 
 /// Birth 0 goes, birth 2 never has a record, and birth 3 gets the room of birth 0.
-fn another_comes(rt: &impl Abort, held: &mut Held<u32>) {
-    assert_eq!(rt; remove(rt, held, 0), 10);
-    assert!(rt; is_gone(held, 0) && held.room() == 1);
-    assert_eq!(rt; skip(rt, held), 2);
-    assert!(rt; is_gone(held, 2) && held.room() == 1);
-    assert_eq!(rt; push(rt, held, 40), 3);
-    assert!(rt; held.room() == 0 && held.born() == 4);
+fn another_comes(held: &mut Held<u32>) -> bool {
+    let goes = remove(held, 0) == Some(10) && is_gone(held, 0) && held.room() == 1;
+    let skips = skip(held) == Some(2) && is_gone(held, 2) && held.room() == 1;
+    let comes = push(held, 40) == Some(3) && held.room() == 0 && held.born() == 4;
+    goes && skips && comes
+}
+
+/// Births 0 and 2 stay gone, and births 1 and 3 have two keys.
+fn two_are_left(held: &Held<u32>) -> bool {
+    is_gone(held, 0)
+        && is_gone(held, 2)
+        && is_there(held, 1, 25)
+        && is_there(held, 3, 40)
+        && held.key_of(1) != held.key_of(3)
 }
 
 #[test]
 fn births_go_on_when_keys_come_back(rt: HostRuntime) -> Result<(), Fail> {
     let mut held = Held::with_room(rt.alloc(), 2)?;
-    two_come(&rt, &mut held);
-    another_comes(&rt, &mut held);
-    assert!(rt;
-        is_gone(&held, 0) && is_gone(&held, 2),
-        "what is gone stays gone"
-    );
-    assert!(rt; is_there(&held, 1, 25) && is_there(&held, 3, 40));
-    assert!(rt; held.key_of(1) != held.key_of(3));
+    let (two, another) = (two_come(&mut held), another_comes(&mut held));
+    assert_eq!(rt; (two, another, two_are_left(&held)), (true, true, true));
     Ok(())
 }
 
 /// Another record comes and goes, and the first one stays.
-fn one_comes_and_goes(rt: &impl Abort, held: &mut Held<u32>, birth: usize) {
-    assert_eq!(rt; push(rt, held, 8), birth);
-    assert!(rt; held.room() == 0 && is_there(held, 0, 7) && is_there(held, birth, 8));
-    assert_eq!(rt; remove(rt, held, birth), 8);
-    assert!(rt; is_there(held, 0, 7) && is_gone(held, birth));
+fn one_comes_and_goes(held: &mut Held<u32>, birth: usize) -> bool {
+    let comes = push(held, 8) == Some(birth) && held.room() == 0;
+    let are_there = is_there(held, 0, 7) && is_there(held, birth, 8);
+    let goes = remove(held, birth) == Some(8) && is_gone(held, birth);
+    comes && are_there && goes && is_there(held, 0, 7)
 }
 
 /// There are three pages for two records, and eight blocks begin. So a page is given again.
 #[test]
 fn a_record_stays_while_thousands_come_and_go(rt: HostRuntime) -> Result<(), Fail> {
     let mut held = Held::with_room(rt.alloc(), 2)?;
-    assert_eq!(rt; push(&rt, &mut held, 7), 0);
+    let first = push(&mut held, 7);
     for birth in 1..30_000 {
-        one_comes_and_goes(&rt, &mut held, birth);
+        assert!(rt; one_comes_and_goes(&mut held, birth), "birth {birth}");
     }
-    assert!(rt; is_gone(&held, 4_096) && is_gone(&held, 29_999) && held.room() == 1);
-    assert!(rt; is_there(&held, 0, 7) && is_gone(&held, 30_000));
+    let is_kept = is_there(&held, 0, 7) && held.room() == 1;
+    let are_gone = is_gone(&held, 4_096) && is_gone(&held, 29_999) && is_gone(&held, 30_000);
+    assert_eq!(rt; (first, is_kept, are_gone), (Some(0), true, true));
     Ok(())
 }

@@ -2,7 +2,6 @@
 
 use crate::texts::{SEVEN, TIMED, TURNS, accepted};
 use std::alloc::{AllocError, Global};
-use std::process::Abort;
 use std::test::Fail;
 use sts_machine::Turned::{Idle, Stepped};
 use sts_machine::{Slice, Turned};
@@ -200,62 +199,92 @@ static PAIRS: [Pair; 3] = [
     },
 ];
 
-/// Gives a slice back. Answers the slice, if the book doesn't take it.
-fn give_back<'p, R: Abort>(
-    rt: &R,
-    book: &mut Book<'p>,
-    slice: Option<Slice<'p>>,
-    taken: bool,
-) -> Option<Slice<'p>> {
-    let Some(slice) = slice else {
-        assert!(rt; false, "there is no slice to give back");
-        return None;
-    };
-    match book.check_in(slice) {
-        Ok(()) => {
-            assert!(rt; taken, "the book takes the slice");
-            None
-        }
+/// Gives the slice back that is there. What the book doesn't take stays there. Returns whether the
+/// book took it, or nothing if there is none.
+fn gives_back<'p>(book: &mut Book<'p>, from: &mut Option<Slice<'p>>) -> Option<bool> {
+    match book.check_in(from.take()?) {
+        Ok(()) => Some(true),
         Err(stranger) => {
-            assert!(rt; !taken, "the slice is a stranger");
-            Some(stranger.slice)
+            *from = Some(stranger.slice);
+            Some(false)
         }
     }
 }
 
-/// Does one act, and compares what is answered. The other book's slice may be there, too.
-fn does<'p, R: Abort>(rt: &R, desk: &mut Desk<'p>, others: &mut Option<Slice<'p>>, act: Act) {
-    match act {
-        Act::Idle(task) => assert_eq!(rt; desk.book.turn(task), Idle),
-        Act::Steps(task, turns) => {
-            for _ in 0..turns {
-                assert_eq!(rt; desk.book.turn(task), Stepped);
+impl<'p> Desk<'p> {
+    /// Takes turns of a task, and returns whether each is a step.
+    fn steps(&mut self, task: u32, turns: u32) -> bool {
+        for _ in 0..turns {
+            if self.book.turn(task) != Stepped {
+                return false;
             }
         }
-        Act::Interrupt(task, want) => {
-            assert_eq!(rt; desk.book.outside(Interrupt(task)), Ok(want));
-        }
-        Act::Expire(scope, want) => {
-            assert_eq!(rt; desk.book.outside(Expire(scope)), Ok(want));
-        }
-        Act::Out(want) => {
-            let slice = desk.book.check_out();
-            assert_eq!(rt; slice.as_ref().map(|s| s.task()), want);
-            desk.slice = slice.or(desk.slice.take());
-        }
-        Act::Local(limit, want) => {
-            let done = desk.slice.as_mut().map(|s| s.run_local(limit));
-            assert_eq!(rt; done, Some(want));
-        }
-        Act::In(Whose::Own, taken) => {
-            let slice = desk.slice.take();
-            desk.slice = give_back(rt, &mut desk.book, slice, taken);
-        }
-        Act::In(Whose::Others, taken) => {
-            let slice = others.take();
-            *others = give_back(rt, &mut desk.book, slice, taken);
+        true
+    }
+
+    /// Takes a slice out, if there is one, and returns its task.
+    fn takes_out(&mut self) -> Option<u32> {
+        let slice = self.book.check_out()?;
+        let task = slice.task();
+        self.slice = Some(slice);
+        Some(task)
+    }
+
+    /// Does local instructions of the slice that is out, and returns how many.
+    fn goes_on(&mut self, limit: u32) -> Option<u32> {
+        self.slice.as_mut().map(|s| s.run_local(limit))
+    }
+
+    /// Does one act, and returns whether the answer is the one that it has. The other book's slice may
+    /// be there, too.
+    fn does(&mut self, others: &mut Option<Slice<'p>>, act: Act) -> bool {
+        match act {
+            Act::Idle(task) => self.book.turn(task) == Idle,
+            Act::Steps(task, turns) => self.steps(task, turns),
+            Act::Interrupt(task, wanted) => self.book.outside(Interrupt(task)) == Ok(wanted),
+            Act::Expire(scope, wanted) => self.book.outside(Expire(scope)) == Ok(wanted),
+            Act::Out(wanted) => self.takes_out() == wanted,
+            Act::Local(limit, wanted) => self.goes_on(limit) == Some(wanted),
+            Act::In(Whose::Own, taken) => {
+                gives_back(&mut self.book, &mut self.slice) == Some(taken)
+            }
+            Act::In(Whose::Others, taken) => gives_back(&mut self.book, others) == Some(taken),
         }
     }
+}
+
+/// Does the acts of a row in turn, and returns the place of the first whose answer is another one.
+fn first_wrong<'p>(desk: &mut Desk<'p>, acts: &[Act]) -> Option<usize> {
+    let mut no_slice = None;
+    for (i, act) in acts.iter().enumerate() {
+        if !desk.does(&mut no_slice, *act) {
+            return Some(i);
+        }
+    }
+    None
+}
+
+/// Does an act with one book or with each.
+fn do_both<'p>(first: &mut Desk<'p>, second: &mut Desk<'p>, which: Which, act: Act) -> bool {
+    match which {
+        Which::First => first.does(&mut second.slice, act),
+        Which::Second => second.does(&mut first.slice, act),
+        Which::Each => { first.does(&mut second.slice, act) && second.does(&mut first.slice, act) }
+    }
+}
+
+/// Does the acts of a row in turn, and returns the place of the first whose answer is another one.
+fn first_wrong_of_both<'p>(
+    first: &mut Desk<'p>,
+    second: &mut Desk<'p>,
+    acts: &[(Which, Act)],
+) -> Option<usize> {
+    for (i, (which, act)) in acts.iter().enumerate() {
+        if !do_both(first, second, *which, *act) {
+            return Some(i);
+        }
+    }
+    None
 }
 
 /// Returns the events of a journal, one by one.
@@ -269,108 +298,66 @@ fn one_by_one(alloc: Global, journal: &[(Event, u32)]) -> Result<Vec<Event>, All
     Ok(events)
 }
 
-fn recorded<R: Abort>(
-    rt: &R,
-    alloc: Global,
-    book: &Book<'_>,
-    record: &Record,
-    name: &str,
-) -> Result<(), AllocError> {
-    let journal = one_by_one(alloc, record.journal)?;
-    assert_eq!(rt; book.root_end(), record.end, "the root's end, where {name}");
-    assert_eq!(rt;
-        book.journal(),
-        journal.as_slice(),
-        "the journal, where {name}"
-    );
-    Ok(())
+/// Returns whether a book has recorded this end and these events.
+fn has_recorded(book: &Book<'_>, end: Option<End>, journal: &[Event]) -> bool {
+    book.root_end() == end && book.journal() == journal
 }
 
-fn start<'p>(alloc: Global, verified: &'p Verified) -> Result<Desk<'p>, Fail> {
+fn start<'p>(alloc: Global, verified: &'p Verified) -> Result<Desk<'p>, AllocError> {
     Ok(Desk {
         book: Book::start(alloc, verified)?,
         slice: None,
     })
 }
 
-/// Does the acts of a row with a book of this program.
-fn plays_alone<'p, R: Abort>(
-    rt: &R,
+/// Does the acts of a row with a book of its program. Returns the place of the first act whose answer
+/// is another one, and whether the book has recorded what it should.
+fn plays_alone(
     alloc: Global,
     row: &Alone,
-    verified: &'p Verified,
-) -> Result<(), Fail> {
+    verified: &Verified,
+) -> Result<(Option<usize>, bool), AllocError> {
+    let journal = one_by_one(alloc, row.record.journal)?;
     let mut desk = start(alloc, verified)?;
-    let mut no_slice = None;
-    for act in row.acts {
-        does(rt, &mut desk, &mut no_slice, *act);
-    }
-    recorded(rt, alloc, &desk.book, &row.record, row.name)?;
-    Ok(())
+    let wrong = first_wrong(&mut desk, row.acts);
+    let is_well = has_recorded(&desk.book, row.record.end, journal.as_slice());
+    Ok((wrong, is_well))
 }
 
-/// Does the acts of a row in turn.
-fn does_all<'p, R: Abort>(
-    rt: &R,
-    first: &mut Desk<'p>,
-    second: &mut Desk<'p>,
-    acts: &[(Which, Act)],
-) {
-    for (which, act) in acts {
-        match which {
-            Which::First => does(rt, first, &mut second.slice, *act),
-            Which::Second => does(rt, second, &mut first.slice, *act),
-            Which::Each => {
-                does(rt, first, &mut second.slice, *act);
-                does(rt, second, &mut first.slice, *act);
-            }
-        }
-    }
-}
-
-/// Compares what both books have recorded.
-fn both_recorded<R: Abort>(
-    rt: &R,
-    alloc: Global,
-    row: &Pair,
-    first: &Book<'_>,
-    second: &Book<'_>,
-) -> Result<(), AllocError> {
-    recorded(rt, alloc, first, &row.of_first, row.name)?;
-    recorded(rt, alloc, second, &row.of_second, row.name)
-}
-
-/// Does the acts of a row with a first book and a second one of this program.
-fn plays_with<'p, R: Abort>(
-    rt: &R,
+/// Does the same with a first book and a second one of this program. Returns whether each has recorded
+/// what it should.
+fn plays_with<'p>(
     alloc: Global,
     row: &Pair,
     first: &mut Desk<'p>,
     other: &'p Verified,
-) -> Result<(), Fail> {
+) -> Result<(Option<usize>, bool, bool), AllocError> {
+    let of_first = one_by_one(alloc, row.of_first.journal)?;
+    let of_second = one_by_one(alloc, row.of_second.journal)?;
     let mut second = start(alloc, other)?;
-    does_all(rt, first, &mut second, row.acts);
-    both_recorded(rt, alloc, row, &first.book, &second.book)?;
-    Ok(())
+    let wrong = first_wrong_of_both(first, &mut second, row.acts);
+    let has_first = has_recorded(&first.book, row.of_first.end, of_first.as_slice());
+    let has_second = has_recorded(&second.book, row.of_second.end, of_second.as_slice());
+    Ok((wrong, has_first, has_second))
 }
 
-/// Does the acts of a row with a book of each of these programs.
-fn plays<'p, R: Abort>(
-    rt: &R,
+/// Does the same with a book of each of these programs.
+fn plays<'p>(
     alloc: Global,
     row: &Pair,
     one: &'p Verified,
     other: &'p Verified,
-) -> Result<(), Fail> {
+) -> Result<(Option<usize>, bool, bool), AllocError> {
     let mut first = start(alloc, one)?;
-    plays_with(rt, alloc, row, &mut first, other)
+    plays_with(alloc, row, &mut first, other)
 }
 
 #[test]
 fn a_book_answers_and_records(rt: HostRuntime) -> Result<(), Fail> {
     for row in &ALONE {
         let verified = accepted(rt.alloc(), row.text)?;
-        plays_alone(&rt, rt.alloc(), row, &verified)?;
+        let found = plays_alone(rt.alloc(), row, &verified)?;
+        assert_eq!(rt; found, (None, true), "where {}", row.name);
     }
     Ok(())
 }
@@ -380,7 +367,8 @@ fn two_books_answer_and_record(rt: HostRuntime) -> Result<(), Fail> {
     for row in &PAIRS {
         let one = accepted(rt.alloc(), row.texts.0)?;
         let other = accepted(rt.alloc(), row.texts.1)?;
-        plays(&rt, rt.alloc(), row, &one, &other)?;
+        let found = plays(rt.alloc(), row, &one, &other)?;
+        assert_eq!(rt; found, (None, true, true), "where {}", row.name);
     }
     Ok(())
 }

@@ -37,22 +37,24 @@ fn a_key_is_bound_for_a_while(rt: HostRuntime) -> Result<(), Fail> {
     };
     let mut store = Store::with_room(rt.alloc(), room, beginning())?;
     assert!(rt; store.lives(0) && !store.lives(1) && store.ready_front() == Some(0));
-    assert!(rt; store.task_room() == 1 && store.scope_room() == 1);
-    assert!(rt; store.binding_room() == 1 && store.frame(0).pc == 0);
-    assert_eq!(rt; store.read(0, 3), None);
+    let task_room = store.task_room();
+    let scope_room = store.scope_room();
+    let room = store.binding_room();
+    let begin = (store.frame(0).pc, store.read(0, 3));
 
     assert!(rt; store.frame(0).entries.len() < 16);
     store.bind(0, 3);
-    assert!(rt; store.lives(0) && store.binding_room() == 0);
-    assert_eq!(rt; store.read(0, 3), Some(7));
-    assert_eq!(rt;
-        store.frame(0).entries.get_or(0, Entry::Scope(0)),
-        Entry::Binding(3, 7)
-    );
+    assert!(rt; store.lives(0));
+    let left = store.binding_room();
+    let entry = store.frame(0).entries.get_or(0, Entry::Scope(0));
+    let read = store.read(0, 3);
 
     store.unbind(0);
-    assert!(rt; store.lives(0) && store.binding_room() == 1);
-    assert_eq!(rt; store.read(0, 3), None);
-    assert_eq!(rt; store.frame(0).pc, 2);
+    assert!(rt; store.lives(0));
+    let rooms = [task_room, scope_room, room, left, store.binding_room()];
+    assert_eq!(rt; rooms, [1, 1, 1, 0, 1]);
+    let end = (store.frame(0).pc, store.read(0, 3));
+    assert_eq!(rt; (begin, end), ((0, None), (2, None)));
+    assert!(rt; entry == Entry::Binding(3, 7) && read == Some(7));
     Ok(())
 }

@@ -2,7 +2,6 @@
 
 ghost use Rattle.std.specs.Prelude.{◌≡◌, ◌≢◌, Some, None, true, slice_index_or};
 
-use std::process::Abort;
 use sts_cancel::{cancel, expire, interrupt};
 use sts_code::{Joiner, Kind};
 use sts_model::{End, Phase, Stand, Verdict};
@@ -59,94 +58,133 @@ pub enum Call {
     IsOpen(u32, Joiner),
 }
 
-fn open(rt: &impl Abort, tree: &mut Tree<u8>, owner: u32, joiner: Joiner) -> u32 {
-    assert!(rt; tree.scope_room() > 0 && tree.scopes_born() < 1000000);
-    tree.open_scope(owner, joiner, true, 7)
+fn open(tree: &mut Tree<u8>, owner: u32, joiner: Joiner) -> Option<u32> {
+    if tree.scope_room() > 0 && tree.scopes_born() < 1000000 {
+        Some(tree.open_scope(owner, joiner, true, 7))
+    } else {
+        None
+    }
 }
 
-fn add(rt: &impl Abort, tree: &mut Tree<u8>, s: u32) -> u32 {
-    assert!(rt; tree.scope(s).is_some() && tree.task_room() > 0 && tree.tasks_born() < 1000000);
-    tree.add_subtask(s).0
+fn add(tree: &mut Tree<u8>, s: u32) -> Option<u32> {
+    if tree.scope(s).is_some() && tree.task_room() > 0 && tree.tasks_born() < 1000000 {
+        Some(tree.add_subtask(s).0)
+    } else {
+        None
+    }
 }
 
-fn stand(rt: &impl Abort, tree: &mut Tree<u8>, t: u32, s: u32, stand: Stand) {
-    assert!(rt; tree.task(t).is_some() && tree.scope(s).is_some() && tree.owner(s) == t);
-    assert!(rt;
-        matches!(stand, Stand::Free) || stand == Stand::AtJoin(s) || stand == Stand::AtClose(s)
-    );
-    tree.stand(t, stand);
+fn stand(tree: &mut Tree<u8>, t: u32, s: u32, stand: Stand) -> bool {
+    if tree.task(t).is_some() && tree.scope(s).is_some() && tree.owner(s) == t {
+        if matches!(stand, Stand::Free) || stand == Stand::AtJoin(s) || stand == Stand::AtClose(s) {
+            tree.stand(t, stand);
+            return true;
+        }
+    }
+    false
 }
 
-fn end(rt: &impl Abort, tree: &mut Tree<u8>, t: u32, end: End) -> bool {
-    assert!(rt; tree.lives(t));
-    tree.end_task(t, end)
+fn end(tree: &mut Tree<u8>, t: u32, end: End) -> Option<bool> {
+    if tree.lives(t) {
+        Some(tree.end_task(t, end))
+    } else {
+        None
+    }
 }
 
-fn closing(rt: &impl Abort, tree: &mut Tree<u8>, s: u32) {
-    assert!(rt; tree.scope(s).is_some());
-    tree.set_phase(s, Phase::Closing);
+fn closing(tree: &mut Tree<u8>, s: u32) -> bool {
+    if tree.scope(s).is_some() {
+        tree.set_phase(s, Phase::Closing);
+        true
+    } else {
+        false
+    }
 }
 
-fn close(rt: &impl Abort, tree: &mut Tree<u8>, s: u32) {
-    assert!(rt; tree.scope(s).is_some() && tree.living_front(s).is_none());
-    let owner = tree.owner(s);
-    assert!(rt; tree.task(owner).is_some_and(|x| x.stand == Stand::Free));
-    tree.close_scope(s);
+fn close(tree: &mut Tree<u8>, s: u32) -> bool {
+    if tree.scope(s).is_some() && tree.living_front(s).is_none() {
+        let owner = tree.owner(s);
+        if tree.task(owner).is_some_and(|x| x.stand == Stand::Free) {
+            tree.close_scope(s);
+            return true;
+        }
+    }
+    false
 }
 
-fn cancelled(rt: &impl Abort, tree: &mut Tree<u8>, s: u32) {
-    assert!(rt; tree.scope(s).is_some());
-    cancel(tree, s);
+fn cancelled(tree: &mut Tree<u8>, s: u32) -> bool {
+    if tree.scope(s).is_some() {
+        cancel(tree, s);
+        true
+    } else {
+        false
+    }
 }
 
-fn time_out(rt: &impl Abort, tree: &mut Tree<u8>, s: u32) {
-    assert!(rt; tree.scope(s).is_some() && !tree.cancelled(s));
-    expire(tree, s);
-    assert!(rt; tree.scope(s).is_some());
-    assert!(rt; tree.expired(s) && tree.cancelled(s));
+/// Expires a scope, and returns whether it is expired and cancelled then.
+fn time_out(tree: &mut Tree<u8>, s: u32) -> bool {
+    if tree.scope(s).is_some() && !tree.cancelled(s) {
+        expire(tree, s);
+        tree.scope(s).is_some() && tree.expired(s) && tree.cancelled(s)
+    } else {
+        false
+    }
 }
 
-fn interrupted(rt: &impl Abort, tree: &mut Tree<u8>, t: u32) {
-    assert!(rt; tree.task(t).is_some());
-    interrupt(tree, t);
+fn interrupted(tree: &mut Tree<u8>, t: u32) -> bool {
+    if tree.task(t).is_some() {
+        interrupt(tree, t);
+        true
+    } else {
+        false
+    }
 }
 
-fn clear_flag(rt: &impl Abort, tree: &mut Tree<u8>, t: u32) {
-    assert!(rt; tree.task(t).is_some());
-    tree.clear_flag(t);
+fn clear_flag(tree: &mut Tree<u8>, t: u32) -> bool {
+    if tree.task(t).is_some() {
+        tree.clear_flag(t);
+        true
+    } else {
+        false
+    }
 }
 
-fn take_flag(rt: &impl Abort, tree: &mut Tree<u8>, t: u32) -> bool {
-    assert!(rt; tree.task(t).is_some());
-    tree.take_flag(t)
+fn take_flag(tree: &mut Tree<u8>, t: u32) -> Option<bool> {
+    if tree.task(t).is_some() {
+        Some(tree.take_flag(t))
+    } else {
+        None
+    }
 }
 
-fn ready_after(rt: &impl Abort, tree: &Tree<u8>, t: u32) -> Option<u32> {
-    assert!(rt; tree.can_step(t));
-    tree.ready_after(t)
-}
-
-/// Returns how many tasks are in the ready list. Each of them can step.
-fn ready_count(rt: &impl Abort, tree: &Tree<u8>) -> u32 {
+/// Returns how many tasks are in the ready list, if each of them can step.
+fn ready_count(tree: &Tree<u8>) -> Option<u32> {
     let mut at = tree.ready_front();
     for count in 0..65537 {
         let Some(t) = at else {
-            return count;
+            return Some(count);
         };
-        at = ready_after(rt, tree, t);
+        if tree.can_step(t) {
+            at = tree.ready_after(t);
+        } else {
+            return None;
+        }
     }
-    65537
+    Some(65537)
 }
 
-fn flag(rt: &impl Abort, tree: &Tree<u8>, t: u32) -> bool {
-    assert!(rt; tree.task(t).is_some());
-    tree.flag(t)
+fn flag(tree: &Tree<u8>, t: u32) -> Option<bool> {
+    if tree.task(t).is_some() {
+        Some(tree.flag(t))
+    } else {
+        None
+    }
 }
 
-fn are_flags(rt: &impl Abort, tree: &Tree<u8>, flags: &[bool]) -> bool {
+fn are_flags(tree: &Tree<u8>, flags: &[bool]) -> bool {
     let mut t = 0u32;
     for set in flags {
-        if flag(rt, tree, t) != *set {
+        if flag(tree, t) != Some(*set) {
             return false;
         }
         t = t.saturating_add(1);
@@ -154,14 +192,21 @@ fn are_flags(rt: &impl Abort, tree: &Tree<u8>, flags: &[bool]) -> bool {
     true
 }
 
-fn state(rt: &impl Abort, tree: &Tree<u8>, t: u32) -> Option<End> {
-    assert!(rt; tree.task(t).is_some());
-    tree.state(t)
+/// Returns how a task ended, if it has a record.
+fn state(tree: &Tree<u8>, t: u32) -> Option<Option<End>> {
+    if tree.task(t).is_some() {
+        Some(tree.state(t))
+    } else {
+        None
+    }
 }
 
-fn scope_of(rt: &impl Abort, tree: &Tree<u8>, t: u32) -> Option<u32> {
-    assert!(rt; tree.task(t).is_some());
-    tree.scope_of(t)
+fn scope_of(tree: &Tree<u8>, t: u32) -> Option<u32> {
+    if tree.task(t).is_some() {
+        tree.scope_of(t)
+    } else {
+        None
+    }
 }
 
 /// Returns the subtask at a place in fork order, from 0 on.
@@ -174,19 +219,28 @@ fn forked(tree: &Tree<u8>, s: u32, place: u32) -> Option<u32> {
     at
 }
 
-fn count(rt: &impl Abort, tree: &Tree<u8>, s: u32, kind: Kind) -> u32 {
-    assert!(rt; tree.scope(s).is_some());
-    tree.count(s, kind)
+fn count(tree: &Tree<u8>, s: u32, kind: Kind) -> Option<u32> {
+    if tree.scope(s).is_some() {
+        Some(tree.count(s, kind))
+    } else {
+        None
+    }
 }
 
-fn subtasks(rt: &impl Abort, tree: &Tree<u8>, s: u32) -> (u32, bool) {
-    assert!(rt; tree.scope(s).is_some());
-    (tree.subtasks(s), tree.any_lives(s))
+fn subtasks(tree: &Tree<u8>, s: u32) -> Option<(u32, bool)> {
+    if tree.scope(s).is_some() {
+        Some((tree.subtasks(s), tree.any_lives(s)))
+    } else {
+        None
+    }
 }
 
-fn result(rt: &impl Abort, tree: &Tree<u8>, s: u32) -> (Verdict, i64) {
-    assert!(rt; tree.scope(s).is_some());
-    (tree.result(s), tree.total(s))
+fn result(tree: &Tree<u8>, s: u32) -> Option<(Verdict, i64)> {
+    if tree.scope(s).is_some() {
+        Some((tree.result(s), tree.total(s)))
+    } else {
+        None
+    }
 }
 
 /// Returns the task under the key of this task, which is the same.
@@ -205,65 +259,73 @@ fn scope_again(tree: &Tree<u8>, s: u32) -> Option<u32> {
     }
 }
 
-fn is_open(rt: &impl Abort, tree: &Tree<u8>, s: u32, joiner: Joiner) -> bool {
-    assert!(rt; tree.scope(s).is_some());
-    tree.env(s) == &7 && tree.timed(s) && tree.joiner(s) == joiner && tree.phase(s) == Phase::Opened
+/// Returns whether a scope is open, timed, and has the environment 7 and this joiner.
+fn is_open(tree: &Tree<u8>, s: u32, joiner: Joiner) -> bool {
+    if tree.scope(s).is_some() {
+        tree.env(s) == &7
+            && tree.timed(s)
+            && tree.joiner(s) == joiner
+            && tree.phase(s) == Phase::Opened
+    } else {
+        false
+    }
 }
 
-/// Makes a call, and returns whether its answer is the expected one. A question makes none.
-fn make(rt: &impl Abort, tree: &mut Tree<u8>, call: Call) -> bool {
+/// Makes a call, and returns whether it may be made and its answer is the expected one. A question
+/// makes none.
+fn make(tree: &mut Tree<u8>, call: Call) -> bool {
     match call {
-        Call::Open(owner, joiner, s) => return open(rt, tree, owner, joiner) == s,
-        Call::Add(s, t) => return add(rt, tree, s) == t,
-        Call::Stand(t, s, at) => stand(rt, tree, t, s, at),
-        Call::End(t, e, asks) => return end(rt, tree, t, e) == asks,
-        Call::Closing(s) => closing(rt, tree, s),
-        Call::Close(s) => close(rt, tree, s),
-        Call::Cancel(s) => cancelled(rt, tree, s),
-        Call::Expire(s) => time_out(rt, tree, s),
-        Call::Interrupt(t) => interrupted(rt, tree, t),
-        Call::ClearFlag(t) => clear_flag(rt, tree, t),
-        Call::TakeFlag(t, was) => return take_flag(rt, tree, t) == was,
-        _ => {}
+        Call::Open(owner, joiner, s) => open(tree, owner, joiner) == Some(s),
+        Call::Add(s, t) => add(tree, s) == Some(t),
+        Call::Stand(t, s, at) => stand(tree, t, s, at),
+        Call::End(t, e, asks) => end(tree, t, e) == Some(asks),
+        Call::Closing(s) => closing(tree, s),
+        Call::Close(s) => close(tree, s),
+        Call::Cancel(s) => cancelled(tree, s),
+        Call::Expire(s) => time_out(tree, s),
+        Call::Interrupt(t) => interrupted(tree, t),
+        Call::ClearFlag(t) => clear_flag(tree, t),
+        Call::TakeFlag(t, was) => take_flag(tree, t) == Some(was),
+        _ => true,
     }
-    true
 }
 
 /// Returns whether the answer of a question about a task is the expected one.
-fn ask_of_task(rt: &impl Abort, tree: &Tree<u8>, call: Call) -> bool {
+fn ask_of_task(tree: &Tree<u8>, call: Call) -> bool {
     match call {
-        Call::Ready(n) => ready_count(rt, tree) == n,
+        Call::Ready(n) => ready_count(tree) == Some(n),
         Call::Steps(t, can) => tree.can_step(t) == can,
         Call::Lives(t, lives) => tree.lives(t) == lives,
-        Call::Flag(t, set) => flag(rt, tree, t) == set,
-        Call::Flags(flags) => are_flags(rt, tree, flags),
-        Call::State(t, end) => state(rt, tree, t) == end,
-        Call::IsOf(t, s) => scope_of(rt, tree, t) == Some(s),
+        Call::Flag(t, set) => flag(tree, t) == Some(set),
+        Call::Flags(flags) => are_flags(tree, flags),
+        Call::State(t, end) => state(tree, t) == Some(end),
+        Call::IsOf(t, s) => scope_of(tree, t) == Some(s),
         Call::HasTask(t, has) => task_again(tree, t) == has.then_some(t),
         _ => true,
     }
 }
 
 /// Returns whether the answer of a question about a scope is the expected one.
-fn ask_of_scope(rt: &impl Abort, tree: &Tree<u8>, call: Call) -> bool {
+fn ask_of_scope(tree: &Tree<u8>, call: Call) -> bool {
     match call {
         Call::Forked(s, place, t) => forked(tree, s, place) == t,
-        Call::Count(s, kind, n) => count(rt, tree, s, kind) == n,
-        Call::Subtasks(s, n, live) => subtasks(rt, tree, s) == (n, live),
-        Call::Result(s, verdict, sum) => result(rt, tree, s) == (verdict, sum),
+        Call::Count(s, kind, n) => count(tree, s, kind) == Some(n),
+        Call::Subtasks(s, n, live) => subtasks(tree, s) == Some((n, live)),
+        Call::Result(s, verdict, sum) => result(tree, s) == Some((verdict, sum)),
         Call::Room(tasks, scopes) => tree.task_room() == tasks && tree.scope_room() == scopes,
         Call::HasScope(s, has) => scope_again(tree, s) == has.then_some(s),
-        Call::IsOpen(s, joiner) => is_open(rt, tree, s, joiner),
+        Call::IsOpen(s, joiner) => is_open(tree, s, joiner),
         _ => true,
     }
 }
 
-/// Makes calls in order on a tree, and compares what each answers.
-pub fn make_all(rt: &impl Abort, tree: &mut Tree<u8>, calls: &[Call]) {
+/// Makes calls in order on a tree, and compares what each answers. Returns the place of the first
+/// that may not be made, or whose answer is another one.
+pub fn first_wrong(tree: &mut Tree<u8>, calls: &[Call]) -> Option<usize> {
     for (i, call) in calls.iter().enumerate() {
-        let is_right = make(rt, tree, *call)
-            && ask_of_task(rt, tree, *call)
-            && ask_of_scope(rt, tree, *call);
-        assert!(rt; is_right, "the call at {i}");
+        if !(make(tree, *call) && ask_of_task(tree, *call) && ask_of_scope(tree, *call)) {
+            return Some(i);
+        }
     }
+    None
 }

@@ -1,6 +1,6 @@
 //! Calls of the tree: three subtasks under a joiner, births that come and go, and who can step then.
 
-use crate::calls::{Call, make_all};
+use crate::calls::{Call, first_wrong};
 use std::test::Fail;
 use sts_code::{Joiner, Kind};
 use sts_model::{End, Stand, Verdict};
@@ -153,55 +153,88 @@ static CASES: [Case; 7] = [
 
 #[test]
 fn each_call_has_its_answer(rt: HostRuntime) -> Result<(), Fail> {
-    for case in &CASES {
+    for (i, case) in CASES.iter().enumerate() {
         let mut tree = Tree::with_room(rt.alloc(), case.0, 1)?;
-        make_all(&rt, &mut tree, case.1);
+        assert_eq!(rt; first_wrong(&mut tree, case.1), None, "in case {i}");
     }
     Ok(())
+}
+
+/// How many subtasks the largest scope has.
+const MOST: u32 = 65535;
+
+/// The root opens a scope, which gets as many subtasks as it may have, from this birth on. Returns
+/// whether each call has its answer.
+fn open_full(tree: &mut Tree<u8>, scope: u32, first: u32) -> bool {
+    for t in first..first.saturating_add(MOST) {
+        if first_wrong(tree, &[Call::Add(scope, t)]).is_some() {
+            return false;
+        }
+    }
+    true
+}
+
+/// The first and the last subtask hear a cancel. Returns the first call with another answer.
+fn cancel_full(tree: &mut Tree<u8>, scope: u32, first: u32, last: u32) -> Option<usize> {
+    first_wrong(
+        tree,
+        &[
+            Call::Room(0, 0),
+            Call::Stand(0, scope, Stand::AtJoin(scope)),
+            Call::Steps(0, false),
+            Call::Cancel(scope),
+            Call::Steps(0, true),
+            Call::Forked(scope, 0, Some(first)),
+            Call::Forked(scope, 65534, Some(last)),
+            Call::Forked(scope, 65535, None),
+            Call::Flag(first, true),
+            Call::Flag(last, true),
+            Call::Flag(0, false),
+        ],
+    )
+}
+
+/// All subtasks end. Returns whether each call has its answer.
+fn end_full(tree: &mut Tree<u8>, first: u32) -> bool {
+    for t in first..first.saturating_add(MOST) {
+        if first_wrong(tree, &[Call::End(t, End::Success(1), false)]).is_some() {
+            return false;
+        }
+    }
+    true
+}
+
+/// Room comes back when the scope is closed. Returns the first call with another answer.
+fn close_full(tree: &mut Tree<u8>, scope: u32) -> Option<usize> {
+    first_wrong(
+        tree,
+        &[
+            Call::Subtasks(scope, MOST, false),
+            Call::Stand(0, scope, Stand::Free),
+            Call::Close(scope),
+            Call::Room(MOST, 1),
+        ],
+    )
+}
+
+/// A scope with 65,535 subtasks comes and goes.
+fn comes_and_goes(tree: &mut Tree<u8>, scope: u32) -> bool {
+    let first = scope.saturating_mul(MOST).saturating_add(1);
+    let last = first.saturating_add(MOST - 1);
+    first_wrong(tree, &[Call::Open(0, Joiner::AwaitAll, scope)]).is_none()
+        && open_full(tree, scope, first)
+        && cancel_full(tree, scope, first, last).is_none()
+        && end_full(tree, first)
+        && close_full(tree, scope).is_none()
 }
 
 /// Ten times a scope with 65,535 subtasks: the first and the last hear a cancel, and room comes back.
 #[test]
 fn the_largest_scope_comes_and_goes_ten_times(rt: HostRuntime) -> Result<(), Fail> {
     let mut tree = Tree::with_room(rt.alloc(), 65536, 1)?;
-    for turn in 0..10u32 {
-        let first = turn * 65535 + 1;
-        let last = turn * 65535 + 65535;
-        make_all(&rt, &mut tree, &[Call::Open(0, Joiner::AwaitAll, turn)]);
-        for t in first..=last {
-            make_all(&rt, &mut tree, &[Call::Add(turn, t)]);
-        }
-        make_all(
-            &rt,
-            &mut tree,
-            &[
-                Call::Room(0, 0),
-                Call::Stand(0, turn, Stand::AtJoin(turn)),
-                Call::Steps(0, false),
-                Call::Cancel(turn),
-                Call::Steps(0, true),
-                Call::Forked(turn, 0, Some(first)),
-                Call::Forked(turn, 65534, Some(last)),
-                Call::Forked(turn, 65535, None),
-                Call::Flag(first, true),
-                Call::Flag(last, true),
-                Call::Flag(0, false),
-            ],
-        );
-        for t in first..=last {
-            make_all(&rt, &mut tree, &[Call::End(t, End::Success(1), false)]);
-        }
-        make_all(
-            &rt,
-            &mut tree,
-            &[
-                Call::Subtasks(turn, 65535, false),
-                Call::Stand(0, turn, Stand::Free),
-                Call::Close(turn),
-                Call::Room(65535, 1),
-            ],
-        );
+    for turn in 0..10 {
+        assert!(rt; comes_and_goes(&mut tree, turn), "turn {turn}");
     }
-    assert!(rt; tree.tasks_born() == 655351 && tree.scopes_born() == 10);
+    assert_eq!(rt; (tree.tasks_born(), tree.scopes_born()), (655351, 10));
     Ok(())
 }

@@ -35,8 +35,6 @@ mod paths;
 #[cfg(test)]
 mod questions;
 #[cfg(test)]
-mod replayed;
-#[cfg(test)]
 mod runs;
 #[cfg(test)]
 mod scopes;

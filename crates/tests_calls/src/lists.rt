@@ -64,21 +64,19 @@ fn lists_keep_their_keys_when_others_come_back(rt: HostRuntime) -> Result<(), Fa
     let list = push_back(&mut store, 0, Ends::empty(), a);
     let list = push_back(&mut store, 0, list, b);
     let last = push_back(&mut store, 2, Ends::empty(), b);
-    assert_eq!(rt; front(list), Some(a));
-    assert_eq!(rt; after(&store, 0, a), Some(b));
-    assert_eq!(rt; after(&store, 0, b), None);
+    let both = [front(list), after(&store, 0, a), after(&store, 0, b)];
 
     let list = unlink(&mut store, 0, list, a);
-    assert_eq!(rt; front(list), Some(b));
-    assert_eq!(rt; store.records.remove(a).body, 10);
+    let left = (front(list), store.records.remove(a).body);
 
     let c = store.records.insert(Record::new(30))?;
-    assert_eq!(rt; c, a, "the key comes back");
     let list = push_back(&mut store, 0, list, c);
-    assert_eq!(rt; front(list), Some(b));
-    assert_eq!(rt; after(&store, 0, b), Some(c));
-    assert_eq!(rt; after(&store, 0, c), None);
-    assert_eq!(rt; front(last), Some(b));
-    assert_eq!(rt; after(&store, 2, b), None);
+    let again = [front(list), after(&store, 0, b), after(&store, 0, c)];
+    let beside = [front(last), after(&store, 2, b)];
+    assert_eq!(rt; both, [Some(a), Some(b), None]);
+    assert_eq!(rt; left, (Some(b), 10));
+    // the key comes back
+    assert_eq!(rt; (c, again), (a, [Some(b), Some(c), None]));
+    assert_eq!(rt; beside, [Some(b), None]);
     Ok(())
 }

@@ -3,8 +3,7 @@
 ghost use Rattle.std.specs.Prelude.{IfSome};
 
 use crate::outsides::Weather;
-use crate::paths::{PATHS, Path, ending};
-use crate::replayed::replays;
+use crate::paths::{PATHS, Path, count, ending, is_replayed};
 use crate::texts::{DOUBLES, GREETED, LOOP, TIMED, WIDE, accepted};
 use std::alloc::Global;
 use std::process::Abort;
@@ -14,53 +13,28 @@ use std::test::Fail;
 use std::thread;
 use std::thread::Threads;
 use sts_model::{End, Event};
-use sts_pool::{Ending, Gate, Outside, run};
+use sts_pool::{Gate, Outside, run};
 
 /// How often a held worker looks whether it may go on.
 const LOOKS: u32 = 10_000_000;
 
-fn zero() -> AtomicU64 {
-    AtomicU64::new(0)
-}
-
-/// Holds the workers that enter for a subtask until this many have entered.
+/// Holds the workers that enter for a subtask until this many have entered. Worker N sets bit N.
 #[derive(Drop)]
 struct Meeting {
-    workers: u64,
-    entered: [AtomicU64; 16],
+    workers: u32,
+    entered: AtomicU64,
 }
 
 impl Meeting {
-    fn of(workers: u64) -> Meeting {
+    fn of(workers: u32) -> Meeting {
         Meeting {
             workers,
-            entered: [
-                zero(),
-                zero(),
-                zero(),
-                zero(),
-                zero(),
-                zero(),
-                zero(),
-                zero(),
-                zero(),
-                zero(),
-                zero(),
-                zero(),
-                zero(),
-                zero(),
-                zero(),
-                zero(),
-            ],
+            entered: AtomicU64::new(0),
         }
     }
 
     fn has_met(&self) -> bool {
-        let mut came = 0u64;
-        for entered in &self.entered {
-            came = came.saturating_add(entered.load(Ordering::SeqCst));
-        }
-        came >= self.workers
+        self.entered.load(Ordering::SeqCst).count_ones() >= self.workers
     }
 }
 
@@ -69,7 +43,7 @@ impl Gate for Meeting {
         if task == 0 {
             return;
         }
-        self.entered[(worker % 16) as usize].store(1, Ordering::SeqCst);
+        self.entered.fetch_or(1 << (worker % 64), Ordering::SeqCst);
         for _ in 0..LOOKS {
             if self.has_met() {
                 break;
@@ -127,11 +101,6 @@ impl Outside for Herald<'_> {
     }
 }
 
-/// How often a journal has an event.
-fn count(journal: &[Event], event: Event) -> usize {
-    journal.iter().filter(|e| **e == event).count()
-}
-
 /// One worker that does all waits in vain. A book that was made or run before or after the workers
 /// lacks one of the two events.
 #[test]
@@ -140,12 +109,14 @@ fn two_workers_meet(rt: HostRuntime) -> Result<(), Fail> {
     let meeting = Meeting::of(2);
     let herald = Herald::of(&meeting, 76, 77);
     let report = run(&rt, rt.alloc(), &verified, 2, &meeting, herald)?;
-    assert!(rt; meeting.has_met());
-    assert_eq!(rt; report.end, End::Success(42));
-    replays(&rt, rt.alloc(), &verified, &report)?;
     let journal = report.journal.as_slice();
-    assert_eq!(rt; count(journal, Event::Interrupt(76)), 1);
-    assert_eq!(rt; count(journal, Event::Interrupt(77)), 1);
+    let came = [
+        count(journal, Event::Interrupt(76)),
+        count(journal, Event::Interrupt(77)),
+    ];
+    let leads = is_replayed(rt.alloc(), &verified, &report);
+    let found = (meeting.has_met(), report.end, came, leads);
+    assert_eq!(rt; found, (true, End::Success(42), [1, 1], Ok(true)));
     Ok(())
 }
 
@@ -157,8 +128,8 @@ fn two_workers_meet_and_the_end_tells_of_it(rt: HostRuntime) -> Result<(), Fail>
         let meeting = Meeting::of(2);
         let herald = Herald::of(&meeting, 0, 0);
         let ended = ending(&rt, rt.alloc(), path, &verified, 2, &meeting, herald)?;
-        assert!(rt; meeting.has_met(), "{path:?}");
-        assert_eq!(rt; ended.end, End::Success(11), "{path:?}");
+        let found = (meeting.has_met(), ended.end);
+        assert_eq!(rt; found, (true, End::Success(11)), "{path:?}");
     }
     Ok(())
 }
@@ -169,18 +140,15 @@ fn all_workers_meet(rt: HostRuntime) -> Result<(), Fail> {
     let verified = accepted(rt.alloc(), WIDE)?;
     for path in PATHS {
         for workers in [1, 2, 3, 5, 16] {
-            let meeting = Meeting::of(u64::from(workers));
-            let ended = ending(
-                &rt,
-                rt.alloc(),
-                path,
-                &verified,
-                workers,
-                &meeting,
-                Weather::Calm,
-            )?;
-            assert!(rt; meeting.has_met(), "{workers} workers, {path:?}");
-            assert_eq!(rt; ended.end, End::Success(1), "{workers} workers, {path:?}");
+            let meeting = Meeting::of(workers);
+            let calm = Weather::Calm;
+            let ended = ending(&rt, rt.alloc(), path, &verified, workers, &meeting, calm)?;
+            let found = (meeting.has_met(), ended.end);
+            assert_eq!(rt;
+                found,
+                (true, End::Success(1)),
+                "{workers} workers, {path:?}"
+            );
         }
     }
     Ok(())
@@ -205,20 +173,24 @@ impl Gate for Holding {
     }
 }
 
-/// Returns how a run by two workers ends, and how often a worker entered for the first subtask. The
-/// first to enter is held.
+/// Returns how a run by two workers ends, its steps, and how often a worker entered for the first
+/// subtask. The first to enter is held.
 fn held<R: Abort + Threads + Wait + Sync>(
     rt: &R,
     alloc: Global,
     path: Path,
     text: &str,
-) -> Result<(Ending, u64), Fail> {
+) -> Result<(End, u64, u64), Fail> {
     let verified = accepted(alloc, text)?;
     let holding = Holding {
         entries: AtomicU64::new(0),
     };
     let ended = ending(rt, alloc, path, &verified, 2, &holding, Weather::Calm)?;
-    Ok((ended, holding.entries.load(Ordering::SeqCst)))
+    Ok((
+        ended.end,
+        ended.steps,
+        holding.entries.load(Ordering::SeqCst),
+    ))
 }
 
 /// A subtask of two steps is worked on once: no other worker takes it while it is out, and the
@@ -227,9 +199,8 @@ fn held<R: Abort + Threads + Wait + Sync>(
 #[test]
 fn out_is_out(rt: HostRuntime) -> Result<(), Fail> {
     for path in PATHS {
-        let (ended, entries) = held(&rt, rt.alloc(), path, TIMED)?;
-        assert_eq!(rt; ended.end, End::Success(1), "{path:?}");
-        assert_eq!(rt; entries, 1, "{path:?}");
+        let (end, _, entries) = held(&rt, rt.alloc(), path, TIMED)?;
+        assert_eq!(rt; (end, entries), (End::Success(1), 1), "{path:?}");
     }
     Ok(())
 }
@@ -240,10 +211,8 @@ fn out_is_out(rt: HostRuntime) -> Result<(), Fail> {
 #[test]
 fn a_long_subtask_is_out_once(rt: HostRuntime) -> Result<(), Fail> {
     for path in PATHS {
-        let (ended, entries) = held(&rt, rt.alloc(), path, LOOP)?;
-        assert_eq!(rt; ended.end, End::Success(10_000), "{path:?}");
-        assert_eq!(rt; ended.steps, 50_011, "{path:?}");
-        assert_eq!(rt; entries, 2, "{path:?}");
+        let found = held(&rt, rt.alloc(), path, LOOP)?;
+        assert_eq!(rt; found, (End::Success(10_000), 50_011, 2), "{path:?}");
     }
     Ok(())
 }

@@ -3,12 +3,17 @@
 ghost use Rattle.std.specs.Prelude.{IfSome};
 
 use crate::outsides::Open;
-use crate::replayed::replays;
+use crate::paths::{Outcome, PATHS, Path, ending};
 use crate::texts::{SEVEN, accepted};
+use std::alloc::Global;
+use std::process::Abort;
+use std::sync::Wait;
 use std::sync::atomic::{AtomicU64, Ordering};
 use std::test::Fail;
+use std::thread::Threads;
 use sts_model::{End, Event};
-use sts_pool::{Outside, run, run_unwritten};
+use sts_pool::Outside;
+use sts_verify::Verified;
 
 /// The steps of `SEVEN`.
 const STEPS: u64 = 2;
@@ -46,59 +51,47 @@ const WORKERS: [u32; 3] = [1, 2, 16];
 /// The event is given at the questions with smaller numbers than this. 16 workers ask less often.
 const QUESTIONS: u64 = 36;
 
-/// An event that is given after the last step is in the journal. Whether one is asked for or not,
-/// the run is reported.
-#[test]
-fn an_event_after_the_last_step_is_recorded(rt: HostRuntime) -> Result<(), Fail> {
-    let verified = accepted(rt.alloc(), SEVEN)?;
-    for workers in WORKERS {
-        assert!(rt; 1 <= workers && workers <= 16);
-        for at in 1..QUESTIONS {
-            let given = AtomicU64::new(0);
-            let late = Late {
-                at,
-                asked: 0,
-                given: &given,
-            };
-            let report = run(&rt, rt.alloc(), &verified, workers, &Open, late)?;
-            assert_eq!(rt; report.end, End::Success(7), "{workers} workers, {at}");
-            replays(&rt, rt.alloc(), &verified, &report)?;
-            let came = report
-                .journal
-                .iter()
-                .filter(|e| **e == Event::Interrupt(77))
-                .count();
-            let given = given.load(Ordering::SeqCst);
-            assert_eq!(rt; came as u64, given, "{workers} workers, {at}");
-            assert!(rt; given == 1 || at > 1, "{workers} workers, {at}");
-        }
-    }
+/// Asks for the event at the question of this number, and compares what comes of it. One question is
+/// always asked.
+fn asks<R: Abort + Threads + Wait + Sync>(
+    rt: &R,
+    alloc: Global,
+    path: Path,
+    verified: &Verified,
+    workers: u32,
+    at: u64,
+) -> Result<(), Fail> {
+    let given = AtomicU64::new(0);
+    let late = Late {
+        at,
+        asked: 0,
+        given: &given,
+    };
+    let outcome = ending(rt, alloc, path, verified, workers, &Open, late)?;
+    let idle = given.load(Ordering::SeqCst);
+    let wanted = Outcome {
+        end: End::Success(7),
+        steps: STEPS,
+        entries: STEPS.saturating_add(idle),
+        idle,
+    };
+    assert!(rt;
+        outcome == wanted && (idle == 1 || at > 1),
+        "{workers} workers, {at}, {path:?}: {outcome:?}"
+    );
     Ok(())
 }
 
-/// The same if the entries of the journal are only counted.
+/// An event that is given after the last step is in the journal, or is counted if none is written.
+/// Whether one is asked for or not, the run is reported.
 #[test]
-fn an_event_after_the_last_step_is_counted(rt: HostRuntime) -> Result<(), Fail> {
+fn an_event_after_the_last_step_is_recorded(rt: HostRuntime) -> Result<(), Fail> {
     let verified = accepted(rt.alloc(), SEVEN)?;
-    for workers in WORKERS {
-        assert!(rt; 1 <= workers && workers <= 16);
-        for at in 1..QUESTIONS {
-            let given = AtomicU64::new(0);
-            let late = Late {
-                at,
-                asked: 0,
-                given: &given,
-            };
-            let ending = run_unwritten(&rt, rt.alloc(), &verified, workers, &Open, late)?;
-            assert_eq!(rt; ending.end, End::Success(7), "{workers} workers, {at}");
-            assert_eq!(rt; ending.steps, STEPS, "{workers} workers, {at}");
-            let given = given.load(Ordering::SeqCst);
-            assert_eq!(rt;
-                ending.counted.len() as u64,
-                given,
-                "{workers} workers, {at}"
-            );
-            assert!(rt; given == 1 || at > 1, "{workers} workers, {at}");
+    for path in PATHS {
+        for workers in WORKERS {
+            for at in 1..QUESTIONS {
+                asks(&rt, rt.alloc(), path, &verified, workers, at)?;
+            }
         }
     }
     Ok(())

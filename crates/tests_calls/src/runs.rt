@@ -1,7 +1,7 @@
 //! Runs with several workers, and their journals replayed.
 
 use crate::outsides::{Open, Weather};
-use crate::paths::{Path, ending};
+use crate::paths::{Outcome, Path, ending};
 use crate::texts::{BOUND, DOUBLES, LATE, LOOPED, ROWS, SEVEN, THOUSAND, TIMED, TURNS, accepted};
 use std::alloc::Global;
 use std::process::Abort;
@@ -9,7 +9,6 @@ use std::sync::Wait;
 use std::test::Fail;
 use std::thread::Threads;
 use sts_model::End;
-use sts_pool::run;
 
 /// The numbers of workers with which each text runs.
 static WORKERS: [u32; 4] = [1, 2, 8, 16];
@@ -84,28 +83,16 @@ static RUNS: [Run; 14] = [
     ),
 ];
 
-/// Runs a text with this number of workers, and writes its journal.
-fn ends<R: Abort + Threads + Wait + Sync>(
-    rt: &R,
-    alloc: Global,
-    row: &Run,
-    workers: u32,
-) -> Result<(), Fail> {
-    assert!(rt; 1 <= workers && workers <= 16);
-    let name = row.0;
-    let verified = accepted(alloc, name)?;
-    let report = run(rt, alloc, &verified, workers, &Open, row.1)?;
-    let entries = report.journal.len() as u64;
-    assert_eq!(rt;
-        entries,
-        report.steps.saturating_add(row.1.entries()),
-        "{workers} workers tell {name:?}"
-    );
-    Ok(())
+/// Returns whether a run of a row ended as it may, in as many steps. Its journal has these steps and
+/// what came from outside.
+fn fits(row: &Run, outcome: Outcome) -> bool {
+    row.2.contains(&outcome.end)
+        && outcome.steps == row.3.unwrap_or(outcome.steps)
+        && outcome.entries == outcome.steps.saturating_add(row.1.entries())
 }
 
 /// Runs a text with so many workers on a path.
-fn ends_on<R: Abort + Threads + Wait + Sync>(
+fn ends<R: Abort + Threads + Wait + Sync>(
     rt: &R,
     alloc: Global,
     path: Path,
@@ -114,16 +101,10 @@ fn ends_on<R: Abort + Threads + Wait + Sync>(
 ) -> Result<(), Fail> {
     let name = row.0;
     let verified = accepted(alloc, name)?;
-    let ended = ending(rt, alloc, path, &verified, workers, &Open, row.1)?;
+    let outcome = ending(rt, alloc, path, &verified, workers, &Open, row.1)?;
     assert!(rt;
-        row.2.contains(&ended.end),
-        "{workers} workers end {name:?}, {path:?}"
-    );
-    let steps = row.3.unwrap_or(ended.steps);
-    assert_eq!(rt;
-        ended.steps,
-        steps,
-        "{workers} workers step {name:?}, {path:?}"
+        fits(row, outcome),
+        "{workers} workers, {name:?}, {path:?}: {outcome:?}"
     );
     Ok(())
 }
@@ -135,7 +116,7 @@ fn all_end<R: Abort + Threads + Wait + Sync>(
 ) -> Result<(), Fail> {
     for row in &RUNS {
         for workers in &WORKERS {
-            ends_on(rt, alloc, path, row, *workers)?;
+            ends(rt, alloc, path, row, *workers)?;
         }
     }
     Ok(())
@@ -149,14 +130,4 @@ fn runs_end_alike_with_no_journal(rt: HostRuntime) -> Result<(), Fail> {
 #[test]
 fn runs_end_with_any_number_of_workers(rt: HostRuntime) -> Result<(), Fail> {
     all_end(&rt, rt.alloc(), Path::Written)
-}
-
-#[test]
-fn journals_have_the_steps_and_what_came_from_outside(rt: HostRuntime) -> Result<(), Fail> {
-    for row in &RUNS {
-        for workers in &WORKERS {
-            ends(&rt, rt.alloc(), row, *workers)?;
-        }
-    }
-    Ok(())
 }

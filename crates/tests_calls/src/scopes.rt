@@ -1,7 +1,6 @@
 //! Room for more scopes than an accepted program has at once.
 
-use crate::calls::{Call, make_all};
-use std::process::Abort;
+use crate::calls::{Call, first_wrong};
 use std::test::Fail;
 use sts_code::Joiner;
 use sts_tree::Tree;
@@ -9,52 +8,66 @@ use sts_tree::Tree;
 /// How many scopes are closed before as many others are opened.
 const FEW: u32 = 1_000;
 
+/// Returns whether each of these calls has its answer.
+fn fits(tree: &mut Tree<u8>, calls: &[Call]) -> bool {
+    first_wrong(tree, calls).is_none()
+}
+
 /// The root opens the scopes of these births.
-fn open_each(rt: &impl Abort, tree: &mut Tree<u8>, first: u32, end: u32) {
+fn open_each(tree: &mut Tree<u8>, first: u32, end: u32) -> bool {
     for s in first..end {
-        make_all(rt, tree, &[Call::Open(0, Joiner::AwaitAll, s)]);
+        if !fits(tree, &[Call::Open(0, Joiner::AwaitAll, s)]) {
+            return false;
+        }
     }
+    true
 }
 
 /// The keys of these scopes lead back to them.
-fn find_each(rt: &impl Abort, tree: &mut Tree<u8>, first: u32, end: u32) {
+fn find_each(tree: &mut Tree<u8>, first: u32, end: u32) -> bool {
     for s in first..end {
-        make_all(rt, tree, &[Call::HasScope(s, true)]);
+        if !fits(tree, &[Call::HasScope(s, true)]) {
+            return false;
+        }
     }
+    true
 }
 
 /// The root closes the scopes of these births.
-fn close_each(rt: &impl Abort, tree: &mut Tree<u8>, first: u32, end: u32) {
+fn close_each(tree: &mut Tree<u8>, first: u32, end: u32) -> bool {
     for s in first..end {
-        make_all(rt, tree, &[Call::Close(s)]);
+        if !fits(tree, &[Call::Close(s)]) {
+            return false;
+        }
     }
+    true
 }
 
-/// As many scopes are open as there is room for. A few are closed, as many others get their keys, and
-/// at last all are closed.
-fn fill_and_empty(rt: &impl Abort, tree: &mut Tree<u8>, room: u32) {
+/// As many scopes are open as there is room for, and a few are closed.
+fn fill(tree: &mut Tree<u8>, room: u32) -> bool {
+    fits(tree, &[Call::Room(0, room)])
+        && open_each(tree, 0, room)
+        && fits(tree, &[Call::Room(0, 0), Call::HasScope(0, true)])
+        && close_each(tree, 0, FEW)
+        && fits(tree, &[Call::Room(0, FEW), Call::HasScope(0, false)])
+}
+
+/// As many others get the keys of those that were closed, and at last all are closed.
+fn use_again(tree: &mut Tree<u8>, room: u32) -> bool {
     let born = room.saturating_add(FEW);
-    make_all(rt, tree, &[Call::Room(0, room)]);
-    open_each(rt, tree, 0, room);
-    make_all(rt, tree, &[Call::Room(0, 0), Call::HasScope(0, true)]);
-    close_each(rt, tree, 0, FEW);
-    make_all(rt, tree, &[Call::Room(0, FEW), Call::HasScope(0, false)]);
-    open_each(rt, tree, room, born);
-    make_all(rt, tree, &[Call::Room(0, 0), Call::HasScope(0, false)]);
-    find_each(rt, tree, FEW, born);
-    close_each(rt, tree, FEW, born);
-    make_all(
-        rt,
-        tree,
-        &[Call::Room(0, room), Call::HasScope(room, false)],
-    );
+    open_each(tree, room, born)
+        && fits(tree, &[Call::Room(0, 0), Call::HasScope(0, false)])
+        && find_each(tree, FEW, born)
+        && close_each(tree, FEW, born)
+        && fits(tree, &[Call::Room(0, room), Call::HasScope(room, false)])
 }
 
 #[test]
 fn as_many_scopes_are_open_as_there_is_room_for(rt: HostRuntime) -> Result<(), Fail> {
     for room in [65_536, 65_537, 200_000] {
         let mut tree = Tree::with_room(rt.alloc(), 1, room)?;
-        fill_and_empty(&rt, &mut tree, room);
+        let found = (fill(&mut tree, room), use_again(&mut tree, room));
+        assert_eq!(rt; found, (true, true), "room for {room}");
     }
     Ok(())
 }

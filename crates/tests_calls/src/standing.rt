@@ -1,13 +1,10 @@
 //! The numbers that count after some steps, and the room that is left.
 
-use crate::texts::{BOUND, DOUBLES, THOUSAND};
+use crate::texts::{BOUND, DOUBLES, THOUSAND, accepted};
 use std::alloc::{AllocError, Global};
-use std::process::Abort;
 use std::test::Fail;
-use sts_asm::assemble;
 use sts_machine::{Machine, Standing, Turned, replay};
 use sts_model::{End, Event};
-use sts_verify::verify;
 
 /// A task, and a number of its steps.
 struct Steps(u32, u16);
@@ -82,57 +79,60 @@ fn events(alloc: Global, steps: &[Steps]) -> Result<Vec<Event>, AllocError> {
     Ok(events)
 }
 
-fn stands<R: Abort>(rt: &R, alloc: Global, point: &Point) -> Result<(), Fail> {
-    match verify(alloc, assemble(alloc, point.text.as_bytes())?) {
-        Ok(verified) => {
-            let events = events(alloc, point.steps)?;
-            let machine = replay(alloc, &verified, events.as_slice())?;
-            assert_eq!(rt; machine.standing(), point.standing, "{:?}", point.text);
-            assert_eq!(rt; machine.room(), point.room, "{:?}", point.text);
-            let subtask = point.standing.tasks > 1;
-            assert_eq!(rt; machine.key_of(1).is_some(), subtask, "{:?}", point.text);
-            let scope = point.standing.scopes > 0;
-            assert_eq!(rt;
-                machine.scope_key_of(0).is_some(),
-                scope,
-                "{:?}",
-                point.text
-            );
-        }
-        Err(_) => assert!(rt; false, "{:?} is not accepted", point.text),
-    }
-    Ok(())
+/// Returns the numbers that count at a point, with the room that is left, and whether a subtask and a
+/// scope have a key.
+fn found_at(alloc: Global, point: &Point) -> Result<(Standing, Standing, bool, bool), Fail> {
+    let events = events(alloc, point.steps)?;
+    let verified = accepted(alloc, point.text)?;
+    let machine = replay(alloc, &verified, events.as_slice())?;
+    Ok((
+        machine.standing(),
+        machine.room(),
+        machine.key_of(1).is_some(),
+        machine.scope_key_of(0).is_some(),
+    ))
 }
 
 #[test]
 fn what_stands_is_told(rt: HostRuntime) -> Result<(), Fail> {
     for point in &POINTS {
-        stands(&rt, rt.alloc(), point)?;
+        let standing = point.standing;
+        let found = found_at(rt.alloc(), point)?;
+        let wanted = (
+            standing,
+            point.room,
+            standing.tasks > 1,
+            standing.scopes > 0,
+        );
+        assert_eq!(rt; found, wanted, "{:?}", point.text);
     }
     Ok(())
 }
 
-/// Steps some task that can step, until no task can. Each turn is one step. At most two tasks and a
-/// scope count at once, and only the root counts at the end.
+/// Steps some task that can step, until no task can. Returns whether each turn was one step, and at
+/// most two tasks and a scope counted at once.
+fn stand_one_at_a_time(machine: &mut Machine<'_>) -> bool {
+    for step in 0u64..9004 {
+        let Some(task) = machine.ready() else {
+            return true;
+        };
+        let is_step = machine.turn(Event::Step(task)) == Turned::Stepped;
+        let room = machine.room();
+        let is_alone = room.tasks <= 1 && room.scopes <= 1 && room.binds == 0;
+        if !is_step || !is_alone || machine.steps() != step + 1 {
+            return false;
+        }
+    }
+    true
+}
+
+/// Only the root counts at the end of a thousand scopes.
 #[test]
 fn a_thousand_scopes_stand_one_at_a_time(rt: HostRuntime) -> Result<(), Fail> {
-    let alloc = rt.alloc();
-    match verify(alloc, assemble(alloc, THOUSAND.as_bytes())?) {
-        Ok(verified) => {
-            let mut machine = Machine::prepare(alloc, &verified)?;
-            for step in 0u64..9004 {
-                match machine.ready() {
-                    None => break,
-                    Some(task) => assert_eq!(rt; machine.turn(Event::Step(task)), Turned::Stepped),
-                }
-                assert_eq!(rt; machine.steps(), step + 1);
-                let room = machine.room();
-                assert!(rt; room.tasks <= 1 && room.scopes <= 1 && room.binds == 0);
-            }
-            assert_eq!(rt; machine.root_end(), Some(End::Success(5)));
-            assert_eq!(rt; machine.standing(), ROOT_ALONE);
-        }
-        Err(_) => assert!(rt; false, "the program is not accepted"),
-    }
+    let verified = accepted(rt.alloc(), THOUSAND)?;
+    let mut machine = Machine::prepare(rt.alloc(), &verified)?;
+    let is_well = stand_one_at_a_time(&mut machine);
+    let found = (is_well, machine.root_end(), machine.standing());
+    assert_eq!(rt; found, (true, Some(End::Success(5)), ROOT_ALONE));
     Ok(())
 }

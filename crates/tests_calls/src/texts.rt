@@ -148,6 +148,8 @@ pub const SHORT_THEN_LONG: &str = "\
 
 /// The program of a text.
 pub fn accepted(alloc: Global, text: &str) -> Result<Verified, Fail> {
-    let program = assemble(alloc, text.as_bytes())?;
-    Ok(verify(alloc, program).ok().ok_or("not accepted")?)
+    match verify(alloc, assemble(alloc, text.as_bytes())?) {
+        Ok(verified) => Ok(verified),
+        Err(_) => Err(Fail::new("the program is not accepted")),
+    }
 }

@@ -17,7 +17,7 @@ bind-third-requires-clause-whole g c =
     let kept = c.bind-kept.ensures.whole in
     let stays = c.bind-first.ensures.others _ kept in
     let not_held = apart c.bind-kept.new.self c.bind-first.new.self c.bind-second.new.self _ _ _ kept one stays c.bind-first.ensures.whole c.bind-second.ensures.puts in
-    (c.unbind.ensures.others _ c.bind-second.ensures.whole one.key one.front not_held).whole
+    (c.unbind-rest.ensures.others _ c.bind-second.ensures.whole one.key one.front not_held).whole
 
 pub read-requires-7 : goal.read-requires-7
 read-requires-7 g c =
@@ -25,5 +25,5 @@ read-requires-7 g c =
     let kept = c.bind-kept.ensures.whole in
     let stays = c.bind-first.ensures.others _ kept in
     let not_held = apart c.bind-kept.new.self c.bind-first.new.self c.bind-second.new.self _ _ _ kept one stays c.bind-first.ensures.whole c.bind-second.ensures.puts in
-    let second = (c.unbind.ensures.others _ c.bind-second.ensures.whole one.key one.front not_held).whole in
+    let second = (c.unbind-rest.ensures.others _ c.bind-second.ensures.whole one.key one.front not_held).whole in
     record { whole = (c.bind-third.ensures.others _ second).whole }
