@@ -1,10 +1,12 @@
 //! A book that takes no further outside event.
 
 use crate::texts::{SEVEN, accepted};
+use std::alloc::{AllocError, Global};
 use std::test::Fail;
 use sts_machine::Turned;
 use sts_model::{End, Event};
 use sts_pool::{Book, OutsideFull};
+use sts_verify::Verified;
 
 /// Fills a book with outside events that are idle.
 fn fill(book: &mut Book<'_>) -> bool {
@@ -31,12 +33,17 @@ fn goes_on(book: &mut Book<'_>) -> bool {
         && book.journal().len() == 4098
 }
 
+/// Does all three with a book of this program.
+fn does_all(alloc: Global, verified: &Verified) -> Result<(bool, bool, bool), AllocError> {
+    let mut book = Book::start(alloc, verified)?;
+    Ok((fill(&mut book), refuses(&mut book), goes_on(&mut book)))
+}
+
 /// After 4,096 outside events a book refuses one more, and its task goes on.
 #[test]
 fn a_full_book_still_turns(rt: HostRuntime) -> Result<(), Fail> {
     let verified = accepted(rt.alloc(), SEVEN)?;
-    let mut book = Book::start(rt.alloc(), &verified)?;
-    let found = (fill(&mut book), refuses(&mut book), goes_on(&mut book));
+    let found = does_all(rt.alloc(), &verified)?;
     assert_eq!(rt; found, (true, true, true));
     Ok(())
 }

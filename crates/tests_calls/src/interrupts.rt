@@ -1,9 +1,11 @@
 //! Interrupts of a task when its record is used again.
 
 use crate::texts::{THOUSAND, accepted};
+use std::alloc::{AllocError, Global};
 use std::test::Fail;
 use sts_machine::{Machine, Turned};
 use sts_model::{End, Event};
+use sts_verify::Verified;
 
 /// Steps some task that can step, one after another, and interrupts task 1 after each step. Returns
 /// whether each interrupt counted just while the task lived.
@@ -25,13 +27,18 @@ fn interrupt_between(machine: &mut Machine<'_>) -> bool {
     true
 }
 
+/// Does so on a machine of this program. Returns how its root has ended, too.
+fn end_after(alloc: Global, verified: &Verified) -> Result<(bool, Option<End>), AllocError> {
+    let mut machine = Machine::prepare(alloc, verified)?;
+    Ok((interrupt_between(&mut machine), machine.root_end()))
+}
+
 /// Task 1 lives from the fourth step of `main`, which forks it, to its own second step. The tasks
 /// that are forked after it get its key.
 #[test]
 fn an_interrupt_counts_while_its_task_lives(rt: HostRuntime) -> Result<(), Fail> {
     let verified = accepted(rt.alloc(), THOUSAND)?;
-    let mut machine = Machine::prepare(rt.alloc(), &verified)?;
-    let found = (interrupt_between(&mut machine), machine.root_end());
+    let found = end_after(rt.alloc(), &verified)?;
     assert_eq!(rt; found, (true, Some(End::Success(5))));
     Ok(())
 }

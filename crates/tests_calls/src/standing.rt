@@ -5,6 +5,7 @@ use std::alloc::{AllocError, Global};
 use std::test::Fail;
 use sts_machine::{Machine, Standing, Turned, replay};
 use sts_model::{End, Event};
+use sts_verify::Verified;
 
 /// A task, and a number of its steps.
 struct Steps(u32, u16);
@@ -79,18 +80,25 @@ fn events(alloc: Global, steps: &[Steps]) -> Result<Vec<Event>, AllocError> {
     Ok(events)
 }
 
-/// Returns the numbers that count at a point, with the room that is left, and whether a subtask and a
-/// scope have a key.
-fn found_at(alloc: Global, point: &Point) -> Result<(Standing, Standing, bool, bool), Fail> {
-    let events = events(alloc, point.steps)?;
-    let verified = accepted(alloc, point.text)?;
-    let machine = replay(alloc, &verified, events.as_slice())?;
+/// The numbers that count, with the room that is left, and whether a subtask and a scope have a key.
+type Found = (Standing, Standing, bool, bool);
+
+/// Returns what counts after these events.
+fn found_after(alloc: Global, verified: &Verified, events: &[Event]) -> Result<Found, AllocError> {
+    let machine = replay(alloc, verified, events)?;
     Ok((
         machine.standing(),
         machine.room(),
         machine.key_of(1).is_some(),
         machine.scope_key_of(0).is_some(),
     ))
+}
+
+/// Returns what counts at a point.
+fn found_at(alloc: Global, point: &Point) -> Result<Found, Fail> {
+    let verified = accepted(alloc, point.text)?;
+    let events = events(alloc, point.steps)?;
+    Ok(found_after(alloc, &verified, events.as_slice())?)
 }
 
 #[test]
@@ -126,13 +134,18 @@ fn stand_one_at_a_time(machine: &mut Machine<'_>) -> bool {
     true
 }
 
+/// Does so on a machine of this program. Returns how its root has ended and what counts then, too.
+fn end_of(alloc: Global, verified: &Verified) -> Result<(bool, Option<End>, Standing), AllocError> {
+    let mut machine = Machine::prepare(alloc, verified)?;
+    let is_well = stand_one_at_a_time(&mut machine);
+    Ok((is_well, machine.root_end(), machine.standing()))
+}
+
 /// Only the root counts at the end of a thousand scopes.
 #[test]
 fn a_thousand_scopes_stand_one_at_a_time(rt: HostRuntime) -> Result<(), Fail> {
     let verified = accepted(rt.alloc(), THOUSAND)?;
-    let mut machine = Machine::prepare(rt.alloc(), &verified)?;
-    let is_well = stand_one_at_a_time(&mut machine);
-    let found = (is_well, machine.root_end(), machine.standing());
+    let found = end_of(rt.alloc(), &verified)?;
     assert_eq!(rt; found, (true, Some(End::Success(5)), ROOT_ALONE));
     Ok(())
 }
