@@ -1,4 +1,5 @@
 """Tests the agent itself with a JDK 25: its words, its limits, how a program is started, and that it never hangs or throws."""
+import concurrent.futures
 import glob
 import os
 import re
@@ -80,6 +81,19 @@ class Edges:
         counts = runs.counts(f"{self.room}/equal")
         self.demand("equal recordings are merged and counted", sum(counts.values()) == 30 and len(counts) == len(self.recordings("equal")) < 10, counts)
 
+    def later_runs(self):
+        """Runs that use one folder, one after the other or side by side, lose no recording of another one."""
+        for n in (1, 2):
+            self.java("folder=again", "Loop", "shop.Both", "30")
+            counts = runs.counts(f"{self.room}/again")
+            self.demand(f"{n} runs are counted", sum(counts.values()) == 30 * n and len(counts) == len(self.recordings("again")) < 10, counts)
+        self.java("folder=again,values=text", "shop.Fastest")
+        self.demand("another program's recording is added", len(self.recordings("again")) == len(counts) + 1)
+        with concurrent.futures.ThreadPoolExecutor(3) as pool:
+            list(pool.map(lambda _: self.java("folder=beside", "Loop", "shop.Both", "30"), range(3)))
+        counts = runs.counts(f"{self.room}/beside")
+        self.demand("three runs side by side are counted", sum(counts.values()) == 90 and set(counts) == {os.path.basename(it)[:-4] for it in self.recordings("beside")}, counts)
+
     # ---- how a program is started
 
     def jar_and_module(self):
@@ -138,7 +152,7 @@ class Edges:
 def test(home):
     with tempfile.TemporaryDirectory() as room:
         edges = Edges(home, room)
-        for part in (edges.words, edges.other_jdks, edges.values, edges.limits, edges.jar_and_module, edges.hangs, edges.many, edges.same_output):
+        for part in (edges.words, edges.other_jdks, edges.values, edges.limits, edges.later_runs, edges.jar_and_module, edges.hangs, edges.many, edges.same_output):
             part()
             sys.stdout.flush()
     print(f"the agent: {edges.count} demands, {len(edges.failures)} fail")

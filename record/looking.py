@@ -13,8 +13,17 @@ ROOT = os.path.dirname(HERE)
 REFUSED, MOST_INTERRUPTS = 4, 2
 LEAST_STATES, TASK_STATES = 100, 10_000_000  # of a search
 SAMPLE = 50_000  # random schedules, if the search stops
-EACH = 200_000  # events times tasks, up to which `look view --each` is asked whether each event counts
 BUILDS = {"sts": "verify examples/sum.sts", "look": "explain examples/sum.sts"}  # a call that builds a program
+
+
+TASK = re.compile(r"task (\d+), .*: (ready|waits|never starts|(success|failed) -?\d+)(, not told)?$")
+IDLE = re.compile(r"(\d+) idle(?: interrupt| expiry)?: (.*)$")
+
+
+class Told(NamedTuple):
+    """What `look tell --strict` says of a run: how each task ended, and the first event that doesn't count, if there is one."""
+    tasks: dict      # the words of each task, by its number
+    idle: str        # "event 7 doesn't count: task 1, ask has ended"
 
 
 class Search(NamedTuple):
@@ -74,26 +83,21 @@ class Programs:
             return said.splitlines(), False
         return self.says(self.sts, "plain", self.bare(text), trace)[1].splitlines(), True
 
-    def states(self, text, trace):
-        """Returns the words of each task after the trace, and which scopes have expired."""
-        tasks, expired = {}, set()
-        for line in self.says(self.look, "view", self.bare(text), trace)[1].splitlines():
-            if m := re.match(r"task (\d+) under \S+ in \S+ at \d+, (?:(?:after )?line \d+|its end) (.*?)( interrupted)?$", line):
-                tasks[int(m[1])] = m[2]
-            elif m := re.match(r"scope (\d+) .* expired", line):
-                expired.add(int(m[1]))
-        return tasks, expired
+    def told(self, text, trace):
+        """Returns what `look tell --strict` says of a run. It stops at the first event that doesn't count."""
+        tasks, idle = {}, ""
+        for line in self.says(self.look, "tell", self.bare(text), trace, "--strict")[1].splitlines():
+            if m := TASK.match(line):
+                tasks[int(m[1])] = f"{'unheard ' if m[4] else ''}{m[2].replace('never starts', 'never-started')}"
+            elif m := IDLE.match(line):
+                idle = f"event {m[1]} doesn't count: {m[2]}"
+        return Told(tasks, idle)
 
-    def idle(self, text, trace, tasks):
-        """Returns the events that don't count, as far as a program says it."""
-        with open(trace) as file:
-            events = file.read().splitlines()
-        if len(events) * max(1, len(tasks)) <= EACH:
-            said = self.says(self.look, "view", self.bare(text), trace, "--each")[1]
-            return [it[len("after "):-len(" idle")] for it in said.splitlines() if it.startswith("after ") and it.endswith(" idle")]
-        lines, _ = self.replay(text, trace)
-        steps = sum(it.startswith("step ") for it in events)
-        return [] if lines[-1] == f"steps {steps}" else [f"some of {steps} steps: {lines[-1]}"]
+    def states(self, text, trace):
+        """Returns the words of each task after the whole trace, also if some events don't count."""
+        lines = self.says(self.look, "view", self.bare(text), trace)[1].splitlines()
+        found = [m for it in lines if (m := re.match(r"task (\d+) under \S+ in \S+ at \d+, (?:(?:after )?line \d+|its end) (.*?)( interrupted)?$", it))]
+        return {int(m[1]): m[2] for m in found}
 
     def explain(self, text, *trace):
         return self.says(self.look, "explain", self.bare(text), *trace)[1].splitlines()

@@ -131,5 +131,5 @@ class Questions:
         key = self.texts.key(recording, op.key)
         if is_bound and key not in state.bound():
             self.needs.add(key)
-            self.texts.outer.setdefault(key, self.values.number(recording, op.value) if op.kind != "bound" else 1)
+            self.texts.bind_before(recording, op)
         return key

@@ -107,15 +107,15 @@ class Single(Report):
         return 1 if wrong else 0
 
     def wrong(self):
-        tasks, expired = self.programs.states(*self.files)
-        self.said, _ = self.programs.replay(*self.files)
+        """Returns what differs from the rules. If an event doesn't count, the ends are those after all events."""
         fault = judged.fault_of(self.recording)
         if fault:
-            is_same = self.said[0].startswith(f"fault {fault[0]} task {fault[1]} ")
-            return [] if is_same else [f"in Java a fault {fault[0]} of task {fault[1]}, by the rules {self.said[0]}"]
-        wrong = judged.wrong_ends(self.recording, self.made, tasks)
-        wrong += [f"the expiry of scope {it} has no effect" for kind, it in self.recording.events if kind == "expire" and it not in expired]
-        return wrong + [f"event {it} doesn't count" for it in self.programs.idle(*self.files, tasks)]
+            said = self.programs.replay(*self.files)[0][0]
+            return [] if said.startswith(f"fault {fault[0]} task {fault[1]} ") else [f"in Java a fault {fault[0]} of task {fault[1]}, by the rules {said}"]
+        told = self.programs.told(*self.files)
+        if not told.idle:
+            return judged.wrong_ends(self.recording, self.made, told.tasks)
+        return [told.idle, *judged.wrong_ends(self.recording, self.made, self.programs.states(*self.files))]
 
     def agreement(self, wrong):
         if wrong:

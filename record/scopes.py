@@ -23,7 +23,7 @@ class Opens:
 
     def bind_outer(self, state):
         """Makes the bindings that were in force before the outermost scope was opened, as far as somebody reads them."""
-        for key, value in sorted(self.texts.outer_bindings(self).items()):
+        for key, value in sorted(self.texts.outer.items()):
             self.say(f"push {value}")
             self.say(f"bind {key}")
             state.entries += (Entry(key),)

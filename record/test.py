@@ -23,6 +23,7 @@ ROOT = os.path.dirname(HERE)
 sys.path[:0] = [HERE, os.path.join(ROOT, "jdk"), ROOT]
 import agent_edges  # noqa: E402
 import jdk25  # noqa: E402
+import judging_edges  # noqa: E402
 import runs  # noqa: E402
 import writing_edges  # noqa: E402
 
@@ -134,7 +135,7 @@ def main():
             return jdk25.NO_JDK
         write(home, programs, asked.names or shown())
         return 0
-    failures = compare(programs) + writing_edges.test()
+    failures = compare(programs) + judging_edges.test(programs) + writing_edges.test()
     if home is None:
         print("no JDK 25 was found: the agent and fresh recordings were NOT tested")
     else:

@@ -8,7 +8,7 @@ import re
 from ends import Wants
 from functions import Code, Function
 from named import Names
-from outcomes import Joining, Options
+from outcomes import KEYS, Joining, Options, kept
 from states import Full
 from unrecorded import unstarted
 from values import Values, ascii
@@ -85,8 +85,21 @@ class Texts:
             raise Full("keys", f"there are more than {MOST_KEYS} scoped values")
         return number
 
-    def outer_bindings(self, _):
-        return self.outer
+    def bind_before(self, recording, op):
+        """Notes that the key of a question was bound before the outermost scope was opened: the root's prelude binds it."""
+        self.outer.setdefault(self.key(recording, op.key), self.values.number(recording, op.value) if op.kind != "bound" else 1)
+
+    def ask_root(self):
+        """Notes which of these bindings the root itself asks for. Its questions are written after its prelude."""
+        for recording in self.recordings:
+            bound = []
+            for op in kept(recording.tasks[0], self.options, ()):
+                if op.kind == "bind":
+                    bound.append(op.key)
+                elif op.kind == "unbind":
+                    del bound[-1:]
+                elif op.kind in KEYS and not op.fault and op.answer != "false" and op.key not in bound:
+                    self.bind_before(recording, op)
 
     def left_out(self, what):
         self.left.setdefault(what)
@@ -103,6 +116,7 @@ class Texts:
         # the functions of subtasks first: the root's prelude binds what they need
         code = Code(self, self.root, Wants())
         code.ends.study(self.root.tree, code.wanted_function)
+        self.ask_root()
         code = Code(self, self.root, Wants())
         body = "\n".join(code.write())
         site = self.recordings[0].site

@@ -85,6 +85,18 @@ class Tests:
         self.demand("names are comments only", ";=" not in without_names(text) and len(without_names(text).splitlines()) == len(text.splitlines()))
         self.demand("several values in one number are named", shown.end("success 10011001") == 'success "a" with "a"')
 
+    def bound_before(self):
+        """The root reads a value that was bound before its scope was opened, and binds another one itself."""
+        events = [op("open", 0, 1, scope=0), op("fork", 0, 2, scope=0, subtask=1), op("end", 1, 2, way="ret", value=1),
+                  op("read", 0, 3, key=0, value=2), op("bind", 0, 4, key=1, value=1), op("read", 0, 4, key=1, value=1), op("unbind", 0, 4),
+                  op("join", 0, 5, scope=0, way="ok"), op("read", 0, 6, key=0, value=2), op("close", 0, 7, scope=0), op("end", 0, 1, way="ret")]
+        it = read(lines([True], events, values=['{"value": 1, "type": "Quote"}', '{"value": 2, "type": "Tenant"}']))
+        end, counts, text = ended(it)
+        held = (text.count("bind 0"), text.count("bind 1"), text.index("bind 0") < text.index("open s0") < text.index("bind 1"))
+        self.demand("the root reads what was bound before", (end.split()[0], counts, held) == ("success", True, (1, 1, True)), (end, counts, text))
+        text, _ = texts.searched([it])
+        self.demand("a search doesn't need bindings", "bind" not in text and "read" not in text, text)
+
     def joined(self):
         """Two recordings fill in what one of them didn't record."""
         def one(way):
@@ -103,7 +115,7 @@ class Tests:
 
 def test():
     tests = Tests()
-    for part in (tests.loops, tests.ends, tests.joined):
+    for part in (tests.loops, tests.ends, tests.bound_before, tests.joined):
         part()
     print(f"the texts: {tests.count} demands, {len(tests.failures)} fail")
     return len(tests.failures)
