@@ -13,12 +13,13 @@ A table begins with a line `file NAME`, a module of vectors/reader. A mistake is
     ? why no case can notice it, if none can
 
 A case notices it by another answer, by an exception, or by no answer after a minute of computing. First all cases have to
-pass without a mistake. A line is printed for each mistake that isn't what its table says. The last line is `N noticed, M not
-noticed, K can't be noticed`; the status is 1 if such a line came before it.
+pass without a mistake. A line is printed for each mistake that isn't what its table says, and one for each table. The last
+line is that of all tables: `N noticed, M not noticed, K can't be noticed`. The status is 1 if a mistake had a line.
 """
 import argparse
 import collections
 import glob
+import itertools
 import json
 import multiprocessing
 import os
@@ -108,6 +109,10 @@ def tried(mistake):
     return found and found["name"]
 
 
+def tally(counts):
+    return ", ".join(f"{counts[it]} {it}" for it in ("noticed", "not noticed", "can't be noticed"))
+
+
 def main():
     global CASES, AGREES
     options = argparse.ArgumentParser(description=__doc__.split("\n")[0])
@@ -128,12 +133,16 @@ def main():
     wrong = [it["name"] for it in CASES if notices(right.answer, AGREES, it)]
     if wrong:
         sys.exit(f"mistakes.py: the reader is wrong without a mistake: {wrong[:5]}")
-    counts, surprises = collections.Counter(), 0
+    total, surprises = collections.Counter(), 0
     with multiprocessing.Pool(asked.jobs) as pool:
-        for it, name in zip(planted, pool.imap(tried, planted)):
-            counts["noticed" if name else "can't be noticed" if it.why else "not noticed"] += 1
-            if bool(name) == bool(it.why):
-                surprises += 1
-                print(f"{it.table}: {it.what}: " + (f"noticed by {name}" if name else "not noticed"), flush=True)
-    print(", ".join(f"{counts[it]} {it}" for it in ("noticed", "not noticed", "can't be noticed")))
+        for table, results in itertools.groupby(zip(planted, pool.imap(tried, planted)), lambda it: it[0].table):
+            counts = collections.Counter()
+            for it, name in results:
+                counts["noticed" if name else "can't be noticed" if it.why else "not noticed"] += 1
+                if bool(name) == bool(it.why):
+                    surprises += 1
+                    print(f"{it.table}: {it.what}: " + (f"noticed by {name}" if name else "not noticed"), flush=True)
+            print(f"{table}: {tally(counts)}", flush=True)
+            total += counts
+    print(tally(total))
     return 1 if surprises else 0
