@@ -1,15 +1,17 @@
 //! The ends that a search by calls finds.
 
-ghost use Rattle.std.specs.Prelude.{IfOk, IfSome};
-ghost use Rattle.ends_plain.specs.Listed.{AreEnds, IsEndOf};
+ghost use Rattle.std.specs.Prelude.{◌≡◌, true, IfOk, IfSome};
+ghost use Rattle.ends_plain.specs.Configs.{can};
+ghost use Rattle.ends_plain.specs.Listed.{AreEnds, IsEndOf, IsShownBy};
 ghost use Rattle.ends_plain.specs.declared.config.Setting.{Setting};
 
 use crate::call::number;
 use crate::player::Player;
 use crate::search::{Search, explored};
 use crate::table::Explored;
-use ends_plain::config::{Found, Setting};
-use ends_plain::shorter::end_after;
+use ends_plain::config::{Config, Found, Setting};
+use ends_plain::ends::is_end_at;
+use ends_plain::shorter::can_come;
 use std::alloc::{AllocError, Global};
 use sts_model::Event;
 use sts_plain::PlainState;
@@ -28,16 +30,42 @@ pub struct FoundByCalls {
     pub is_closed: bool,
 }
 
-/// The events that lead to the end of one of the root's ways, if the run can be made.
-fn events_to(
+/// The event, if there is one and it can come.
+fn coming(config: &Config, setting: &Setting, next: Option<Event>) -> Option<Event>
+    ensures { IfSome result (λ e. can setting.now config.now e ≡ true) }
+{
+    let event = next?;
+    if can_come(config, setting, event) {
+        Some(event)
+    } else {
+        None
+    }
+}
+
+/// The end that a player comes to, with its trace. The player stops at an event that can't come.
+fn played(
     alloc: Global,
     setting: &Setting,
-    search: &Search,
-    root: &Explored,
-    way: u32,
-) -> Result<Option<Vec<Event>>, AllocError> {
-    let player = Player::begin(alloc, setting, &search.table, root)?;
-    player.play(alloc, way)
+    first: Config,
+    player: &mut Player<'_>,
+) -> Result<Option<Found>, AllocError>
+    ensures { IfOk result (λ found. IfSome found (IsShownBy setting.now first)) }
+{
+    let mut config = first;
+    let mut trace = Vec::new(alloc);
+    for _ in 0..u64::MAX {
+        let next = player.next(alloc, &config)?;
+        let Some(event) = coming(&config, setting, next) else {
+            break;
+        };
+        config.apply_event(alloc, setting, event)?;
+        trace.push(event)?;
+    }
+    let end = config.position.state();
+    if is_end_at(end) {
+        return Ok(Some(Found { end, trace }));
+    }
+    Ok(None)
 }
 
 /// The end of one of the root's ways, after a trace of it.
@@ -50,10 +78,9 @@ fn traced(
 ) -> Result<Option<Found>, AllocError>
     ensures { IfOk result (λ found. IfSome found (IsEndOf setting.now)) }
 {
-    match events_to(alloc, setting, search, root, way)? {
-        Some(events) => end_after(alloc, setting, events.as_slice()),
-        None => Ok(None),
-    }
+    let first = Config::start(alloc, setting)?;
+    let mut player = Player::begin(alloc, setting, &search.table, root, way)?;
+    played(alloc, setting, first, &mut player)
 }
 
 /// Is this the end of one of the root's ways?

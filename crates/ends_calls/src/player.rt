@@ -1,15 +1,15 @@
-//! Makes the events that lead to an end.
+//! Finds the events that lead to an end, one at a time.
 //!
 //! The subtasks of a scope do nothing until their owner looks. Then those whose end it sees run
 //! from their beginning to their end, one after the other. The others run once their scope is
-//! cancelled and its `close` waits for them.
+//! cancelled and its `close` waits for them. Nobody sees what they do, so a scope that they open
+//! expires before they fork, if it can. Its subtasks then never start, and the trace is shorter.
 
 use crate::frames::is_at_once;
 use crate::own::Held;
 use crate::played::{Played, Start, scope_at};
 use crate::table::{Explored, Label, Table};
 use ends_plain::config::{Config, Setting};
-use ends_plain::shorter::can_come;
 use std::alloc::{AllocError, Global};
 use sts_code::Instr;
 use sts_frames::instr_at;
@@ -17,16 +17,30 @@ use sts_model::{Event, Phase, Stand};
 use sts_plain::{can_step, stand_at};
 use sts_world::World;
 
+/// What is being played.
+#[derive(Drop)]
+enum Job {
+    Task(Played),
+    /// A `close` of a scope by its owner, and the tasks that have to end before, the next one last;
+    /// `None` before they are known.
+    Close {
+        scope: u32,
+        owner: u32,
+        living: Option<Vec<u32>>,
+    },
+}
+
 /// A run that is being made.
 #[derive(Drop)]
 pub struct Player<'a> {
     setting: &'a Setting,
     table: &'a Table,
     root: &'a Explored,
-    config: Config,
-    events: Vec<Event>,
-    stack: Vec<Played>,
-    /// Could an event not come?
+    /// What is being played. Each waits for the one behind it.
+    jobs: Vec<Job>,
+    /// The events that come before the next turn, the first one last.
+    coming: Vec<Event>,
+    /// Is the run not as it was planned?
     is_wrong: bool,
 }
 
@@ -85,10 +99,7 @@ enum Turn {
     Waits(u32),
 }
 
-fn turn_of(setting: &Setting, config: &Config, t: u32) -> Turn {
-    let Some(world) = config.position.world() else {
-        return Turn::IsOver;
-    };
+fn turn_of(setting: &Setting, world: &World, t: u32) -> Turn {
     if !world.records().lives(t) {
         return Turn::IsOver;
     }
@@ -101,141 +112,24 @@ fn turn_of(setting: &Setting, config: &Config, t: u32) -> Turn {
     }
 }
 
-impl<'a> Player<'a> {
-    /// A run in which nothing has happened.
-    pub fn begin(
-        alloc: Global,
-        setting: &'a Setting,
-        table: &'a Table,
-        root: &'a Explored,
-    ) -> Result<Player<'a>, AllocError> {
-        Ok(Player {
-            setting,
-            table,
-            root,
-            config: Config::start(alloc, setting)?,
-            events: Vec::new(alloc),
-            stack: Vec::new(alloc),
-            is_wrong: false,
-        })
+/// The scope that a task has just opened, if it has no subtasks and can expire.
+fn idle_scope(setting: &Setting, world: &World, t: u32) -> Option<u32> {
+    let (_, next) = births(world);
+    let last = next.checked_sub(1)?;
+    let is_its = world.records().owner(last) == t && world.subtasks(last).is_empty();
+    if is_its && setting.expiries && world.records().can_expire(last) {
+        Some(last)
+    } else {
+        None
     }
+}
 
-    /// Lets an event come.
-    fn come(&mut self, alloc: Global, event: Event) -> Result<(), AllocError> {
-        if self.is_wrong || !can_come(&self.config, self.setting, event) {
-            self.is_wrong = true;
-            return Ok(());
-        }
-        self.config.apply_event(alloc, self.setting, event)?;
-        self.events.push(event)?;
-        Ok(())
-    }
-
-    /// The next instruction of a task.
-    fn instr(&self, t: u32) -> Option<Instr> {
-        match self.config.position.world() {
-            Some(world) => instr_of(self.setting, world, t),
-            None => None,
-        }
-    }
-
-    /// Is the next instruction of a task one that a path does at once?
-    fn is_at_once(&self, t: u32) -> bool {
-        match self.instr(t) {
-            Some(instr) => is_at_once(instr),
-            None => false,
-        }
-    }
-
-    /// Lets a task do the instructions that a path does at once.
-    fn run_at_once(&mut self, alloc: Global, t: u32) -> Result<(), AllocError> {
-        for _ in 0..u64::MAX {
-            if self.is_wrong || !self.is_at_once(t) {
-                break;
-            }
-            self.come(alloc, Event::Step(t))?;
-        }
-        Ok(())
-    }
-
-    /// The numbers that the next task and the next scope get.
-    fn births(&self) -> (u32, u32) {
-        match self.config.position.world() {
-            Some(world) => (
-                world.records().tasks_born() as u32,
-                world.records().scopes_born() as u32,
-            ),
-            None => (0, 0),
-        }
-    }
-
-    /// What is known of the call of a task.
-    fn explored(&self, call: Option<u32>) -> Option<&'a Explored> {
-        match call {
-            None => Some(self.root),
-            Some(call) => self.table.calls.get(call as usize),
-        }
-    }
-
-    /// The subtasks of a scope that live.
-    fn living(&self, alloc: Global, s: u32) -> Result<Vec<u32>, AllocError> {
-        match self.config.position.world() {
-            Some(world) => living(alloc, world, s),
-            None => Ok(Vec::new(alloc)),
-        }
-    }
-
-    /// Is the scope closed?
-    fn is_closed(&self, s: u32) -> bool {
-        match self.config.position.world() {
-            Some(world) => matches!(world.records().phase(s), Phase::Closed),
-            None => true,
-        }
-    }
-
-    /// Lets all subtasks of a scope end.
-    fn end_all(&mut self, alloc: Global, s: u32) -> Result<(), AllocError> {
-        let mut todo = self.living(alloc, s)?;
-        for _ in 0..u64::MAX {
-            if self.is_wrong {
-                break;
-            }
-            let Some(t) = todo.last().copied() else {
-                break;
-            };
-            match turn_of(self.setting, &self.config, t) {
-                Turn::Steps => self.come(alloc, Event::Step(t))?,
-                Turn::IsOver => {
-                    let _ = todo.pop();
-                }
-                Turn::Waits(inner) => {
-                    let more = self.living(alloc, inner)?;
-                    todo.extend_from_slice(more.as_slice())?;
-                }
-            }
-        }
-        Ok(())
-    }
-
-    /// Lets a `close` that has begun come to its end.
-    fn end_close(&mut self, alloc: Global, s: u32, t: u32) -> Result<(), AllocError> {
-        if self.is_closed(s) {
-            return Ok(());
-        }
-        self.end_all(alloc, s)?;
-        self.come(alloc, Event::Step(t))
-    }
-
-    /// Begins to play a task.
-    fn push(&mut self, alloc: Global, explored: &Explored, start: Start) -> Result<(), AllocError> {
-        match Played::begin(alloc, explored, start)? {
-            Some(played) => {
-                self.stack.push(played)?;
-            }
-            None => self.is_wrong = true,
-        }
-        Ok(())
-    }
+/// The numbers that the next task and the next scope get.
+fn births(world: &World) -> (u32, u32) {
+    (
+        world.records().tasks_born() as u32,
+        world.records().scopes_born() as u32,
+    )
 }
 
 /// The place of the scope that a slot is about, and the place of the subtask that it holds, if it
@@ -248,21 +142,80 @@ fn looked_at(held: Held) -> Option<(u32, Option<u32>)> {
     }
 }
 
+/// What an instruction of a task looks at, if that is a scope.
+fn look(top: &Played, explored: &Explored, instr: Instr) -> Option<(u32, Option<u32>)> {
+    let slot = looked_slot(instr)?;
+    looked_at(top.before(explored)?.own.slot(slot))
+}
+
+/// The scope that expires just before an instruction, if one does.
+fn expiring(top: &Played, explored: &Explored, instr: Instr) -> Option<u32> {
+    let (place, _) = look(top, explored, instr)?;
+    let (before, after) = scope_at(&top.before(explored)?.own, &top.after(explored)?.own, place)?;
+    if before.facts.expired || !after.facts.expired {
+        return None;
+    }
+    Some(top.scopes.get(place as usize)?.birth)
+}
+
 impl<'a> Player<'a> {
-    /// What the next step of a task looks at, if that is a scope.
-    fn look(&self, top: &Played, explored: &Explored) -> Option<(u32, Option<u32>)> {
-        let slot = looked_slot(self.instr(top.birth)?)?;
-        looked_at(top.before(explored)?.own.slot(slot))
+    /// A run up to the end of one of the root's ways, before its first event.
+    pub fn begin(
+        alloc: Global,
+        setting: &'a Setting,
+        table: &'a Table,
+        root: &'a Explored,
+        way: u32,
+    ) -> Result<Player<'a>, AllocError> {
+        let mut player = Player {
+            setting,
+            table,
+            root,
+            jobs: Vec::new(alloc),
+            coming: Vec::new(alloc),
+            is_wrong: false,
+        };
+        let start = Start {
+            call: None,
+            way,
+            birth: 0,
+        };
+        player.start(alloc, start)?;
+        Ok(player)
     }
 
-    /// Finds the subtasks that have to be played before the next step.
+    /// What is known of the call of a task.
+    fn explored(&self, call: Option<u32>) -> Option<&'a Explored> {
+        match call {
+            None => Some(self.root),
+            Some(call) => self.table.calls.get(call as usize),
+        }
+    }
+
+    /// Begins to play a task.
+    fn start(&mut self, alloc: Global, start: Start) -> Result<(), AllocError> {
+        let played = match self.explored(start.call) {
+            Some(explored) => Played::begin(alloc, explored, start)?,
+            None => None,
+        };
+        match played {
+            Some(played) => {
+                self.jobs.push(Job::Task(played))?;
+            }
+            None => self.is_wrong = true,
+        }
+        Ok(())
+    }
+
+    /// Finds the subtasks that have to be played before an instruction.
     fn prepare(
         &self,
         alloc: Global,
         top: &mut Played,
         explored: &Explored,
+        instr: Instr,
     ) -> Result<(), AllocError> {
-        let Some((place, child)) = self.look(top, explored) else {
+        let Some((place, child)) = look(top, explored, instr) else {
             return Ok(());
         };
         let (Some(before), Some(after)) = (top.before(explored), top.after(explored)) else {
@@ -280,36 +233,22 @@ impl<'a> Player<'a> {
         Ok(())
     }
 
-    /// The scope that expires just before the next step, if one does.
-    fn expiring(&self, top: &Played, explored: &Explored) -> Option<u32> {
-        let (place, _) = self.look(top, explored)?;
-        let (before, after) = scope_at(
-            &top.before(explored)?.own,
-            &top.after(explored)?.own,
-            place,
-        )?;
-        if before.facts.expired || !after.facts.expired {
-            return None;
-        }
-        Some(top.scopes.get(place as usize)?.birth)
-    }
-
-    /// Lets the outside events come that the next step needs.
+    /// Lets the outside events come that an instruction needs.
     fn come_outside(
         &mut self,
-        alloc: Global,
         top: &Played,
         explored: &Explored,
+        instr: Instr,
     ) -> Result<(), AllocError> {
-        if let Some(s) = self.expiring(top, explored) {
-            self.come(alloc, Event::Expire(s))?;
-        }
         let pays = match top.after(explored) {
             Some(node) => node.label == Label::Pays,
             None => false,
         };
         if pays {
-            self.come(alloc, Event::Interrupt(top.birth))?;
+            self.coming.push(Event::Interrupt(top.birth))?;
+        }
+        if let Some(s) = expiring(top, explored, instr) {
+            self.coming.push(Event::Expire(s))?;
         }
         Ok(())
     }
@@ -318,10 +257,11 @@ impl<'a> Player<'a> {
     fn note_open(
         &mut self,
         alloc: Global,
+        world: &World,
         top: &mut Played,
         explored: &Explored,
     ) -> Result<(), AllocError> {
-        let (_, birth) = self.births();
+        let (_, birth) = births(world);
         let interrupts = self.setting.interrupts;
         match top.opening(alloc, self.table, explored, interrupts, birth)? {
             Some(scope) => {
@@ -332,141 +272,210 @@ impl<'a> Player<'a> {
         Ok(())
     }
 
-    /// Notes the subtask that the next step forks.
-    fn note_fork(
-        &mut self,
-        top: &mut Played,
-        explored: &Explored,
-        slot: u8,
-    ) -> Result<(), AllocError> {
-        let (birth, _) = self.births();
-        let place = match top.before(explored) {
-            Some(node) => node.own.own_scope(slot),
-            None => None,
-        };
-        let Some(place) = place else {
-            return Ok(());
-        };
-        if let Some(scope) = top.scopes.get_mut(place as usize) {
-            scope.births.push(birth)?;
-            scope.played.push(false)?;
-        }
-        Ok(())
-    }
-
-    /// Notes what the next step opens or forks.
+    /// Notes what an instruction opens or forks.
     fn note(
         &mut self,
         alloc: Global,
+        world: &World,
         top: &mut Played,
         explored: &Explored,
         instr: Instr,
     ) -> Result<(), AllocError> {
         if matches!(instr, Instr::Open { .. }) {
-            return self.note_open(alloc, top, explored);
+            return self.note_open(alloc, world, top, explored);
         }
         match forked_slot(instr) {
-            Some(slot) => self.note_fork(top, explored, slot),
+            Some(slot) => note_fork(world, top, explored, slot),
             None => Ok(()),
         }
     }
 
-    /// Takes the next step of a task.
+    /// Lets a task take a step of its way, after the outside events that this step needs.
     fn act(
         &mut self,
         alloc: Global,
-        top: &mut Played,
-        explored: &Explored,
-    ) -> Result<(), AllocError> {
-        let t = top.birth;
-        let Some(instr) = self.instr(t) else {
-            self.is_wrong = true;
-            return Ok(());
-        };
-        self.come_outside(alloc, top, explored)?;
-        self.note(alloc, top, explored, instr)?;
-        self.come(alloc, Event::Step(t))?;
-        if !matches!(instr, Instr::Close(_)) {
-            return Ok(());
-        }
-        match top.scopes.pop() {
-            Some(scope) => self.end_close(alloc, scope.birth, t),
-            None => Ok(()),
-        }
-    }
-
-    /// Goes on with a task that has more than one step to take. Returns it.
-    fn go_on(
-        &mut self,
-        alloc: Global,
+        world: &World,
         top: Played,
         explored: &Explored,
-    ) -> Result<Played, AllocError> {
+        instr: Instr,
+    ) -> Result<(), AllocError> {
         let mut top = top;
-        if top.is_ready {
-            self.act(alloc, &mut top, explored)?;
-            top.at = top.at.saturating_add(1);
-            top.is_ready = false;
-        } else {
-            self.run_at_once(alloc, top.birth)?;
-            self.prepare(alloc, &mut top, explored)?;
-            top.is_ready = true;
-        }
-        Ok(top)
-    }
-
-    /// Goes on with the innermost task.
-    fn turn(&mut self, alloc: Global) -> Result<(), AllocError> {
-        let Some(mut top) = self.stack.pop() else {
-            return Ok(());
+        let owner = top.birth;
+        self.coming.push(Event::Step(owner))?;
+        self.come_outside(&top, explored, instr)?;
+        self.note(alloc, world, &mut top, explored, instr)?;
+        let closed = match instr {
+            Instr::Close(_) => top.scopes.pop(),
+            _ => None,
         };
-        let Some(explored) = self.explored(top.call) else {
-            self.is_wrong = true;
-            return Ok(());
-        };
-        if let Some(start) = top.waiting.pop() {
-            self.stack.push(top)?;
-            return self.start(alloc, start);
+        top.at = top.at.saturating_add(1);
+        top.is_ready = false;
+        self.jobs.push(Job::Task(top))?;
+        if let Some(scope) = closed {
+            self.jobs.push(Job::Close {
+                scope: scope.birth,
+                owner,
+                living: None,
+            })?;
         }
-        if top.is_at_end() {
-            self.run_at_once(alloc, top.birth)?;
-            return self.come(alloc, Event::Step(top.birth));
-        }
-        let top = self.go_on(alloc, top, explored)?;
-        self.stack.push(top)?;
         Ok(())
     }
 
-    /// Begins to play a task.
-    fn start(&mut self, alloc: Global, start: Start) -> Result<(), AllocError> {
-        match self.explored(start.call) {
-            Some(explored) => self.push(alloc, explored, start),
-            None => {
+    /// Goes on with a task at its next instruction.
+    fn go_on(
+        &mut self,
+        alloc: Global,
+        world: &World,
+        top: Played,
+        explored: &Explored,
+        instr: Instr,
+    ) -> Result<(), AllocError> {
+        let mut top = top;
+        if is_at_once(instr) {
+            self.coming.push(Event::Step(top.birth))?;
+        } else if top.is_at_end() {
+            self.coming.push(Event::Step(top.birth))?;
+            return Ok(());
+        } else if top.is_ready {
+            return self.act(alloc, world, top, explored, instr);
+        } else {
+            self.prepare(alloc, &mut top, explored, instr)?;
+            top.is_ready = true;
+        }
+        self.jobs.push(Job::Task(top))?;
+        Ok(())
+    }
+
+    /// Goes on with a task.
+    fn play(&mut self, alloc: Global, world: &World, top: Played) -> Result<(), AllocError> {
+        let mut top = top;
+        if let Some(start) = top.waiting.pop() {
+            self.jobs.push(Job::Task(top))?;
+            return self.start(alloc, start);
+        }
+        let explored = self.explored(top.call);
+        let instr = instr_of(self.setting, world, top.birth);
+        match (explored, instr) {
+            (Some(explored), Some(instr)) => self.go_on(alloc, world, top, explored, instr),
+            _ => {
                 self.is_wrong = true;
                 Ok(())
             }
         }
     }
 
-    /// Plays the root task up to the end of one of its ways. Returns the events, unless one of them
-    /// could not come.
-    pub fn play(self, alloc: Global, way: u32) -> Result<Option<Vec<Event>>, AllocError> {
-        let mut player = self;
-        let root = Start {
-            call: None,
-            way,
-            birth: 0,
+    /// Lets the last of these tasks step, or those that it waits for.
+    fn step_one(
+        &mut self,
+        alloc: Global,
+        world: &World,
+        living_ones: &mut Vec<u32>,
+        t: u32,
+    ) -> Result<(), AllocError> {
+        match turn_of(self.setting, world, t) {
+            Turn::Steps => {
+                let event = match idle_scope(self.setting, world, t) {
+                    Some(s) => Event::Expire(s),
+                    None => Event::Step(t),
+                };
+                self.coming.push(event)?;
+            }
+            Turn::IsOver => {
+                let _ = living_ones.pop();
+            }
+            Turn::Waits(inner) => {
+                let more = living(alloc, world, inner)?;
+                self.is_wrong = self.is_wrong || more.is_empty();
+                living_ones.extend_from_slice(more.as_slice())?;
+            }
+        }
+        Ok(())
+    }
+
+    /// Goes on with a `close`, up to its last step. These tasks have to end before, once they are known.
+    fn close(
+        &mut self,
+        alloc: Global,
+        world: &World,
+        scope: u32,
+        owner: u32,
+        known: Option<Vec<u32>>,
+    ) -> Result<(), AllocError> {
+        if matches!(world.records().phase(scope), Phase::Closed) {
+            return Ok(());
+        }
+        let mut tasks = match known {
+            Some(tasks) => tasks,
+            None => living(alloc, world, scope)?,
         };
-        player.start(alloc, root)?;
+        let Some(t) = tasks.last().copied() else {
+            self.coming.push(Event::Step(owner))?;
+            return Ok(());
+        };
+        self.step_one(alloc, world, &mut tasks, t)?;
+        self.jobs.push(Job::Close {
+            scope,
+            owner,
+            living: Some(tasks),
+        })?;
+        Ok(())
+    }
+
+    /// Goes on with the innermost job.
+    fn turn(&mut self, alloc: Global, world: &World) -> Result<(), AllocError> {
+        match self.jobs.pop() {
+            None => Ok(()),
+            Some(Job::Task(top)) => self.play(alloc, world, top),
+            Some(
+                Job::Close {
+                    scope,
+                    owner,
+                    living,
+                },
+            ) => self.close(alloc, world, scope, owner, living),
+        }
+    }
+
+    /// The next event, if the run isn't over and goes as it was planned. The events before it have
+    /// led to this state.
+    pub fn next(&mut self, alloc: Global, config: &Config) -> Result<Option<Event>, AllocError> {
+        let Some(world) = config.position.world() else {
+            return Ok(None);
+        };
         for _ in 0..u64::MAX {
-            if player.is_wrong || player.stack.is_empty() {
+            if self.is_wrong {
                 break;
             }
-            player.turn(alloc)?;
+            if let Some(event) = self.coming.pop() {
+                return Ok(Some(event));
+            }
+            if self.jobs.is_empty() {
+                break;
+            }
+            self.turn(alloc, world)?;
         }
-        if player.is_wrong {
-            return Ok(None);
-        }
-        Ok(Some(player.events))
+        Ok(None)
     }
+}
+
+/// Notes the subtask that the next step forks.
+fn note_fork(
+    world: &World,
+    top: &mut Played,
+    explored: &Explored,
+    slot: u8,
+) -> Result<(), AllocError> {
+    let (birth, _) = births(world);
+    let place = match top.before(explored) {
+        Some(node) => node.own.own_scope(slot),
+        None => None,
+    };
+    let Some(place) = place else {
+        return Ok(());
+    };
+    if let Some(scope) = top.scopes.get_mut(place as usize) {
+        scope.births.push(birth)?;
+        scope.played.push(false)?;
+    }
+    Ok(())
 }
