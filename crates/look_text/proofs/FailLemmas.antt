@@ -1,13 +1,13 @@
 -- The word at which a program check fails.
 use Rattle.std.proofs.Common.{◌≡◌, ℕ, zero, suc, ◌+◌, ◌<◌, List, [], ◌∷◌, ◌++◌, Bool, true, false, slice_get, take, drop, refl, sym, ap, ◌∙◌, append_assoc, arith}
-use Rattle.std.specs.Prelude.{Some, None, Option, option_map, ◌||◌, if◌then◌else◌}
+use Rattle.std.specs.Prelude.{Some, None, Option, option_map, ◌||◌, if◌then◌else◌, codes}
 use Rattle.std.specs.List.{list_any}
 use Rattle.std.specs.Str.{bytes_eq}
 use Rattle.sts_asm.specs.Outline.{Draft, Outline}
 use Rattle.sts_asm.specs.Source.{name_at}
 use Rattle.look_text.specs.declared.wanted.Expected.{Expected}
 use Rattle.look_text.specs.Wanted.{Stop, behind, after, first_wrong}
-use Rattle.look_text.specs.Wrong.{stop_words}
+use Rattle.look_text.specs.Wrong.{stop_words, wrong_line}
 use Rattle.look_text.specs.Labels.{is_named}
 use Rattle.look_text.specs.Failing.{first_failing, wanted_there}
 use Rattle.look_text.proofs.LineLemmas.{behind_words}
@@ -32,6 +32,21 @@ passed_said test wanted next word words left before space more e f n g h =
     ∙ said_behind before more word (first_failing test (after wanted word) left) said
     ∙ ap (λ (b : Bool). said_if before (if b then option_map (behind word) (first_failing test (after wanted word) left) else Some (first_wrong (wanted_there wanted) word))) (sym f)
     ∙ ap (λ (ws : List (List ℕ)). said_if before (first_failing test wanted ws)) (sym e)
+
+at_line : (o : Option Stop) → said_if (codes "at") o ≡ wrong_line o
+at_line None = refl
+at_line (Some s) = refl
+
+-- the words so far and the word that fails are the line
+pub failed_said : (test : Expected → List ℕ → Bool) (wanted there : Expected) (word : List ℕ) (words left : List (List ℕ)) (told said before was more now : List ℕ) (whole : Option Stop) → words ≡ word ∷ left → test wanted word ≡ false → said_if told (first_failing test wanted words) ≡ said_if (codes "at") whole → was ≡ before → said ≡ told → more ≡ was ++ said → there ≡ wanted_there wanted → now ≡ more ++ stop_words (first_wrong there word) → now ≡ before ++ wrong_line whole
+failed_said test wanted there word words left told said before was more now whole e f h old same g other end =
+    let last : List ℕ = stop_words (first_wrong (wanted_there wanted) word) in
+    let line : told ++ last ≡ wrong_line whole =
+    ap (λ (b : Bool). said_if told (if b then option_map (behind word) (first_failing test (after wanted word) left) else Some (first_wrong (wanted_there wanted) word))) (sym f)
+    ∙ ap (λ (ws : List (List ℕ)). said_if told (first_failing test wanted ws)) (sym e) ∙ h ∙ at_line whole in
+    end ∙ ap (λ (w : Expected). more ++ stop_words (first_wrong w word)) other
+    ∙ ap (λ (x : List ℕ). x ++ last) (g ∙ ap (λ (x : List ℕ). x ++ said) old ∙ ap (λ (x : List ℕ). before ++ x) same)
+    ∙ append_assoc before told last ∙ ap (λ (x : List ℕ). before ++ x) line
 
 -- ---- earlier functions
 

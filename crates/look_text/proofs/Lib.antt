@@ -1,3 +1,4 @@
+pub mod ColonLemmas
 pub mod ExpectedLemmas
 pub mod FailLemmas
 pub mod HeadLaw

@@ -1,8 +1,10 @@
 pub mod Checks
+pub mod Colon
 pub mod Failing
 pub mod Functions
 pub mod Heads
 pub mod Inside
+pub mod Java
 pub mod Labels
 pub mod Lines
 pub mod Names

@@ -10,7 +10,9 @@ use Rattle.sts_asm.specs.declared.fault.AsmKind.{AsmKind}
 use Rattle.sts_asm.specs.declared.fault.AsmKind.TheVariants.{NotAscii, UnknownLabel, BadOperands}
 use Rattle.sts_list.specs.Spelling.{after_spaces}
 use Rattle.look_text.specs.Inside.{is_inside}
-use Rattle.look_text.specs.Near.{java_word, meant}
+use Rattle.look_text.specs.Colon.{colon_part}
+use Rattle.look_text.specs.Java.{java_word}
+use Rattle.look_text.specs.Near.{meant}
 use Rattle.look_text.specs.NearName.{near_in}
 use Rattle.look_text.specs.Names.{line_stop, lines_stop, unknown_name}
 use Rattle.look_text.specs.Wanted.{Stop, wrong_place}
@@ -116,6 +118,7 @@ place_part NotAscii text line = byte_line_of (line_at text line)
 place_part kind text line =
     wrong_line (wrong_place kind (is_inside text line) (words_at text line))
 
--- what is wrong in the line of a fault, and the form of the line
+-- what is wrong in the line of a fault, and the form of the line or of a label
 abbrev pub wrong_part : AsmKind → List ℕ → ℕ → List ℕ
-wrong_part kind text line = place_part kind text line ++ form_part kind (words_at text line)
+wrong_part kind text line =
+    place_part kind text line ++ form_part kind (words_at text line) ++ colon_part kind text line

@@ -7,10 +7,12 @@
 #![tactic(auto)]
 
 mod checks;
+mod colon;
 mod failing;
 mod functions;
 mod heads;
 mod inside;
+mod java;
 mod labels;
 pub mod laws;
 mod lines;

@@ -13,11 +13,13 @@ ghost use Rattle.look_text.specs.Functions.{functions_of};
 ghost use Rattle.look_text.specs.NearName.{near_in};
 ghost use Rattle.look_text.specs.Wrong as def;
 
+use crate::colon::colon_part;
 use crate::functions::functions_of;
 use crate::inside::is_inside;
+use crate::java::java_word;
 use crate::lines::say;
 use crate::names::{known, names_nothing, names_some};
-use crate::near::{java_word, meant};
+use crate::near::meant;
 use crate::near_name::near_in_line;
 use crate::sentences::{join_form, wanted_sentence};
 use crate::wanted::{Expected, in_place_of, operand};
@@ -356,7 +358,8 @@ fn place_part(
     }
 }
 
-/// What is wrong in the line of a fault, if it is a word or a byte, and the form of the line.
+/// What is wrong in the line of a fault, if it is a word or a byte, and the form of the line or of a
+/// label.
 ///
 /// # Errors
 ///
@@ -371,5 +374,6 @@ pub(crate) fn wrong_part(
     ensures { OnOk result (out.new.items ≡ out.old.items ++ def.wrong_part kind text.now line) }
 {
     place_part(alloc, out, kind, text, line)?;
-    form_part(out, kind, words_at(text, line))
+    form_part(out, kind, words_at(text, line))?;
+    colon_part(out, kind, text, line)
 }
