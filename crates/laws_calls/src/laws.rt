@@ -1,5 +1,6 @@
 //! The laws of the count.
 
+ghost use Rattle.laws_calls.specs.Covered.{StepsAloneAreCovered};
 ghost use Rattle.laws_calls.specs.Triggers.{CancelsByCount, LastCounts, LastIsFound, StopsAtLimit};
 ghost use Rattle.laws_calls.specs.Watching.{WatchedIsNotCancelled, WatchedWasWatched};
 
@@ -31,4 +32,10 @@ pub fn watched_was_watched()
 /// The flag of a watched task is set only by an interrupt of the task.
 pub fn watched_is_not_cancelled()
     ensures { WatchedIsNotCancelled }
+{}
+
+/// If a table covers a state of a run, it covers the next one after a step that leaves all scopes
+/// and all other tasks as they are.
+pub fn steps_alone_are_covered()
+    ensures { StepsAloneAreCovered }
 {}

@@ -1,0 +1,499 @@
+-- Instructions that change no more than the frame of their task.
+use Rattle.std.proofs.Common.{◌≡◌, ℕ, zero, suc, ◌+◌, ◌<◌, ◌⊎◌, inl, inr, List, [], ◌∷◌, ◌++◌}
+use Rattle.std.proofs.Common.{Bool, true, false, Option, Some, None, refl, sym, ◌∙◌, ap, subst, length, drop, map}
+use Rattle.std.proofs.Common.{arith, get_or, set, cond, not, ◌||◌, ◌&&◌, is_none}
+use Rattle.std.specs.Prelude.{slice_get, filter_map, unwrap_or, pos, is_some, count_by}
+use Rattle.std.specs.List.{filter}
+use Rattle.std.proofs.lemmas.List.Sums.{sum_by-cons}
+use Rattle.sts_code.specs.Program.{Program}
+use Rattle.sts_code.specs.declared.instr.Instr.{Instr}
+use Rattle.sts_code.specs.declared.instr.Instr.TheVariants.{Cancelled, Case, Get, Except, Tally, Total, Forget}
+use Rattle.sts_code.specs.declared.instr.Instr.TheVariants.{Open, Fork, Join, Close, Ret, Fail}
+use Rattle.sts_code.specs.declared.instr.Instr.TheVariants.{Bind, Unbind, Read, Bound, OrElse, Interrupted}
+use Rattle.sts_code.specs.declared.instr.Kind.{Kind}
+use Rattle.sts_model.specs.declared.event.End.{End}
+use Rattle.sts_model.specs.declared.event.End.TheVariants.{Success, Failed}
+use Rattle.sts_model.specs.declared.record.Bound.{Bound as BoundKey}
+use Rattle.sts_model.specs.declared.record.Entry.{Entry}
+use Rattle.sts_model.specs.declared.record.Entry.TheVariants as entry
+use Rattle.sts_model.specs.declared.record.Frame.{Frame}
+use Rattle.sts_model.specs.declared.record.Scope.{Scope}
+use Rattle.sts_model.specs.declared.record.Slot.{Slot}
+use Rattle.sts_model.specs.declared.record.Slot.TheVariants as slots
+use Rattle.sts_model.specs.declared.record.Task.{Task}
+use Rattle.sts_model.specs.World.{World, task_at, scope_at, with_frame, instr_at, code}
+use Rattle.sts_model.specs.Local as locals
+use Rattle.sts_model.specs.Local.{is_local, goes, steps, truth, operand}
+use Rattle.sts_model.specs.Living.{lives, is_in, is_subtask, completion_of, scope_of, parent, sub_state}
+use Rattle.sts_model.specs.Misuse.{slot, is_sub, is_lent, is_scope, innermost, is_binding, IsFine, has_succeeded, has_failed, at_sub, is_readable, is_illegal}
+use Rattle.sts_model.specs.Environment.{environment_of, bound_of, read}
+use Rattle.sts_model.specs.Effect.{named, case_target, value_or_zero, tally, total, moved, effect}
+use Rattle.sts_model.specs.Joining.{is_success, is_failure}
+use Rattle.laws_runs.specs.Runs.{Does}
+use Rattle.laws_runs.specs.Tallies.{births, is_kind, is_in_state, number_in}
+use Rattle.laws_runs.proofs.BirthLemmas.{born_alive}
+use Rattle.laws_runs.proofs.EffectLemmas.{first_no, some-is_in}
+use Rattle.laws_runs.proofs.EventLemmas.{Next}
+use Rattle.laws_runs.proofs.StayLemmas.{ended_is_dead}
+use Rattle.laws_runs.proofs.FrameLemmas.{Leaves, leaves-local, own_slot}
+use Rattle.laws_calls.specs.Held.{Held}
+use Rattle.laws_calls.specs.Held as held
+use Rattle.laws_calls.specs.Tasks.{Among, AllTwo, at_place, put_place, HasWay, Part, Seen, Own, bare, blank, births_in, held_at}
+use Rattle.laws_calls.specs.Tasks.{Knowledge, Unseen, ByJoiner, Heard, Call, bindings, May}
+use Rattle.laws_calls.specs.Steps.{Row, Table, Owns, Knows, Steps, IsTable, to, pushes, is_cancelled, is_heard, after_cancel}
+use Rattle.laws_calls.specs.Steps.{local_step, read_step, bound_step, or_else_step, bind_step, unbind_step, forget_step}
+use Rattle.laws_calls.specs.Steps.{interrupted_step, lent_step, going_step, cancelled_step, success_step, failure_step}
+use Rattle.laws_calls.specs.Steps.{missed_step, get_step, except_step, tally_step, total_step, only, kept, missed, with_part, with_seen}
+use Rattle.laws_calls.specs.Covers.{subs, PartFits, ScopeFits, SeenFits, HeldFits, FrameFits, TaskFits, IsRight}
+use Rattle.laws_calls.specs.Covers.{Watched, watched_root, watched_sub, Covers, alive_in}
+use Rattle.laws_calls.proofs.Lists.{all_map, all_set, Apart, at_among, kept_way, no}
+use Rattle.laws_calls.proofs.Turns.{Facts, FlagsByCancel, apart_births, births_has}
+use Rattle.laws_calls.proofs.Moves.{Turned, GoesOn, covers_turned, turned_frame, turned_flag, fits_later, subs_same}
+use Rattle.laws_calls.proofs.Moves.{OwnScope, own_scope, OwnSub, own_sub, held_lent, held_slot, put_seen, put_part}
+use Rattle.laws_calls.proofs.Frames.{bare_local, blank_bounds}
+
+-- does the instruction change no more than the frame and the flag of its task?
+abbrev pub changes_frame_alone : Instr → Bool
+changes_frame_alone (Open x joiner timed) = false
+changes_frame_alone (Fork x g h) = false
+changes_frame_alone (Join x failed timeout interrupted) = false
+changes_frame_alone (Close x) = false
+changes_frame_alone Ret = false
+changes_frame_alone Fail = false
+changes_frame_alone _ = true
+
+-- a step of the table, to a state that fits the frame g in the state before
+pub record StepsTo (p : Program) (t : Table) (rows : ℕ → Row) (w : World) (u : ℕ) (own : Own) (i : Instr) (g : Frame) : Type 0 where
+  pub next : Own
+  pub step : Steps p t (rows u).call own i next
+  pub fits : FrameFits rows w g next
+
+pub instr_of : (p : Program) (f : Frame) (own : Own) (i : Instr) → bare f ≡ own.frame → instr_at p f ≡ Some i → instr_at p own.frame ≡ Some i
+instr_of p f own i same at = subst (λ (z : Frame). instr_at p z ≡ Some i) same at
+
+pub sub_slot : (x : Slot) → not (is_sub x) ≡ false → x ≡ slots.Sub (named x)
+sub_slot (slots.Sub u) e = refl
+sub_slot _ e = cc
+
+at_sub-is : (w : World) (x : Slot) (test : ℕ → Scope → Bool) → x ≡ slots.Sub (named x) → at_sub w x test ≡ test (named x) (scope_of w (named x))
+at_sub-is w (slots.Sub u) test e = refl
+at_sub-is w _ test e = cc
+
+-- a subtask that may be read is in the state for it
+readable_success : (p : Program) (w : World) (f : Frame) (x : ℕ) → slot f x ≡ slots.Sub (named (slot f x)) → is_illegal p w f (Get x) ≡ false → has_succeeded (sub_state w (named (slot f x))) ≡ true
+readable_success p w f x mine e = by (is_readable p.profile (scope_of w (named (slot f x)))) (has_succeeded (sub_state w (named (slot f x)))) (sym (at_sub-is w (slot f x) (λ q scope. not (is_readable p.profile scope && has_succeeded (sub_state w q))) mine) ∙ e)
+  where
+    by : (a b : Bool) → not (a && b) ≡ false → b ≡ true
+    by true true d = refl
+    by true false d = cc
+    by false b d = cc
+
+readable_failure : (p : Program) (w : World) (f : Frame) (x : ℕ) → slot f x ≡ slots.Sub (named (slot f x)) → is_illegal p w f (Except x) ≡ false → has_failed (sub_state w (named (slot f x))) ≡ true
+readable_failure p w f x mine e = by (is_readable p.profile (scope_of w (named (slot f x)))) (has_failed (sub_state w (named (slot f x)))) (sym (at_sub-is w (slot f x) (λ q scope. not (is_readable p.profile scope && has_failed (sub_state w q))) mine) ∙ e)
+  where
+    by : (a b : Bool) → not (a && b) ≡ false → b ≡ true
+    by true true d = refl
+    by true false d = cc
+    by false b d = cc
+
+module _ (p : Program) (t : Table) (root : Row) (is : IsTable p t root) (w : World) (h : Facts w) where
+  -- the task goes on with the frame g, and no scope changes
+  pub covers_alone : (c : Covers p t root w) (v : World) (u : ℕ) (i : Instr) (g : Frame) → Next w v → FlagsByCancel w v → Turned w v u g → ((s : ℕ) → scope_at v s ≡ scope_at w s) → Does p w u i
+      → (Watched w u → (own : Own) → TaskFits c.rows w u own → StepsTo p t c.rows w u own i g) → Covers p t root v
+  covers_alone c v u i g n flags turned scopes d moves =
+      covers_turned p t root w v h n flags c u g turned d.alive
+      (λ watched own k.
+      let m = moves watched own k in
+      record {
+        own = m.next;
+        there = is.closed (c.rows u) own m.next i (c.listed u) k.there (instr_of p (task_at w u).frame own i k.fits.frame d.at) m.step;
+        fits = fits_later w v h n c.rows g m.next scopes (λ s. subs_same w v s turned.count turned.scope) m.fits;
+      })
+
+  -- ---- frames
+
+  -- another frame with the same entries and slots
+  fits_leaves : (rows : ℕ → Row) (f g : Frame) (own : Own) (next : Frame) → Leaves f g → FrameFits rows w f own → bare g ≡ next → FrameFits rows w g (to own next)
+  fits_leaves rows f g own next same k e =
+      record {
+        frame = e;
+        held = subst (λ es. AllTwo (HeldFits w (births_in es)) g.slots own.held) (sym same.entries) (subst (λ (xs : List Slot). AllTwo (HeldFits w (births_in f.entries)) xs own.held) (sym same.slots) k.held);
+        scopes = subst (λ es. AllTwo (SeenFits rows w) (births_in es) own.scopes) (sym same.entries) k.scopes;
+      }
+
+  leaves_refl : (f : Frame) (to_pc n : ℕ) (pushed : _) → Leaves f (goes f to_pc n pushed)
+  leaves_refl f to_pc n pushed = record { function = refl; entries = refl; slots = refl }
+
+  -- at another place, with another operand
+  fits_goes : (rows : ℕ → Row) (f : Frame) (own : Own) (to_pc n : ℕ) (pushed : _) → FrameFits rows w f own → FrameFits rows w (goes f to_pc n pushed) (to own (goes own.frame to_pc n pushed))
+  fits_goes rows f own to_pc n pushed k = fits_leaves rows f (goes f to_pc n pushed) own (goes own.frame to_pc n pushed) (leaves_refl f to_pc n pushed) k (ap (λ (z : Frame). goes z to_pc n pushed) k.frame)
+
+  pc_same : (f : Frame) (own : Own) → bare f ≡ own.frame → f.pc ≡ own.frame.pc
+  pc_same f own e = ap (λ (z : Frame). z.pc) e
+
+  operand_same : (f : Frame) (own : Own) (i : ℕ) → bare f ≡ own.frame → operand f i ≡ operand own.frame i
+  operand_same f own i e = ap (λ (z : Frame). operand z i) e
+
+  -- at the next place
+  fits_steps : (rows : ℕ → Row) (f : Frame) (own : Own) (n : ℕ) (pushed : _) → FrameFits rows w f own → FrameFits rows w (steps f n pushed) (to own (steps own.frame n pushed))
+  fits_steps rows f own n pushed k = fits_leaves rows f (steps f n pushed) own (steps own.frame n pushed) (leaves_refl f (f.pc + 1) n pushed) k (ap (λ (z : Frame). steps z n pushed) k.frame)
+
+  -- ---- the frame alone
+
+  module _ (rows : ℕ → Row) (u : ℕ) (own : Own) (k : TaskFits rows w u own) where
+    abbrev f : Frame
+    f = (task_at w u).frame
+
+    to_local : (i : Instr) → is_local i ≡ true → StepsTo p t rows w u own i (locals.local (code p f) i f)
+    to_local i local =
+        record {
+          next = to own (locals.local (code p own.frame) i own.frame);
+          step = local_step local;
+          fits = fits_leaves rows f (locals.local (code p f) i f) own (locals.local (code p own.frame) i own.frame) (leaves-local (code p f) i f) k.fits
+              (bare_local (code p f) i f ∙ ap (λ (z : Frame). locals.local (code p z) i z) k.fits.frame);
+        }
+
+    -- a state that differs in an operand alone
+    to_pushes : (i : Instr) (n : ℕ) (a b : _) → a ≡ b → Steps p t (rows u).call own i (pushes own n b) → StepsTo p t rows w u own i (steps f n (a ∷ []))
+    to_pushes i n a b e step =
+        record {
+          next = pushes own n b;
+          step = step;
+          fits = subst (λ z. FrameFits rows w (steps f n (a ∷ [])) (pushes own n z)) e (fits_steps rows f own n (a ∷ []) k.fits);
+        }
+
+    to_interrupted : StepsTo p t rows w u own Interrupted (steps f 0 (truth (task_at w u).flag ∷ []))
+    to_interrupted = to_pushes Interrupted 0 _ _ (ap truth k.flag) interrupted_step
+
+    pub bindings_same : environment_of (task_at w u) w ≡ bindings (rows u).call own
+    bindings_same =
+        ap (λ bs. bs ++ (scope_of w u).environment) (sym (blank_bounds f.entries) ∙ ap (λ (z : Frame). filter_map bound_of z.entries) k.fits.frame)
+        ∙ ap (λ e. filter_map bound_of own.frame.entries ++ e) k.environment
+
+    to_read : (x : ℕ) → StepsTo p t rows w u own (Read x) (moved p w u f (Read x))
+    to_read x = to_pushes (Read x) 0 _ _ (ap (λ bs. unwrap_or (read bs x) (pos 0)) bindings_same) read_step
+
+    to_bound : (x : ℕ) → StepsTo p t rows w u own (Bound x) (moved p w u f (Bound x))
+    to_bound x = to_pushes (Bound x) 0 _ _ (ap (λ bs. truth (is_some (read bs x))) bindings_same) bound_step
+
+    to_or_else : (x : ℕ) → StepsTo p t rows w u own (OrElse x) (moved p w u f (OrElse x))
+    to_or_else x =
+        to_pushes (OrElse x) 1 _ _
+        (ap (λ bs. unwrap_or (read bs x) (operand f 0)) bindings_same ∙ ap (λ d. unwrap_or (read (bindings (rows u).call own) x) d) (operand_same f own 0 k.fits.frame))
+        or_else_step
+
+    to_bind : (x : ℕ) → StepsTo p t rows w u own (Bind x) (record (steps f 1 []) { entries = entry.Binding x (operand f 0) ∷ f.entries })
+    to_bind x =
+        record {
+          next = to own (record (steps own.frame 1 []) { entries = entry.Binding x (operand own.frame 0) ∷ own.frame.entries });
+          step = bind_step;
+          fits = record {
+            frame = ap (λ (z : Frame). record (steps z 1 []) { entries = entry.Binding x (operand z 0) ∷ z.entries }) k.fits.frame;
+            held = k.fits.held;
+            scopes = k.fits.scopes;
+          };
+        }
+
+    to_forget : (x : ℕ) → StepsTo p t rows w u own (Forget x) (record (steps f 0 []) { slots = set f.slots x slots.Empty })
+    to_forget x =
+        record {
+          next = record own { frame = steps own.frame 0 []; held = set own.held x held.Empty };
+          step = forget_step;
+          fits = record {
+            frame = ap (λ (z : Frame). steps z 0 []) k.fits.frame;
+            held = all_set (HeldFits w (births_in f.entries)) f.slots own.held x slots.Empty held.Empty k.fits.held tt;
+            scopes = k.fits.scopes;
+          };
+        }
+
+    births_unbind : (es : List Entry) → not (innermost is_binding es) ≡ false → births_in (drop 1 es) ≡ births_in es
+    births_unbind [] e = refl
+    births_unbind (entry.Binding x v ∷ es) e = refl
+    births_unbind (entry.Scope s ∷ es) e = cc
+
+    blank_drop : (es : List Entry) → map blank (drop 1 es) ≡ drop 1 (map blank es)
+    blank_drop [] = refl
+    blank_drop (e ∷ es) = refl
+
+    to_unbind : not (innermost is_binding f.entries) ≡ false → StepsTo p t rows w u own Unbind (record (steps f 0 []) { entries = drop 1 f.entries })
+    to_unbind legal =
+        record {
+          next = to own (record (steps own.frame 0 []) { entries = drop 1 own.frame.entries });
+          step = unbind_step;
+          fits = record {
+            frame = ap (λ es. record (steps (bare f) 0 []) { entries = es }) (blank_drop f.entries) ∙ ap (λ (z : Frame). record (steps z 0 []) { entries = drop 1 z.entries }) k.fits.frame;
+            held = subst (λ bs. AllTwo (HeldFits w bs) f.slots own.held) (sym (births_unbind f.entries legal)) k.fits.held;
+            scopes = subst (λ bs. AllTwo (SeenFits rows w) bs own.scopes) (sym (births_unbind f.entries legal)) k.fits.scopes;
+          };
+        }
+
+    -- ---- scopes and subtasks that are read
+
+    abbrev opened : List ℕ
+    opened = births_in f.entries
+
+    apart : lives (task_at w u) ≡ true → Apart opened
+    apart alive = apart_births f.entries (λ s has. (h.entered u s alive has).once)
+
+    -- the same, with another scope at a place
+    fits_seen : lives (task_at w u) ≡ true → (place s : ℕ) (x : Seen) (g : Frame) (next : Frame) → Leaves f g → bare g ≡ next → at_place opened place ≡ Some s → SeenFits rows w s x → FrameFits rows w g (to (with_seen own place x) next)
+    fits_seen alive place s x g next same e at new =
+        fits_leaves rows f g (with_seen own place x) next same
+        (record { frame = k.fits.frame; held = k.fits.held; scopes = put_seen rows w opened own.scopes place s x k.fits.scopes (apart alive) at new })
+        e
+
+    unknown : (q : Knowledge) (scope : Scope) → IsRight q scope → scope.cancelled ≡ false → is_cancelled q ≡ false
+    unknown Unseen scope r e = refl
+    unknown Heard scope r e = refl
+    unknown ByJoiner scope r e = let known : scope.cancelled ≡ true = r in absurd (no (sym known ∙ e))
+
+    unheard : (q : Knowledge) (scope : Scope) → IsRight q scope → scope.cancelled ≡ true → is_heard q ≡ false
+    unheard Unseen scope r e = refl
+    unheard ByJoiner scope r e = refl
+    unheard Heard scope r e = let free : scope.cancelled ≡ false = r.0 in absurd (no (sym e ∙ free))
+
+    -- the scope of a task that is watched is not cancelled
+    free_around : (q s : ℕ) → (task_at w q).scope ≡ Some s → Watched w q → (scope_at w s).cancelled ≡ false
+    free_around q s inside watched_root = let less = (h.right.sound.born q s inside).1 in absurd (omega (arith, less))
+    free_around q s inside (watched_sub r inside2 free owner) =
+        let both : Some r ≡ Some s = sym inside2 ∙ inside in
+        let one : r ≡ s = cc in
+        subst (λ k. (scope_at w k).cancelled ≡ false) one free
+
+    to_cancelled : lives (task_at w u) ≡ true → Watched w u → (x : ℕ) → not (is_scope (slot f x)) ≡ false → StepsTo p t rows w u own (Cancelled x) (moved p w u f (Cancelled x))
+    to_cancelled alive watched x legal = by (slot f x) refl legal
+      where
+        told : (s : ℕ) → OwnScope rows w f own x s → (b : Bool) → (scope_at w s).cancelled ≡ b → StepsTo p t rows w u own (Cancelled x) (steps f 0 (truth b ∷ []))
+        told s o false e =
+            record {
+              next = pushes own 0 (truth false);
+              step = going_step o.place o.seen o.owns (unknown o.seen.knowledge (scope_at w s) o.fits.known e);
+              fits = fits_steps rows f own 0 (truth false ∷ []) k.fits;
+            }
+        told s o true e =
+            record {
+              next = pushes (with_seen own o.place (after_cancel o.seen)) 0 (truth true);
+              step = cancelled_step o.place o.seen o.owns (unheard o.seen.knowledge (scope_at w s) o.fits.known e);
+              fits = fits_seen alive o.place s (after_cancel o.seen) (steps f 0 (truth true ∷ [])) (steps own.frame 0 (truth true ∷ [])) (leaves_refl f (f.pc + 1) 0 (truth true ∷ []))
+                  (ap (λ (z : Frame). steps z 0 (truth true ∷ [])) k.fits.frame) o.at
+                  (record { joiner = o.fits.joiner; timed = o.fits.timed; environment = o.fits.environment; phase = o.fits.phase; known = e; parts = o.fits.parts });
+            }
+
+        by : (q : Slot) → slot f x ≡ q → not (is_scope q) ≡ false → StepsTo p t rows w u own (Cancelled x) (steps f 0 (truth (scope_at w (named q)).cancelled ∷ []))
+        by (slots.Own s) e d = told s (own_scope rows w f own x s k.fits e) (scope_at w s).cancelled refl
+        by (slots.Lent s) e d =
+            let inside = ((h.names u x alive).lent s e).1 in
+            let free = free_around u s inside watched in
+            let lent : held_at own x ≡ held.Lent = held_lent w opened s (held_at own x) (subst (λ z. HeldFits w opened z (held_at own x)) e (held_slot rows w f own x k.fits)) in
+            subst (λ b. StepsTo p t rows w u own (Cancelled x) (steps f 0 (truth b ∷ []))) (sym free)
+            (record { next = pushes own 0 (truth false); step = lent_step lent; fits = fits_steps rows f own 0 (truth false ∷ []) k.fits })
+        by slots.Empty e d = cc
+        by (slots.Sub q) e d = cc
+
+    -- the state of the subtask that a slot names
+    state_of : (x : ℕ) → (o : OwnSub rows w f own x (named (slot f x))) → sub_state w (named (slot f x)) ≡ completion_of (scope_at w o.scope).completions (named (slot f x))
+    state_of x o = ap (λ q. completion_of (parent w q).completions (named (slot f x))) o.inside
+
+    -- the same, with another part
+    to_part : lives (task_at w u) ≡ true → (i : Instr) (x : ℕ) (o : OwnSub rows w f own x (named (slot f x))) (part : Part) (g next : Frame) → Leaves f g → bare g ≡ next
+        → PartFits rows (alive_in w) (scope_at w o.scope) (named (slot f x)) part
+        → Steps p t (rows u).call own i (to (with_part own o.place o.seen o.i part) next) → StepsTo p t rows w u own i g
+    to_part alive i x o part g next same e new step =
+        record {
+          next = to (with_part own o.place o.seen o.i part) next;
+          step = step;
+          fits = fits_seen alive o.place o.scope _ g next same e o.at (put_part rows w o.scope o.seen o.i (named (slot f x)) part o.fits o.sub new);
+        }
+
+    -- a subtask that has ended heard doesn't live any more
+    module _ (alive : lives (task_at w u) ≡ true) (x : ℕ) (o : OwnSub rows w f own x (named (slot f x))) where
+      abbrev c : ℕ
+      c = named (slot f x)
+
+      abbrev state : Option End
+      state = completion_of (scope_at w o.scope).completions c
+
+      -- a part that has the end that the subtask came to
+      ended_part : (part : Part) (e : End) → state ≡ Some e → HasWay part.ways e → PartFits rows (alive_in w) (scope_at w o.scope) c part
+      ended_part part e is2 way =
+          record {
+            may = subst (λ q. May part q) (sym is2) way;
+            whole = λ lives_c free e2 way2. (let dead = ended_is_dead (task_at w c) e ((h.right.told o.scope).ended c e is2) in absurd (no (sym lives_c ∙ dead)));
+          }
+
+      way_of : (e : End) → state ≡ Some e → HasWay o.part.ways e
+      way_of e is2 = subst (λ q. May o.part q) is2 o.may.may
+
+      open_of : state ≡ None → o.part.is_open ≡ true
+      open_of is2 = subst (λ q. May o.part q) is2 o.may.may
+
+      missed_part : state ≡ None → PartFits rows (alive_in w) (scope_at w o.scope) c (missed o.seen.knowledge o.part)
+      missed_part is2 = by o.seen.knowledge o.fits.known
+        where
+          by : (q : Knowledge) → IsRight q (scope_at w o.scope) → PartFits rows (alive_in w) (scope_at w o.scope) c (missed q o.part)
+          by Unseen r = o.may
+          by ByJoiner r = record { may = subst (λ q. May (record { ways = []; is_open = true }) q) (sym is2) refl; whole = λ a free e way. cc }
+          by Heard r =
+              record {
+                may = subst (λ q. May (record { ways = []; is_open = true }) q) (sym is2) refl;
+                whole = λ a free e way. (let dead = h.settled o.scope c r.1 r.0 o.inside in absurd (no (sym a ∙ dead)));
+              }
+
+      to_case : (success failed : ℕ) → StepsTo p t rows w u own (Case x success failed) (goes f (case_target state success failed (f.pc + 1)) 0 [])
+      to_case success failed = by state refl
+        where
+          by : (q : Option End) → state ≡ q → StepsTo p t rows w u own (Case x success failed) (goes f (case_target q success failed (f.pc + 1)) 0 [])
+          by None e =
+              to_part alive (Case x success failed) x o (missed o.seen.knowledge o.part) (goes f (f.pc + 1) 0 []) (goes own.frame (own.frame.pc + 1) 0 []) (leaves_refl f (f.pc + 1) 0 [])
+              (ap (λ (z : Frame). goes z (z.pc + 1) 0 []) k.fits.frame) (missed_part e) (missed_step o.place o.seen o.i o.part o.knows (open_of e))
+          by (Some (Success v)) e =
+              to_part alive (Case x success failed) x o (kept is_success o.part) (goes f success 0 []) (goes own.frame success 0 []) (leaves_refl f success 0 [])
+              (ap (λ (z : Frame). goes z success 0 []) k.fits.frame)
+              (ended_part (kept is_success o.part) (Success v) e (kept_way is_success o.part.ways (Success v) refl (way_of (Success v) e)))
+              (success_step o.place o.seen o.i o.part o.knows)
+          by (Some (Failed v)) e =
+              to_part alive (Case x success failed) x o (kept is_failure o.part) (goes f failed 0 []) (goes own.frame failed 0 []) (leaves_refl f failed 0 [])
+              (ap (λ (z : Frame). goes z failed 0 []) k.fits.frame)
+              (ended_part (kept is_failure o.part) (Failed v) e (kept_way is_failure o.part.ways (Failed v) refl (way_of (Failed v) e)))
+              (failure_step o.place o.seen o.i o.part o.knows)
+
+      to_get : has_succeeded state ≡ true → StepsTo p t rows w u own (Get x) (steps f 0 (value_or_zero state ∷ []))
+      to_get = by state refl
+        where
+          by : (q : Option End) → state ≡ q → has_succeeded q ≡ true → StepsTo p t rows w u own (Get x) (steps f 0 (value_or_zero q ∷ []))
+          by None e legal = cc
+          by (Some (Failed v)) e legal = cc
+          by (Some (Success v)) e legal =
+              to_part alive (Get x) x o (only (Success v)) (steps f 0 (v ∷ [])) (steps own.frame 0 (v ∷ [])) (leaves_refl f (f.pc + 1) 0 (v ∷ []))
+              (ap (λ (z : Frame). steps z 0 (v ∷ [])) k.fits.frame)
+              (ended_part (only (Success v)) (Success v) e (inl refl))
+              (get_step o.place o.seen o.i o.part v o.knows (way_of (Success v) e))
+
+      to_except : has_failed state ≡ true → StepsTo p t rows w u own (Except x) (steps f 0 (value_or_zero state ∷ []))
+      to_except = by state refl
+        where
+          by : (q : Option End) → state ≡ q → has_failed q ≡ true → StepsTo p t rows w u own (Except x) (steps f 0 (value_or_zero q ∷ []))
+          by None e legal = cc
+          by (Some (Success v)) e legal = cc
+          by (Some (Failed v)) e legal =
+              to_part alive (Except x) x o (only (Failed v)) (steps f 0 (v ∷ [])) (steps own.frame 0 (v ∷ [])) (leaves_refl f (f.pc + 1) 0 (v ∷ []))
+              (ap (λ (z : Frame). steps z 0 (v ∷ [])) k.fits.frame)
+              (ended_part (only (Failed v)) (Failed v) e (inl refl))
+              (except_step o.place o.seen o.i o.part v o.knows (way_of (Failed v) e))
+
+    -- ---- counts
+
+    -- the states of the subtasks of a scope
+    abbrev states_in : ℕ → List (Option End)
+    states_in s = map (completion_of (scope_at w s).completions) (subs w s)
+
+    pick_of : (s : ℕ) (us : List ℕ) (parts : List Part) → AllTwo (PartFits rows (alive_in w) (scope_at w s)) us parts → AllTwo May parts (map (completion_of (scope_at w s).completions) us)
+    pick_of s [] [] a = tt
+    pick_of s (q ∷ us) (part ∷ parts) a = (a.0.may, pick_of s us parts a.1)
+    pick_of s [] (part ∷ parts) a = absurd a
+    pick_of s (q ∷ us) [] a = absurd a
+
+    -- the count over the subtasks is the count over all births
+    count_filter : (test inside : ℕ → Bool) (P : Option End → Bool) (f2 : ℕ → Option End) (us : List ℕ) → ((q : ℕ) → test q ≡ (inside q && P (f2 q))) → count_by P (map f2 (filter inside us)) ≡ count_by test us
+    count_filter test inside P f2 [] same = refl
+    count_filter test inside P f2 (q ∷ us) same = by (inside q) (same q) (count_filter test inside P f2 us same)
+      where
+        by : (b : Bool) → test q ≡ (b && P (f2 q)) → count_by P (map f2 (filter inside us)) ≡ count_by test us → count_by P (map f2 (cond b (q ∷ filter inside us) (filter inside us))) ≡ count_by test (q ∷ us)
+        by true e rest =
+            let a = sum_by-cons (λ y. cond (P y) 1 0) (f2 q) (map f2 (filter inside us)) in
+            let b = sum_by-cons (λ y. cond (test y) 1 0) q us in
+            let here : cond {A = ℕ} (test q) 1 0 ≡ cond (P (f2 q)) 1 0 = ap (λ z. cond z 1 0) e in
+            omega (arith, a, b, here, rest)
+        by false e rest =
+            let b = sum_by-cons (λ y. cond (test y) 1 0) q us in
+            let here : cond {A = ℕ} (test q) 1 0 ≡ 0 = ap (λ z. cond z 1 0) e in
+            omega (arith, b, here, rest)
+
+    in_state : (s : ℕ) (kind : Kind) (q : ℕ) → is_in_state w s kind q ≡ (is_subtask s (task_at w q) && is_kind kind (completion_of (scope_at w s).completions q))
+    in_state s kind q = by (is_subtask s (task_at w q)) refl
+      where
+        by : (b : Bool) → is_subtask s (task_at w q) ≡ b → (b && is_kind kind (sub_state w q)) ≡ (b && is_kind kind (completion_of (scope_at w s).completions q))
+        by true e = ap (λ (o : Option ℕ). is_kind kind (completion_of (parent w o).completions q)) (some-is_in s (task_at w q).scope e)
+        by false e = refl
+
+    to_tally : (x : ℕ) (kind : Kind) (s : ℕ) → slot f x ≡ slots.Own s → StepsTo p t rows w u own (Tally x kind) (steps f 0 (pos (tally w s kind) ∷ []))
+    to_tally x kind s mine =
+        let o = own_scope rows w f own x s k.fits mine in
+        let count : tally w s kind ≡ count_by (is_kind kind) (states_in s) =
+        (h.tallied s).each kind ∙ sym (count_filter (is_in_state w s kind) (λ q. is_subtask s (task_at w q)) (is_kind kind) (completion_of (scope_at w s).completions) (births w) (in_state s kind))
+        in
+        to_pushes (Tally x kind) 0 _ _ (ap (λ n. pos n) count) (tally_step o.place o.seen (states_in s) o.owns (pick_of s (subs w s) o.seen.parts o.fits.parts))
+
+    to_total : (x s : ℕ) → StepsTo p t rows w u own (Total x) (steps f 0 (total w s ∷ []))
+    to_total x s = to_pushes (Total x) 0 _ _ refl (total_step (total w s))
+
+  -- ---- all of them
+
+  module _ (c : Covers p t root w) (u : ℕ) where
+    abbrev frame : Frame
+    frame = (task_at w u).frame
+
+    -- an instruction whose effect is another frame
+    with_next : (i : Instr) (g : Frame) → Next w (with_frame w u g) → FlagsByCancel w (with_frame w u g) → Does p w u i
+        → (Watched w u → (own : Own) → TaskFits c.rows w u own → StepsTo p t c.rows w u own i g) → Covers p t root (with_frame w u g)
+    with_next i g n flags d moves = covers_alone c (with_frame w u g) u i g n flags (turned_frame w u g (born_alive w u d.alive)) (λ s. refl) d moves
+
+    abbrev pub Gives : Instr → Type 0
+    Gives i = Next w (effect p w u frame i) → FlagsByCancel w (effect p w u frame i) → Does p w u i → Covers p t root (effect p w u frame i)
+
+    -- the slot of a subtask
+    named_sub : (i : Instr) (x : ℕ) (b : Bool) → (not (is_sub (slot frame x)) || b) ≡ false → slot frame x ≡ slots.Sub (named (slot frame x))
+    named_sub i x b e = sub_slot (slot frame x) (first_no _ b e)
+
+    give_local : (i : Instr) → is_local i ≡ true → (locals.local (code p frame) i frame ≡ moved p w u frame i) → effect p w u frame i ≡ with_frame w u (moved p w u frame i) → Gives i
+    give_local i local same is2 n flags d =
+        let e : effect p w u frame i ≡ with_frame w u (locals.local (code p frame) i frame) = is2 ∙ ap (λ (g : Frame). with_frame w u g) (sym same) in
+        subst (λ (v : World). Covers p t root v) (sym e)
+        (with_next i (locals.local (code p frame) i frame) (subst (λ (v : World). Next w v) e n) (subst (λ (v : World). FlagsByCancel w v) e flags) d
+        (λ watched own k. to_local c.rows u own k i local))
+
+    pub give : (i : Instr) → changes_frame_alone i ≡ true → Gives i
+    give (Cancelled x) a n flags d = with_next (Cancelled x) (moved p w u frame (Cancelled x)) n flags d (λ watched own k. to_cancelled c.rows u own k d.alive watched x d.fine.slots)
+    give (Case x success failed) a n flags d =
+        let mine = named_sub (Case x success failed) x false d.fine.slots in
+        with_next (Case x success failed) (moved p w u frame (Case x success failed)) n flags d
+        (λ watched own k.
+        let o = own_sub c.rows w frame own x (named (slot frame x)) k.fits mine in
+        subst (λ q. StepsTo p t c.rows w u own (Case x success failed) (goes frame (case_target q success failed (frame.pc + 1)) 0 [])) (sym (state_of c.rows u own k x o)) (to_case c.rows u own k d.alive x o success failed))
+    give (Get x) a n flags d =
+        let mine = named_sub (Get x) x false d.fine.slots in
+        let legal = readable_success p w frame x mine d.fine.legal in
+        with_next (Get x) (moved p w u frame (Get x)) n flags d
+        (λ watched own k.
+        let o = own_sub c.rows w frame own x (named (slot frame x)) k.fits mine in
+        let e = state_of c.rows u own k x o in
+        subst (λ q. StepsTo p t c.rows w u own (Get x) (steps frame 0 (value_or_zero q ∷ []))) (sym e) (to_get c.rows u own k d.alive x o (subst (λ q. has_succeeded q ≡ true) e legal)))
+    give (Except x) a n flags d =
+        let mine = named_sub (Except x) x false d.fine.slots in
+        let legal = readable_failure p w frame x mine d.fine.legal in
+        with_next (Except x) (moved p w u frame (Except x)) n flags d
+        (λ watched own k.
+        let o = own_sub c.rows w frame own x (named (slot frame x)) k.fits mine in
+        let e = state_of c.rows u own k x o in
+        subst (λ q. StepsTo p t c.rows w u own (Except x) (steps frame 0 (value_or_zero q ∷ []))) (sym e) (to_except c.rows u own k d.alive x o (subst (λ q. has_failed q ≡ true) e legal)))
+    give (Tally x kind) a n flags d =
+        let mine : slot frame x ≡ slots.Own (named (slot frame x)) = own_slot (slot frame x) (first_no _ _ (first_no _ _ d.fine.slots)) d.fine.own in
+        with_next (Tally x kind) (moved p w u frame (Tally x kind)) n flags d (λ watched own k. to_tally c.rows u own k x kind (named (slot frame x)) mine)
+    give (Total x) a n flags d = with_next (Total x) (moved p w u frame (Total x)) n flags d (λ watched own k. to_total c.rows u own k x (named (slot frame x)))
+    give (Read x) a n flags d = with_next (Read x) (moved p w u frame (Read x)) n flags d (λ watched own k. to_read c.rows u own k x)
+    give (Bound x) a n flags d = with_next (Bound x) (moved p w u frame (Bound x)) n flags d (λ watched own k. to_bound c.rows u own k x)
+    give (OrElse x) a n flags d = with_next (OrElse x) (moved p w u frame (OrElse x)) n flags d (λ watched own k. to_or_else c.rows u own k x)
+    give (Bind x) a n flags d = with_next (Bind x) (record (steps frame 1 []) { entries = entry.Binding x (operand frame 0) ∷ frame.entries }) n flags d (λ watched own k. to_bind c.rows u own k x)
+    give Unbind a n flags d = with_next Unbind (record (steps frame 0 []) { entries = drop 1 frame.entries }) n flags d (λ watched own k. to_unbind c.rows u own k d.fine.structure)
+    give (Forget x) a n flags d = with_next (Forget x) (record (steps frame 0 []) { slots = set frame.slots x slots.Empty }) n flags d (λ watched own k. to_forget c.rows u own k x)
+    give Interrupted a n flags d =
+        covers_alone c (effect p w u frame Interrupted) u Interrupted (steps frame 0 (truth (task_at w u).flag ∷ [])) n flags
+        (turned_flag w u (steps frame 0 (truth (task_at w u).flag ∷ [])) false (born_alive w u d.alive)) (λ s. refl) d
+        (λ watched own k. to_interrupted c.rows u own k)
+    give (Open x joiner timed) a n flags d = cc
+    give (Fork x g q) a n flags d = cc
+    give (Join x failed timeout interrupted) a n flags d = cc
+    give (Close x) a n flags d = cc
+    give Ret a n flags d = cc
+    give Fail a n flags d = cc
+    give i a n flags d = give_local i refl refl refl n flags d

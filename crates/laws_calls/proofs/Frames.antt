@@ -1,0 +1,44 @@
+-- Instructions on a frame without births and slots.
+use Rattle.std.proofs.Common.{◌≡◌, ℕ, zero, suc, ◌+◌, ◌-◌, List, [], ◌∷◌, ◌++◌, Bool, true, false, Option, Some}
+use Rattle.std.proofs.Common.{None, refl, sym, ◌∙◌, ap, subst, cond, map}
+use Rattle.std.specs.Prelude.{filter_map, nat_le, ◌==◌, unwrap_or, pos}
+use Rattle.std.specs.Int.{int_wrapping_div, w64}
+use Rattle.std.specs.Ordering.{int_eq}
+use Rattle.sts_code.specs.declared.instr.Instr.{Instr}
+use Rattle.sts_code.specs.declared.instr.Instr.TheVariants.{Div, Times, Next}
+use Rattle.sts_code.specs.Loops.{match_of}
+use Rattle.sts_model.specs.declared.record.Bound.{Bound}
+use Rattle.sts_model.specs.declared.record.Entry.{Entry}
+use Rattle.sts_model.specs.declared.record.Entry.TheVariants as entry
+use Rattle.sts_model.specs.declared.record.Frame.{Frame}
+use Rattle.sts_model.specs.declared.record.Loop.{Loop}
+use Rattle.sts_model.specs.Local.{local, goes, steps, operand, enters, turns, clipped}
+use Rattle.sts_model.specs.Environment.{bound_of}
+use Rattle.laws_calls.specs.Tasks.{bare, blank}
+
+bare_cond : (b : Bool) (f g f2 g2 : Frame) → bare f ≡ f2 → bare g ≡ g2 → bare (cond b f g) ≡ cond b f2 g2
+bare_cond true f g f2 g2 e d = e
+bare_cond false f g f2 g2 e d = d
+
+bare_turns : (f : Frame) (ls : List Loop) → bare (turns f ls) ≡ turns (bare f) ls
+bare_turns f [] = refl
+bare_turns f (l ∷ ls) =
+    bare_cond (nat_le l.left 1) (record (steps f 0 []) { loops = ls }) (record f { pc = l.at + 1; loops = record l { left = l.left - 1 } ∷ ls })
+    (record (steps (bare f) 0 []) { loops = ls }) (record (bare f) { pc = l.at + 1; loops = record l { left = l.left - 1 } ∷ ls }) refl refl
+
+-- a local instruction does the same
+pub bare_local : (is : List Instr) (i : Instr) (f : Frame) → bare (local is i f) ≡ local is i (bare f)
+bare_local is (Div to) f =
+    bare_cond (int_eq (operand f 0) (pos 0)) (goes f to 2 []) (steps f 2 (int_wrapping_div w64 (operand f 1) (operand f 0) ∷ []))
+    (goes (bare f) to 2 []) (steps (bare f) 2 (int_wrapping_div w64 (operand f 1) (operand f 0) ∷ [])) refl refl
+bare_local is (Times n) f =
+    bare_cond (clipped n (operand f 0) == 0) (goes f (unwrap_or (match_of is f.pc) 0 + 1) 1 []) (record (steps f 1 []) { loops = record { at = f.pc; left = clipped n (operand f 0) } ∷ f.loops })
+    (goes (bare f) (unwrap_or (match_of is f.pc) 0 + 1) 1 []) (record (steps (bare f) 1 []) { loops = record { at = f.pc; left = clipped n (operand f 0) } ∷ f.loops }) refl refl
+bare_local is Next f = bare_turns f f.loops
+bare_local is _ f = refl
+
+-- the bindings are the same without births
+pub blank_bounds : (es : List Entry) → filter_map bound_of (map blank es) ≡ filter_map bound_of es
+blank_bounds [] = refl
+blank_bounds (entry.Scope s ∷ es) = blank_bounds es
+blank_bounds (entry.Binding k v ∷ es) = ap (λ (bs : List Bound). record { key = k; value = v } ∷ bs) (blank_bounds es)

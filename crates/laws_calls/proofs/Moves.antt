@@ -1,0 +1,217 @@
+-- A step that moves one task, and leaves the frames of the others and the scopes of the others.
+use Rattle.std.proofs.Common.{◌≡◌, ℕ, zero, suc, ◌+◌, ◌<◌, ◌≤◌, ◌⊎◌, inl, inr, List, [], ◌∷◌, ◌++◌}
+use Rattle.std.proofs.Common.{Bool, true, false, Option, Some, None, refl, sym, ◌∙◌, ap, subst, length}
+use Rattle.std.proofs.Common.{arith, get_or, set, cond, nat_eq}
+use Rattle.std.proofs.Common.{length-set, get_or-set_same, get_or-set_other}
+use Rattle.std.specs.Prelude.{slice_get}
+use Rattle.std.specs.List.{filter, range_with_len}
+use Rattle.std.proofs.lemmas.Bool.Decides.{nat_tests}
+use Rattle.sts_code.specs.Program.{Program}
+use Rattle.sts_model.specs.declared.event.End.{End}
+use Rattle.sts_model.specs.declared.record.Frame.{Frame}
+use Rattle.sts_model.specs.declared.record.Scope.{Scope}
+use Rattle.sts_model.specs.declared.record.Slot.{Slot}
+use Rattle.sts_model.specs.declared.record.Slot.TheVariants as slots
+use Rattle.sts_model.specs.declared.record.Task.{Task}
+use Rattle.sts_model.specs.World.{World, task_at, scope_at, no_task, with_frame, with_task}
+use Rattle.sts_model.specs.Living.{lives, is_in, is_subtask, completion_of}
+use Rattle.sts_model.specs.Misuse.{slot}
+use Rattle.laws_runs.specs.Tallies.{births}
+use Rattle.laws_runs.proofs.ListLemmas.{at_set}
+use Rattle.laws_runs.proofs.EffectLemmas.{some-is_in}
+use Rattle.laws_runs.proofs.EventLemmas.{Next}
+use Rattle.laws_runs.proofs.BirthLemmas.{born_alive}
+use Rattle.laws_calls.specs.Held.{Held}
+use Rattle.laws_calls.specs.Held as held
+use Rattle.laws_calls.specs.Tasks.{Among, AllTwo, at_place, put_place, HasWay, Part, Seen, Own, bare, births_in, held_at}
+use Rattle.laws_calls.specs.Steps.{Row, Table, Owns, Knows}
+use Rattle.laws_calls.specs.Covers.{subs, PartFits, ScopeFits, SeenFits, HeldFits, FrameFits, TaskFits}
+use Rattle.laws_calls.specs.Covers.{Watched, Covers, alive_in}
+use Rattle.laws_calls.proofs.Lists.{all_map, all_get, all_at, all_put, all_place, all_put_place, among_filter}
+use Rattle.laws_calls.proofs.Lists.{filter_same, Apart, get_among}
+use Rattle.laws_calls.proofs.Turns.{Facts, FlagsByCancel, alive_later, watched_before, flag_stays}
+use Rattle.laws_calls.proofs.Turns.{environment_stays, seen_same, held_same, task_same, apart_births}
+
+pub record Turned (w v : World) (t : ℕ) (g : Frame) : Type 0 where
+  pub count : length v.tasks ≡ length w.tasks
+  pub here : (task_at v t).frame ≡ g
+  pub there : (u : ℕ) → (u ≡ t → ⊥) → (task_at v u).frame ≡ (task_at w u).frame
+  pub scope : (u : ℕ) → (task_at v u).scope ≡ (task_at w u).scope
+  pub scopes : (s : ℕ) → s < length w.scopes → ((scope_at w s).owner ≡ t → ⊥) → scope_at v s ≡ scope_at w s
+  pub outcome : (u : ℕ) → (task_at v u).outcome ≡ (task_at w u).outcome
+  pub calm : ((s : ℕ) → (scope_at w s).expired ≡ false) → (s : ℕ) → (scope_at v s).expired ≡ false
+
+pub subs_same : (w v : World) (s : ℕ) → length v.tasks ≡ length w.tasks → ((u : ℕ) → (task_at v u).scope ≡ (task_at w u).scope) → subs v s ≡ subs w s
+subs_same w v s count scope =
+    filter_same (λ u. is_subtask s (task_at v u)) (λ u. is_subtask s (task_at w u)) (births v) (λ u. ap (is_in s) (scope u))
+    ∙ ap (λ n. filter (λ u. is_subtask s (task_at w u)) (range_with_len 0 n)) count
+
+-- where the task goes on: a state of its row, which fits its new frame
+pub record GoesOn (rows : ℕ → Row) (v : World) (t : ℕ) (g : Frame) : Type 0 where
+  pub own : Own
+  pub there : Among (rows t).states own
+  pub fits : FrameFits rows v g own
+
+module _ (p : Program) (t : Table) (root : Row) (w v : World) (h : Facts w) (n : Next w v) (flags : FlagsByCancel w v) where
+  -- the task u goes on with the frame g
+  pub covers_turned : (c : Covers p t root w) (u : ℕ) (g : Frame) → Turned w v u g → lives (task_at w u) ≡ true
+      → (Watched w u → (own : Own) → TaskFits c.rows w u own → GoesOn c.rows v u g) → Covers p t root v
+  covers_turned c u g turned alive moves =
+      record {
+        rows = c.rows;
+        listed = c.listed;
+        first = c.first;
+        calm = turned.calm c.calm;
+        tasks = λ q lives_v watched. each q lives_v watched (nat_eq q u) refl;
+        ended = λ e is. c.ended e (sym (turned.outcome 0) ∙ is);
+      }
+    where
+      born : (q : ℕ) → lives (task_at v q) ≡ true → q < length w.tasks
+      born q e = let b = born_alive v q e in let s = turned.count in omega (arith, b, s)
+
+      before : (q : ℕ) → lives (task_at v q) ≡ true → lives (task_at w q) ≡ true
+      before q e = alive_later (task_at w q) (task_at v q) (n.later.task q (born q e)) e
+
+      keeps : (q s : ℕ) (x : Seen) → (q ≡ u → ⊥) → s < length w.scopes → (scope_at w s).owner ≡ q → SeenFits c.rows w s x → SeenFits c.rows v s x
+      keeps q s x other born_s owner f = seen_same w v h n c.rows c.rows s x (turned.scopes s born_s (λ e. other (sym owner ∙ e))) (subs_same w v s turned.count turned.scope) (λ k less. refl) f
+
+      each : (q : ℕ) → lives (task_at v q) ≡ true → Watched v q → (b : Bool) → nat_eq q u ≡ b → (own : Own) × TaskFits c.rows v q own
+      each q e watched true is =
+          let same : q ≡ u = grind (arith, nat_tests) in
+          let by_owner : Watched w u = subst (λ k. Watched w k) same (watched_before w v h n q (born q e) watched) in
+          let old : (own : Own) × TaskFits c.rows w u own = c.tasks u alive by_owner in
+          let m : GoesOn c.rows v u g = moves by_owner old.0 old.1 in
+          let less : u < length w.tasks = subst (λ k. k < length w.tasks) same (born q e) in
+          let seen : Watched v u = subst (λ k. Watched v k) same watched in
+          subst (λ k. (own : Own) × TaskFits c.rows v k own) (sym same)
+          ((
+            m.own,
+            record {
+              there = m.there;
+              fits = subst (λ (f : Frame). FrameFits c.rows v f m.own) (sym turned.here) m.fits;
+              flag = flag_stays w v h n flags u less seen old.1.flag;
+              environment = environment_stays w v h n u less ∙ old.1.environment;
+            },
+          ))
+      each q e watched false is =
+          let other : q ≡ u → ⊥ = grind (arith, nat_tests) in
+          let old : (own : Own) × TaskFits c.rows w q own = c.tasks q (before q e) (watched_before w v h n q (born q e) watched) in (
+            old.0,
+            task_same w v h n flags c.rows c.rows q old.0 (before q e) watched (turned.there q other) (λ k less. refl)
+                (λ s x less owner f. keeps q s x other less owner f)
+                (λ s i k less owner is2. subst (λ us. slice_get us i ≡ Some k) (sym (subs_same w v s turned.count turned.scope)) is2)
+                old.1,
+          )
+
+-- ---- the frame alone
+
+-- another frame, and perhaps another flag
+pub turned_flag : (w : World) (t : ℕ) (g : Frame) (flag : Bool) → t < length w.tasks → Turned w (with_task w t (record (task_at w t) { frame = g; flag = flag })) t g
+turned_flag w t g flag born =
+    let x : Task = record (task_at w t) { frame = g; flag = flag } in
+    record {
+      count = length-set w.tasks t x;
+      here = ap (λ (task : Task). task.frame) (get_or-set_same w.tasks t x no_task born);
+      there = λ u other. ap (λ (task : Task). task.frame) (get_or-set_other w.tasks t u x no_task other);
+      scope = λ u. at_set (λ (task : Task). task.scope ≡ (task_at w u).scope) w.tasks t u x no_task (λ e. rw e refl) refl;
+      scopes = λ s less other. refl;
+      outcome = λ u. at_set (λ (task : Task). task.outcome ≡ (task_at w u).outcome) w.tasks t u x no_task (λ e. rw e refl) refl;
+      calm = λ k s. k s;
+    }
+
+pub turned_frame : (w : World) (t : ℕ) (g : Frame) → t < length w.tasks → Turned w (with_frame w t g) t g
+turned_frame w t g born = turned_flag w t g (task_at w t).flag born
+
+-- a frame that fits before fits after a step that changes no scope
+pub fits_later : (w v : World) → Facts w → Next w v → (rows : ℕ → Row) (g : Frame) (own : Own) → ((s : ℕ) → scope_at v s ≡ scope_at w s) → ((s : ℕ) → subs v s ≡ subs w s) → FrameFits rows w g own → FrameFits rows v g own
+fits_later w v h n rows g own scopes subtasks f =
+    record {
+      frame = f.frame;
+      held = all_map (HeldFits w (births_in g.entries)) (HeldFits v (births_in g.entries)) g.slots own.held (λ x y at k. held_same w v h n (births_in g.entries) (λ s i u at2 e. subst (λ us. slice_get us i ≡ Some u) (sym (subtasks s)) e) x y k) f.held;
+      scopes = all_map (SeenFits rows w) (SeenFits rows v) (births_in g.entries) own.scopes (λ s x at k. seen_same w v h n rows rows s x (scopes s) (subtasks s) (λ u less. refl) k) f.scopes;
+    }
+
+-- ---- what a slot holds
+
+-- the scope that a slot owns, as the state has it
+pub record OwnScope (rows : ℕ → Row) (w : World) (f : Frame) (own : Own) (x s : ℕ) : Type 0 where
+  pub place : ℕ
+  pub seen : Seen
+  pub owns : Owns own x place seen
+  pub at : at_place (births_in f.entries) place ≡ Some s
+  pub fits : SeenFits rows w s seen
+
+held_own : (w : World) (opened : List ℕ) (s : ℕ) (y : Held) → HeldFits w opened (slots.Own s) y → (place : ℕ) × ((y ≡ held.Own place) × (at_place opened place ≡ Some s))
+held_own w opened s (held.Own place) k = (place, (refl, k))
+held_own w opened s y k = absurd k
+
+held_sub : (w : World) (opened : List ℕ) (u : ℕ) (y : Held) → HeldFits w opened (slots.Sub u) y → (place : ℕ) × ((i : ℕ) × ((y ≡ held.Sub place i) × HeldFits w opened (slots.Sub u) (held.Sub place i)))
+held_sub w opened u (held.Sub place i) k = (place, (i, (refl, k)))
+held_sub w opened u y k = absurd k
+
+pub held_lent : (w : World) (opened : List ℕ) (s : ℕ) (y : Held) → HeldFits w opened (slots.Lent s) y → y ≡ held.Lent
+held_lent w opened s held.Lent k = refl
+held_lent w opened s y k = absurd k
+
+pub held_slot : (rows : ℕ → Row) (w : World) (f : Frame) (own : Own) (x : ℕ) → FrameFits rows w f own → HeldFits w (births_in f.entries) (slot f x) (held_at own x)
+held_slot rows w f own x k = all_get (HeldFits w (births_in f.entries)) f.slots own.held x slots.Empty held.Empty k.held tt
+
+pub own_scope : (rows : ℕ → Row) (w : World) (f : Frame) (own : Own) (x s : ℕ) → FrameFits rows w f own → slot f x ≡ slots.Own s → OwnScope rows w f own x s
+own_scope rows w f own x s k is =
+    let y = held_own w (births_in f.entries) s (held_at own x) (subst (λ z. HeldFits w (births_in f.entries) z (held_at own x)) is (held_slot rows w f own x k)) in
+    let r = all_place (SeenFits rows w) (births_in f.entries) own.scopes y.0 s k.scopes y.1.1 in
+    record { place = y.0; seen = r.0; owns = record { holds = y.1.0; there = r.1.0 }; at = y.1.1; fits = r.1.1 }
+
+-- the subtask that a slot names, as the state has it
+pub record OwnSub (rows : ℕ → Row) (w : World) (f : Frame) (own : Own) (x u : ℕ) : Type 0 where
+  pub scope : ℕ
+  pub place : ℕ
+  pub seen : Seen
+  pub i : ℕ
+  pub part : Part
+  pub knows : Knows own x place seen i part
+  pub at : at_place (births_in f.entries) place ≡ Some scope
+  pub fits : SeenFits rows w scope seen
+  pub sub : slice_get (subs w scope) i ≡ Some u
+  pub inside : (task_at w u).scope ≡ Some scope
+  pub may : PartFits rows (alive_in w) (scope_at w scope) u part
+
+pub own_sub : (rows : ℕ → Row) (w : World) (f : Frame) (own : Own) (x u : ℕ) → FrameFits rows w f own → slot f x ≡ slots.Sub u → OwnSub rows w f own x u
+own_sub rows w f own x u k is =
+    let y = held_sub w (births_in f.entries) u (held_at own x) (subst (λ z. HeldFits w (births_in f.entries) z (held_at own x)) is (held_slot rows w f own x k)) in
+    let place : ℕ = y.0 in
+    let i : ℕ = y.1.0 in
+    let s : ℕ = y.1.1.1.0 in
+    let at : at_place (births_in f.entries) place ≡ Some s = y.1.1.1.1.0 in
+    let sub : slice_get (subs w s) i ≡ Some u = y.1.1.1.1.1 in
+    let r = all_place (SeenFits rows w) (births_in f.entries) own.scopes place s k.scopes at in
+    let q = all_at (PartFits rows (alive_in w) (scope_at w s)) (subs w s) r.0.parts i u r.1.1.parts sub in
+    record {
+      scope = s;
+      place = place;
+      seen = r.0;
+      i = i;
+      part = q.0;
+      knows = record { holds = y.1.1.0; there = r.1.0; known = q.1.0 };
+      at = at;
+      fits = r.1.1;
+      sub = sub;
+      inside = some-is_in s (task_at w u).scope (among_filter (λ q. is_subtask s (task_at w q)) (births w) u (get_among (subs w s) i u sub)).0;
+      may = q.1.1;
+    }
+
+-- ---- a scope of the state is replaced
+
+pub put_seen : (rows : ℕ → Row) (w : World) (opened : List ℕ) (scopes : List Seen) (place s : ℕ) (x : Seen) → AllTwo (SeenFits rows w) opened scopes → Apart opened → at_place opened place ≡ Some s → SeenFits rows w s x → AllTwo (SeenFits rows w) opened (put_place scopes place x)
+put_seen rows w opened scopes place s x k apart at new = all_put_place (SeenFits rows w) (SeenFits rows w) opened scopes place s x k apart at new (λ z b among other f. f)
+
+pub put_part : (rows : ℕ → Row) (w : World) (s : ℕ) (x : Seen) (i u : ℕ) (part : Part) → SeenFits rows w s x → slice_get (subs w s) i ≡ Some u → PartFits rows (alive_in w) (scope_at w s) u part → SeenFits rows w s (record x { parts = set x.parts i part })
+put_part rows w s x i u part f at new =
+    record {
+      joiner = f.joiner;
+      timed = f.timed;
+      environment = f.environment;
+      phase = f.phase;
+      known = f.known;
+      parts = all_put (PartFits rows (alive_in w) (scope_at w s)) (subs w s) x.parts i u part f.parts at new;
+    }

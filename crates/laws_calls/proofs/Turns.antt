@@ -1,0 +1,217 @@
+-- What a step of one task leaves of the states of the others.
+use Rattle.std.proofs.Common.{◌≡◌, ℕ, zero, suc, ◌+◌, ◌<◌, ◌≤◌, ◌⊎◌, inl, inr, List, [], ◌∷◌, ◌++◌}
+use Rattle.std.proofs.Common.{Bool, true, false, Option, Some, None, refl, sym, ◌∙◌, ap, subst, length}
+use Rattle.std.proofs.Common.{arith, get_or, set, cond, nat_eq, ◌||◌}
+use Rattle.std.specs.Prelude.{◌==◌, slice_get, count_by}
+use Rattle.std.specs.List.{filter, range_with_len, list_any}
+use Rattle.std.proofs.lemmas.Bool.Decides.{nat_tests}
+use Rattle.std.proofs.lemmas.List.Sums.{sum_by-cons}
+use Rattle.sts_code.specs.Program.{Program}
+use Rattle.sts_model.specs.declared.event.End.{End}
+use Rattle.sts_model.specs.declared.event.Phase.{Phase}
+use Rattle.sts_model.specs.declared.record.Entry.{Entry}
+use Rattle.sts_model.specs.declared.record.Entry.TheVariants as entry
+use Rattle.sts_model.specs.declared.record.Frame.{Frame}
+use Rattle.sts_model.specs.declared.record.Scope.{Scope}
+use Rattle.sts_model.specs.declared.record.Slot.{Slot}
+use Rattle.sts_model.specs.declared.record.Slot.TheVariants as slots
+use Rattle.sts_model.specs.declared.record.Task.{Task}
+use Rattle.sts_model.specs.World.{World, task_at, scope_at}
+use Rattle.sts_model.specs.Living.{lives, is_in, is_subtask, parent, scope_of, sub_state, completion_of}
+use Rattle.sts_model.specs.Misuse.{is_entry_of}
+use Rattle.laws_runs.specs.Flags.{IsCancelled}
+use Rattle.laws_runs.specs.Later.{LaterTask, Later}
+use Rattle.laws_runs.specs.Scopes.{HasCause, IsEntered}
+use Rattle.laws_runs.specs.Slots.{NamesStanding}
+use Rattle.laws_runs.specs.Tallies.{births, IsTallied}
+use Rattle.laws_runs.proofs.EffectLemmas.{is_in-some, some-is_in}
+use Rattle.laws_runs.proofs.EventLemmas.{Right, Next}
+use Rattle.laws_runs.proofs.KeptLemmas.{dead_later}
+use Rattle.laws_runs.proofs.BirthLemmas.{born_alive}
+use Rattle.sts_model.specs.Misuse.{is_joined}
+use Rattle.laws_calls.specs.Held.{Held}
+use Rattle.laws_calls.specs.Held as held
+use Rattle.laws_calls.specs.Tasks.{Among, AllTwo, at_place, HasWay, Part, Seen, Knowledge, Own, bare, births_in}
+use Rattle.laws_calls.specs.Steps.{Row, Table}
+use Rattle.laws_calls.specs.Covers.{subs, PartFits, ScopeFits, SeenFits, HeldFits, FrameFits, TaskFits}
+use Rattle.laws_calls.specs.Covers.{Watched, watched_root, watched_sub, Covers, alive_in}
+use Rattle.laws_calls.proofs.Lists.{all_map, among_filter, range_among, filter_same, Apart, at_among, no}
+
+-- what is known of every state of a run
+pub record Facts (w : World) : Type 0 where
+  pub right : Right w
+  pub caused : (s : ℕ) → s < length w.scopes → HasCause (scope_at w s)
+  pub left_out : (s u : ℕ) → (task_at w u).scope ≡ Some s → lives (task_at w u) ≡ false → sub_state w u ≡ None → (scope_at w s).cancelled ≡ true
+  pub settled : (s u : ℕ) → is_joined (scope_at w s).phase ≡ true → (scope_at w s).cancelled ≡ false → (task_at w u).scope ≡ Some s → lives (task_at w u) ≡ false
+  pub entered : (t s : ℕ) → lives (task_at w t) ≡ true → list_any (is_entry_of s) (task_at w t).frame.entries ≡ true → IsEntered w t s
+  pub names : (t x : ℕ) → lives (task_at w t) ≡ true → NamesStanding w t x
+  pub tallied : (s : ℕ) → IsTallied w s
+
+-- a flag is set only by the cancel of the task's scope
+abbrev pub FlagsByCancel : World → World → Type 0
+FlagsByCancel w v = (u : ℕ) → (task_at w u).flag ≡ false → (task_at v u).flag ≡ true → (s : ℕ) × ((task_at w u).scope ≡ Some s) × IsCancelled w v s
+
+-- ---- entries
+
+pub births_has : (es : List Entry) (s : ℕ) → Among (births_in es) s → list_any (is_entry_of s) es ≡ true
+births_has [] s h = absurd h
+births_has (entry.Binding k v ∷ es) s h = births_has es s h
+births_has (entry.Scope r ∷ es) s (inl same) = by (r == s) (grind (arith, nat_tests))
+  where
+    by : (b : Bool) → b ≡ true → (b || list_any (is_entry_of s) es) ≡ true
+    by true e = refl
+    by false e = cc
+births_has (entry.Scope r ∷ es) s (inr h) = by (r == s) (births_has es s h)
+  where
+    by : (b : Bool) → list_any (is_entry_of s) es ≡ true → (b || list_any (is_entry_of s) es) ≡ true
+    by true e = refl
+    by false e = e
+
+count-cons : {X : Type 0} (test : X → Bool) (x : X) (xs : List X) → count_by test (x ∷ xs) ≡ cond (test x) 1 0 + count_by test xs
+count-cons test x xs = sum_by-cons (λ y. cond (test y) 1 0) x xs
+
+has_counted : (s : ℕ) (es : List Entry) → list_any (is_entry_of s) es ≡ true → 0 < count_by (is_entry_of s) es
+has_counted s [] e = cc
+has_counted s (x ∷ es) e = by (is_entry_of s x) (count-cons (is_entry_of s) x es) e (λ d. has_counted s es d)
+  where
+    by : (b : Bool) → count_by (is_entry_of s) (x ∷ es) ≡ cond b 1 0 + count_by (is_entry_of s) es → (b || list_any (is_entry_of s) es) ≡ true → (list_any (is_entry_of s) es ≡ true → 0 < count_by (is_entry_of s) es) → 0 < count_by (is_entry_of s) (x ∷ es)
+    by true k d rest = omega (arith, k)
+    by false k d rest = let r = rest d in omega (arith, k, r)
+
+or_true : (a b : Bool) → b ≡ true → (a || b) ≡ true
+or_true true b e = refl
+or_true false b e = e
+
+pub apart_births : (es : List Entry) → ((s : ℕ) → list_any (is_entry_of s) es ≡ true → count_by (is_entry_of s) es ≤ 1) → Apart (births_in es)
+apart_births [] once = tt
+apart_births (entry.Binding k v ∷ es) once =
+    apart_births es (λ s has. (let c : count_by (is_entry_of s) (entry.Binding k v ∷ es) ≡ 0 + count_by (is_entry_of s) es = count-cons (is_entry_of s) (entry.Binding k v) es in let o = once s has in omega (arith, c, o)))
+apart_births (entry.Scope r ∷ es) once = (never, apart_births es (λ s has. rest s has))
+  where
+    self : (r == r) ≡ true
+    self = grind (arith, nat_tests)
+
+    here : list_any (is_entry_of r) (entry.Scope r ∷ es) ≡ true
+    here = ap (λ b. b || list_any (is_entry_of r) es) self
+
+    never : Among (births_in es) r → ⊥
+    never at =
+        let c = count-cons (is_entry_of r) (entry.Scope r) es in
+        let one : cond {A = ℕ} (r == r) 1 0 ≡ 1 = ap (λ b. cond b 1 0) self in
+        let o = once r here in
+        let more = has_counted r es (births_has es r at) in
+        omega (arith, c, one, o, more)
+
+    rest : (s : ℕ) → list_any (is_entry_of s) es ≡ true → count_by (is_entry_of s) es ≤ 1
+    rest s has =
+        let c : count_by (is_entry_of s) (entry.Scope r ∷ es) ≡ cond {A = ℕ} (r == s) 1 0 + count_by (is_entry_of s) es = count-cons (is_entry_of s) (entry.Scope r) es in
+        let o = once s (or_true (r == s) (list_any (is_entry_of s) es) has) in
+        omega (arith, c, o)
+
+-- ---- one step, from w to v
+
+pub alive_later : (x y : Task) → LaterTask x y → lives y ≡ true → lives x ≡ true
+alive_later x y later e = by (lives x) refl
+  where
+    by : (b : Bool) → lives x ≡ b → b ≡ true
+    by true h = refl
+    by false h = let d = dead_later x y later h in cc
+
+module _ (w v : World) (h : Facts w) (n : Next w v) where
+  same_scope : (u : ℕ) → u < length w.tasks → (task_at v u).scope ≡ (task_at w u).scope
+  same_scope u born = (n.later.task u born).same.scope
+
+  going : (s : ℕ) → s < length w.scopes → (scope_at v s).cancelled ≡ false → (scope_at w s).cancelled ≡ false
+  going s born e = by (scope_at w s).cancelled refl
+    where
+      by : (b : Bool) → (scope_at w s).cancelled ≡ b → b ≡ false
+      by false d = refl
+      by true d = let k = (n.later.scope s born).marks.cancelled d in cc
+
+  pub watched_before : (u : ℕ) → u < length w.tasks → Watched v u → Watched w u
+  watched_before u born watched_root = watched_root
+  watched_before u born (watched_sub s inside free owner) =
+      let inside_w : (task_at w u).scope ≡ Some s = sym (same_scope u born) ∙ inside in
+      let b = h.right.sound.born u s inside_w in
+      let less = b.1 in
+      let same : (scope_at v s).owner ≡ (scope_at w s).owner = (n.later.scope s b.0).same.owner in
+      let before : Watched w (scope_at v s).owner = watched_before (scope_at v s).owner (omega (arith, same, less, born)) owner in
+      watched_sub s inside_w (going s b.0 free) (subst (λ o. Watched w o) same before)
+
+  never : (u s : ℕ) → u < length w.tasks → (task_at w u).scope ≡ Some s → (scope_at v s).cancelled ≡ true → Watched v u → ⊥
+  never u s born inside gone watched_root = let b = h.right.sound.born u s inside in let less = b.1 in omega (arith, less)
+  never u s born inside gone (watched_sub r inside_v free owner) =
+      let same : Some r ≡ Some s = sym inside_v ∙ same_scope u born ∙ inside in
+      let one : r ≡ s = cc in
+      no (sym gone ∙ ap (λ q. (scope_at v q).cancelled) (sym one) ∙ free)
+
+  pub flag_stays : FlagsByCancel w v → (u : ℕ) → u < length w.tasks → Watched v u → (task_at w u).flag ≡ false → (task_at v u).flag ≡ false
+  flag_stays flags u born watched before = by (task_at v u).flag refl
+    where
+      by : (b : Bool) → (task_at v u).flag ≡ b → b ≡ false
+      by false e = refl
+      by true e = let c = flags u before e in absurd (never u c.0 born c.1 c.2.after watched)
+
+  pub environment_stays : (u : ℕ) → u < length w.tasks → (scope_of v u).environment ≡ (scope_of w u).environment
+  environment_stays u born = ap (λ q. (parent v q).environment) (same_scope u born) ∙ by (task_at w u).scope refl
+    where
+      by : (q : Option ℕ) → (task_at w u).scope ≡ q → (parent v q).environment ≡ (parent w q).environment
+      by None e = refl
+      by (Some s) e = (n.later.scope s (h.right.sound.born u s e).0).same.environment
+
+  -- a scope that the step doesn't change
+  pub seen_same : (rows later : ℕ → Row) (s : ℕ) (x : Seen) → scope_at v s ≡ scope_at w s → subs v s ≡ subs w s → ((u : ℕ) → u < length w.tasks → later u ≡ rows u) → SeenFits rows w s x → SeenFits later v s x
+  seen_same rows later s x same subtasks agree k =
+      subst (λ (scope : Scope). ScopeFits later (alive_in v) scope (subs v s) x) (sym same)
+      (subst (λ us. ScopeFits later (alive_in v) (scope_at w s) us x) (sym subtasks)
+      (record {
+        joiner = k.joiner;
+        timed = k.timed;
+        environment = k.environment;
+        phase = k.phase;
+        known = k.known;
+        parts = all_map (PartFits rows (alive_in w) (scope_at w s)) (PartFits later (alive_in v) (scope_at w s)) (subs w s) x.parts (λ u part at f. part_same u part at f) k.parts;
+      }))
+    where
+      part_same : (u : ℕ) (part : Part) → Among (subs w s) u → PartFits rows (alive_in w) (scope_at w s) u part → PartFits later (alive_in v) (scope_at w s) u part
+      part_same u part at f =
+          let less = range_among 0 (length w.tasks) u (among_filter (λ q. is_subtask s (task_at w q)) (births w) u at).1 in
+          let born : u < length w.tasks = omega (arith, less) in
+          record {
+            may = f.may;
+            whole = λ alive free e way.
+                f.whole (alive_later (task_at w u) (task_at v u) (n.later.task u born) alive) free e
+                (subst (λ (row : Row). HasWay row.ways e) (agree u born) way);
+          }
+
+  -- the slots, if the subtasks of the open scopes keep their places
+  pub held_same : (opened : List ℕ) → ((s i u : ℕ) → Among opened s → slice_get (subs w s) i ≡ Some u → slice_get (subs v s) i ≡ Some u) → (x : Slot) (y : Held) → HeldFits w opened x y → HeldFits v opened x y
+  held_same opened keeps slots.Empty held.Empty f = tt
+  held_same opened keeps (slots.Own s) (held.Own place) f = f
+  held_same opened keeps (slots.Lent s) held.Lent f = tt
+  held_same opened keeps (slots.Sub u) (held.Sub place i) f = (f.0, (f.1.0, keeps f.0 i u (at_among opened place f.0 f.1.0) f.1.1))
+  held_same opened keeps x y f = absurd f
+
+  -- a task whose frame the step doesn't change
+  pub task_same : FlagsByCancel w v → (rows later : ℕ → Row) (u : ℕ) (own : Own)
+      → lives (task_at w u) ≡ true → Watched v u → (task_at v u).frame ≡ (task_at w u).frame
+      → ((q : ℕ) → q < length w.tasks → later q ≡ rows q)
+      → ((s : ℕ) (x : Seen) → s < length w.scopes → (scope_at w s).owner ≡ u → SeenFits rows w s x → SeenFits later v s x)
+      → ((s i q : ℕ) → s < length w.scopes → (scope_at w s).owner ≡ u → slice_get (subs w s) i ≡ Some q → slice_get (subs v s) i ≡ Some q)
+      → TaskFits rows w u own → TaskFits later v u own
+  task_same flags rows later u own alive watched same agree keeps stays k =
+      let born : u < length w.tasks = born_alive w u alive in
+      let row : later u ≡ rows u = agree u born in
+      record {
+        there = subst (λ (r : Row). Among r.states own) (sym row) k.there;
+        fits = subst (λ (f : Frame). FrameFits later v f own) (sym same) (record {
+          frame = k.fits.frame;
+          held = all_map (HeldFits w (births_in (task_at w u).frame.entries)) (HeldFits v (births_in (task_at w u).frame.entries)) (task_at w u).frame.slots own.held (λ x y at f. held_same (births_in (task_at w u).frame.entries) (λ s i q at2 e. let m = mine s at2 in stays s i q m.born m.owner e) x y f) k.fits.held;
+          scopes = all_map (SeenFits rows w) (SeenFits later v) (births_in (task_at w u).frame.entries) own.scopes (λ s x at f. let m = mine s at in keeps s x m.born m.owner f) k.fits.scopes;
+        });
+        flag = flag_stays flags u born watched k.flag;
+        environment = environment_stays u born ∙ k.environment ∙ ap (λ (r : Row). r.call.environment) (sym row);
+      }
+    where
+      mine : (s : ℕ) → Among (births_in (task_at w u).frame.entries) s → IsEntered w u s
+      mine s at = h.entered u s alive (births_has (task_at w u).frame.entries s at)
