@@ -25,14 +25,14 @@ BEFORE = {
     "mistakes --fit": door("mistakes", "--fit"),
 }
 OF_PROGRAMS = ("ends", "launchers", "memory", "rows", "streams", "shown", "looks", "cases", "heaviest", "edges", "outsides", "each_cause",
-               "look_rows", "workers")
+               "look_rows", "workers", "waits")
 
 
 def after(words):
     """Returns the checks of the built programs, those that take longest first."""
     tests = {it: door(it, *words) for it in OF_PROGRAMS}
     named = ["--sts", f"{proved('sts')}.unproved", "--look", f"{proved('look')}.unproved"] if words else []
-    return {"waits": door("waits"), "record": [sys.executable, "record/test.py", *named], **tests}
+    return {"record": [sys.executable, "record/test.py", *named], **tests}
 
 
 def ran(name, words):
@@ -60,7 +60,7 @@ def main():
         print(__doc__, file=sys.stderr)
         return 2
     if words[1:] == [UNPROVED]:
-        for it in ("sts", "look", "tests_rows"):  # (before the clock runs)
+        for it in ("sts", "look", "tests_rows", "tests_waits"):  # (before the clock runs)
             unproved(it)
     since = time.monotonic()
     checks = BEFORE if words[0] == "before" else after(words[1:])

@@ -165,29 +165,14 @@ impl<'p, O: Outside, B: Runs<O>> Asked<'p, O, B> {
         self.book.take_in(slice)
     }
 
-    /// Can the task step, and isn't it out?
-    pub(crate) fn is_at_hand(&self, task: u32) -> bool {
-        self.book.is_at_hand(task)
-    }
-
     /// Takes the slice of this task, if it can step and isn't out.
     pub(crate) fn lend(&mut self, task: u32) -> Option<Slice<'p>> {
         self.book.lend(task)
     }
 
-    /// Is there another task that can step, or one that is out?
-    pub(crate) fn has_other(&self, task: u32) -> bool {
-        self.book.has_other(task)
-    }
-
-    /// Is there a task that can step and isn't out?
-    pub(crate) fn has_more(&self) -> bool {
-        self.book.has_more()
-    }
-
-    /// Has the root ended?
-    pub(crate) fn has_ended(&self) -> bool {
-        self.book.root_end().is_some()
+    /// The book.
+    pub(crate) fn book(&self) -> &Book<'p> {
+        &self.book
     }
 }
 

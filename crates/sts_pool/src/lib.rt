@@ -7,7 +7,7 @@ mod book;
 mod gate;
 mod journal;
 mod report;
-mod waits;
+mod tasks;
 mod workers;
 
 pub use book::{Book, OutsideFull, Stranger};

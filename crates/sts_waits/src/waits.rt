@@ -1,4 +1,4 @@
-//! Decides which workers sleep and which wake another. No other file decides that.
+//! Decides which workers sleep and which wake another. No other crate decides that.
 //!
 //! A worker *waits* for the lock, *works* under it, is *out* with slices or at the gate, *sleeps*, or
 //! has ended. The numbers below are read and written only under the lock, in the hold in which the
@@ -24,54 +24,73 @@
 //!    that sees the end or the stop wakes all, under the lock. A worker that sleeps later has looked
 //!    for both first.
 //!
-//! `checks/models/waits.py` searches every schedule of three workers for a state that contradicts this.
+//! `tests_waits` searches every schedule of three workers for a state that contradicts this.
 
-/// This many local instructions in a row are long enough to justify waking another worker.
-const WORTH: u32 = 900;
+ghost use Rattle.std.specs.Prelude.{◌≡◌};
 
-/// Several workers may claim tasks until this many were claimed since the last worker came, the last
-/// batch or the last long row of local instructions. After that only one does.
-const TRIES: u32 = 64;
+use crate::limits::Limits;
+use crate::worker::Wake;
 
-/// Slices are taken in batches if rows have at least this many local instructions on average.
-const LEAST_ROW: u32 = 300;
-
-/// Slices are taken one at a time if rows have at least this many.
-const LONG_ROW: u32 = 2_048;
-
-/// The limit for the slices of a batch.
-pub(crate) const IN_A_BATCH: u32 = 8;
-
-/// A batch is taken only if the task that was born this many after its first can step, too.
-pub(crate) const MANY: u32 = 31;
-
-/// How many workers there are, how many are awake with no slice out, and how many tasks may still
-/// be claimed by several at once. The longest row of local instructions that was seen since the last
-/// claim, and a mean of late rows.
-#[derive(Clone, Copy, Drop)]
-pub(crate) struct Waits {
+/// The numbers that workers share under the lock. How many workers there are, have reached the lock,
+/// and are awake with no slice out. How many tasks several workers may still claim at once. The longest
+/// row of local instructions that was seen since the last claim, and a mean of late rows. The task that
+/// was born behind those of the last slices. And whether the run is stopped.
+#[derive(Clone, Copy, Debug, PartialEq, Eq, Hash)]
+pub struct Waits {
+    pub(crate) limits: Limits,
     workers: u32,
+    came: u32,
     awake: u32,
     tries: u32,
     row: u32,
     mean: u32,
+    pub(crate) next: u32,
+    pub(crate) has_stopped: bool,
 }
 
 impl Waits {
     /// The state before the first of `workers` workers has come.
-    pub(crate) fn new(workers: u32) -> Waits {
+    pub fn new(workers: u32, limits: Limits) -> Waits {
         Waits {
+            limits,
             workers,
+            came: 0,
             awake: 0,
             tries: 0,
             row: 0,
             mean: 0,
+            next: 0,
+            has_stopped: false,
         }
+    }
+
+    /// How many workers have reached the lock.
+    pub fn came(&self) -> u32 {
+        self.came
+    }
+
+    /// How many workers are awake with no slice out.
+    pub fn awake(&self) -> u32 {
+        self.awake
+    }
+
+    /// Was the run stopped?
+    pub fn has_stopped(&self) -> bool {
+        self.has_stopped
+    }
+
+    /// Makes each worker end at its next hold. All have to be woken.
+    pub fn stop(&mut self) -> Wake
+        ensures { result ≡ Wake.All }
+    {
+        self.has_stopped = true;
+        Wake::All
     }
 
     /// Takes a row of `done` local instructions into the mean, as a quarter of it.
     fn averages(&mut self, done: u32) {
-        self.mean = self.mean - self.mean / 4 + done.min(2 * LONG_ROW) / 4;
+        let most = self.limits.long_row.saturating_mul(2);
+        self.mean = self.mean - self.mean / 4 + done.min(most) / 4;
     }
 
     /// A worker saw a row of `done` local instructions in place.
@@ -90,11 +109,12 @@ impl Waits {
 
     /// Are rows so long that batches of slices are worth it, and so short that single slices aren't?
     pub(crate) fn wants_batches(&self) -> bool {
-        self.workers > 1 && self.mean >= LEAST_ROW && self.mean < LONG_ROW
+        self.workers > 1 && self.mean >= self.limits.least_row && self.mean < self.limits.long_row
     }
 
     /// A worker has the lock for the first time.
     pub(crate) fn comes(&mut self) {
+        self.came = self.came.saturating_add(1);
         self.awake = self.awake.saturating_add(1);
         self.calls_several();
     }
@@ -102,7 +122,7 @@ impl Waits {
     /// Lets several workers claim tasks, if there are several.
     fn calls_several(&mut self) {
         if self.workers > 1 {
-            self.tries = TRIES;
+            self.tries = self.limits.tries;
         }
     }
 
@@ -141,7 +161,7 @@ impl Waits {
     /// A worker did `done` local instructions in a row. `has_other` says whether another task could
     /// step meanwhile, or was out.
     pub(crate) fn ran(&mut self, done: u32, has_other: bool) {
-        if !is_worth(done) {
+        if !self.is_worth(done) {
             self.tries = self.tries.saturating_sub(1);
         } else if has_other {
             self.calls_several();
@@ -162,60 +182,43 @@ impl Waits {
     /// has more, a slice of it is taken. `has_many` says whether a batch may be taken.
     pub(crate) fn in_place(&self, has_many: bool) -> u32 {
         if has_many || self.wants_several() {
-            IN_PLACE_FOR_SEVERAL
+            self.limits.in_place_for_several
         } else {
-            IN_PLACE
+            self.limits.in_place
         }
     }
 
     /// The limit for the turns of a worker under one hold of the lock.
     pub(crate) fn in_a_hold(&self) -> u32 {
         if self.wants_several() {
-            IN_A_HOLD_FOR_SEVERAL
+            self.limits.in_a_hold_for_several
         } else {
-            IN_A_HOLD
+            self.limits.in_a_hold
+        }
+    }
+
+    /// Is a row of `done` local instructions long enough to justify waking another worker?
+    pub(crate) fn is_worth(&self, done: u32) -> bool {
+        done >= self.limits.worth
+    }
+
+    /// The number of turns before local instructions are done in place again. It is one after a row
+    /// of many of them.
+    pub(crate) fn turns_after(&self, done: u32) -> u32 {
+        if done < self.limits.in_a_row {
+            self.limits.in_a_row
+        } else {
+            1
+        }
+    }
+
+    /// The limit for the local instructions that a worker does in each of its slices, with no lock
+    /// held.
+    pub(crate) fn at_once(&self, slices: u32) -> u32 {
+        if slices > 1 {
+            self.limits.at_once_in_a_batch
+        } else {
+            self.limits.at_once
         }
     }
 }
-
-/// Is a row of `done` local instructions long enough to justify waking another worker?
-pub(crate) fn is_worth(done: u32) -> bool {
-    done >= WORTH
-}
-
-/// The number of turns before local instructions are done in place again. It is one after a row of
-/// many of them.
-pub(crate) fn turns_after(done: u32) -> u32 {
-    if done < IN_A_ROW { IN_A_ROW } else { 1 }
-}
-
-/// The limit for the local instructions that a worker does in each of its slices, with no lock held.
-pub(crate) fn at_once(slices: usize) -> u32 {
-    if slices > 1 {
-        AT_ONCE_IN_A_BATCH
-    } else {
-        AT_ONCE
-    }
-}
-
-/// The limit for a worker with one slice.
-const AT_ONCE: u32 = 65_536;
-
-/// The limit for a worker with several.
-const AT_ONCE_IN_A_BATCH: u32 = 4_096;
-
-/// Local instructions are done in place after this many turns of a task in a row.
-pub(crate) const IN_A_ROW: u32 = 6;
-
-/// The limit for the local instructions in a row under the lock, while one worker is enough.
-const IN_PLACE: u32 = 1_024;
-
-/// The same limit, while several workers may claim tasks.
-const IN_PLACE_FOR_SEVERAL: u32 = 32;
-
-/// The limit for the turns under one hold of the lock, while one worker is enough. Eight local
-/// instructions in place count as a turn.
-const IN_A_HOLD: u32 = 1_024;
-
-/// The same limit, while several workers may claim tasks.
-const IN_A_HOLD_FOR_SEVERAL: u32 = 128;
