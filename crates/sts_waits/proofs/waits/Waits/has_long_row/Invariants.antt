@@ -1,4 +1,4 @@
-use Rattle.sts_waits.proofs.hold.Waits.has_long_row.Given as goal
+use Rattle.sts_waits.proofs.waits.Waits.has_long_row.Given as goal
 
 abbrev pub decreases-loop-left : goal.decreases-loop-left
 decreases-loop-left g l = l.left
