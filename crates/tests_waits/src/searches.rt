@@ -103,14 +103,19 @@ pub fn small() -> [Case; 4] {
 pub fn large() -> [Case; 5] {
     [
         of_several("three subtasks", 3, tasks(3, 1, 8, NEVER), BATCHES),
-        of_several("two rounds", 3, tasks(3, 2, 4, NEVER), BATCHES),
+        of_several("two rounds", 3, tasks(3, 2, 8, NEVER), BATCHES),
         of_several(
             "three rounds of short rows",
             3,
             tasks(3, 3, 1, NEVER),
             CLAIMS,
         ),
-        of_several("three subtasks and an event", 3, tasks(3, 1, 8, 20), SLICES),
+        of_several(
+            "three subtasks and an event",
+            3,
+            tasks(3, 1, 8, 20),
+            BATCHES,
+        ),
         Case {
             may_stop: true,
             ..of_several(
