@@ -181,7 +181,7 @@ fn all_slices_of_a_batch_come_back(rt: HostRuntime) -> Result<(), Fail> {
             let found = (ended.end, ended.steps);
             assert_eq!(rt;
                 found,
-                (End::Success(64), 774_790),
+                (End::Success(64), 116_550),
                 "{workers} workers, {path:?}"
             );
         }

@@ -122,9 +122,9 @@ pub const ROWS: &str = "\
     intr:\npush 0\nclose s0\nfail\nend\n\
 ";
 
-/// Sixty-four subtasks of one scope, each with twenty rows of six hundred and two local instructions.
+/// Sixty-four subtasks of one scope, each with three rows of 604 local instructions: 1,819 steps.
 pub const MANY_ROWS: &str = "\
-    func work 0\npush 20\ntimes 20\ninterrupted\npop\npush 200\ntimes 200\npush 1\npop\nnext\nnext\n\
+    func work 0\npush 3\ntimes 3\ninterrupted\npop\npush 200\ntimes 200\npush 1\npop\nnext\nnext\n\
     push 1\nret\nend\n\
     func main 0\nopen s0 all\npush 64\ntimes 64\nfork s0 work _\nnext\njoin s0 bad - intr\n\
     close s0\nret\n\
