@@ -153,14 +153,14 @@ EXPLAINED = [
     (
         "two ways that differ",
         "func main 0 / push 1 / jz x / push 2 / x: / push 3 / ret / end",
-        "refused V7 in main, line 6: push 3 / two ways meet here, or a loop turns, with different stack, loops, scopes or slots / "
+        "refused V7 in main, line 6: push 3 / two ways meet here, or a loop turns, and differ: make alike what is listed, or end one way by ret / "
         "operands: 0 on the way from line 3 (jumps: it was 0); 1 on the way from line 4",
         4,
     ),
     (
         "too many steps",
         "func main 0 / push 499 / times 499 / push 2001 / times 2001 / next / next / push 0 / push 0 / ret / end",
-        "refused V17 in main, at its end / some path takes more than 1000000 steps / "
+        "refused V17 in main, at its end / some path takes more than 1000000 steps: lower a bound of times, or fork fewer subtasks / "
         "1000001 steps on a path that ends here, line 10: ret / adds 1, line 2: push 499 / adds 1, line 3: times 499 / "
         "adds 499, line 4: push 2001 / adds 499, line 5: times 2001 / adds 998499, line 6: next / adds 499, line 7: next / "
         "adds 1, line 8: push 0 / adds 1, line 9: push 0 / adds 1, its last step",

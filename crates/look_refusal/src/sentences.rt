@@ -10,20 +10,23 @@ pub fn remedy_sentence(remedy: Remedy) -> &'static str
     ensures { result.now ≡ def.remedy_sentence remedy }
 {
     match remedy {
-        Remedy::TooFewOperands => "this needs more operands than the stack has here",
-        Remedy::TooManyOperands => "more than 32 operands would be on the stack afterwards",
+        Remedy::TooFewOperands =>
+            "this needs more operands than the stack has here: push them first",
+        Remedy::TooManyOperands =>
+            "more than 32 operands would be on the stack afterwards: pop or store some first",
         Remedy::RunsPastEnd => "this runs past the end of the function: add ret or fail",
-        Remedy::GoesBack => "a label here must come later: only next goes back",
+        Remedy::GoesBack => "a label here must come later: repeat by times and next",
         Remedy::TimesWithoutNext => "this times has no next: add the next that ends its turns",
         Remedy::NextWithoutTimes => "this next has no times: add the times that begins its turns",
         Remedy::LoopCrossed => {
             "this enters or leaves a loop in the middle: leave it by its end, by ret or by fail"
         }
-        Remedy::TooManyLoops => "8 loops are open here, and this would open a ninth",
+        Remedy::TooManyLoops =>
+            "8 loops are open here, and this would open a ninth: let a subtask do the inner turns",
         Remedy::WaysDiffer => {
-            "two ways meet here, or a loop turns, with different stack, loops, scopes or slots"
+            "two ways meet here, or a loop turns, and differ: make alike what is listed, or end one way by ret"
         }
-        Remedy::NeverReached => "this can never be reached",
+        Remedy::NeverReached => "this can never be reached: leave it out, or let a jump lead here",
         Remedy::NoScope => "this slot holds no scope: open one there first",
         Remedy::HoldsSubtask => "this slot holds a subtask: name the slot of a scope",
         Remedy::NoSubtask => "this slot holds no subtask: fork one into it first",
@@ -34,7 +37,7 @@ pub fn remedy_sentence(remedy: Remedy) -> &'static str
         }
         Remedy::FillsSubtask => "this slot holds a subtask: forget it first, or take another slot",
         Remedy::ParentScope => {
-            "this slot holds the scope of the task that forked this one: only that task may do this"
+            "this slot holds the scope of the task that forked this one: open a scope of your own"
         }
         Remedy::ForkAfterJoin => {
             "a join of this scope was tried already: fork before the first join"
@@ -68,7 +71,8 @@ pub fn remedy_sentence(remedy: Remedy) -> &'static str
             "a binding that was made after this scope was opened is in force: fork before bind, \
                 or after unbind"
         }
-        Remedy::TooManyOpen => "16 scopes and bindings are open here, and this would open one more",
+        Remedy::TooManyOpen =>
+            "16 scopes and bindings are open here, and this would open one more: close or unbind one first",
         Remedy::KeyUnbound => "this key may be unbound here: bind it, or list it after needs",
         Remedy::SubtaskKeyUnbound => {
             "the subtask needs a key that may be unbound here: bind it before open, or list it \
@@ -80,23 +84,28 @@ pub fn remedy_sentence(remedy: Remedy) -> &'static str
         Remedy::NoFailureHere => "under awaitall and until no join fails: write - for failed",
         Remedy::TimeoutLabelMissing => "this scope was opened with timed: name a label for timeout",
         Remedy::NoTimeoutHere => "this scope was opened without timed: write - for timeout",
-        Remedy::TooManySteps => "some path takes more than 1000000 steps",
+        Remedy::TooManySteps =>
+            "some path takes more than 1000000 steps: lower a bound of times, or fork fewer subtasks",
         Remedy::TooManyTasks => {
-            "some path has more than 65536 tasks at once; an ended task counts until its scope \
-                closes"
+            "some path has more than 65536 tasks at once: fork fewer, or close scopes earlier, since \
+             ended tasks count until then"
         }
-        Remedy::TooManyScopes => "some path has more than 65536 scopes open at once",
-        Remedy::TooManyBindings => "some path has more than 65536 bindings open at once",
+        Remedy::TooManyScopes =>
+            "some path has more than 65536 scopes open at once: close them earlier, or fork fewer subtasks",
+        Remedy::TooManyBindings =>
+            "some path has more than 65536 bindings open at once: unbind earlier, or fork fewer subtasks",
         Remedy::NotSuccess => {
             "this subtask is no success: ask for its state by case before you get its value"
         }
         Remedy::NotFailed => {
             "this subtask didn't fail: ask for its state by case before you read its code"
         }
-        Remedy::KeyUnboundNow => "no binding of this key is in force here",
+        Remedy::KeyUnboundNow =>
+            "no binding of this key is in force here: bind it first, or read it by orelse",
         Remedy::NoRoomForTask => {
-            "65536 tasks count here until their scopes close, or 1000000 were forked"
+            "65536 tasks count here until their scopes close, or 1000000 were forked: close scopes earlier, or fork fewer"
         }
-        Remedy::NoRoomForScope => "65536 scopes are open here, or 1000000 were opened",
+        Remedy::NoRoomForScope =>
+            "65536 scopes are open here, or 1000000 were opened: close scopes earlier, or open fewer",
     }
 }
