@@ -21,6 +21,7 @@ import tempfile
 
 from checks import programs, tally
 from checks.programs import ROOT
+from checks.tests.places import without_lines
 
 SECONDS, LARGE = 60, 600  # how long a run may take, and a large one
 MOST = 1_048_576  # The bytes that a text may have.
@@ -350,7 +351,7 @@ def outputs_of_sts(sts):
     """Tries the output of `sts` for these runs, with files and with one input."""
     for text, trace, printed, status in VIEWS:
         sts.has(text=text, trace=trace)
-        plain = "".join(printed.splitlines(True)[:2])
+        plain = "".join(without_lines(printed).splitlines(True)[:2])
         yield f"plain of {text!r} {trace!r}", sts.says("plain", "text", "trace"), (status, plain, "")
         yield f"the input {text!r} {trace!r}", sts.says(given=f"{text}%\n{trace}"), (status, plain, "")
 
