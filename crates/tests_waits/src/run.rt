@@ -64,6 +64,17 @@ impl Batch {
         }
     }
 
+    /// Adds a slice with nothing done, if there is room. Answers whether it did.
+    fn add(&mut self, task: u32) -> bool {
+        let Some(free) = self.slices.iter().position(|place| place.is_none()) else {
+            return false;
+        };
+        if let Some(place) = self.slices.get_mut(free) {
+            *place = Some((task, 0));
+        }
+        true
+    }
+
     /// How many slices it has.
     pub fn len(&self) -> usize {
         self.slices.iter().filter(|place| place.is_some()).count()
@@ -237,15 +248,11 @@ impl Tasks for Run {
     }
 
     fn lend(&mut self, task: u32, batch: &mut Batch) -> bool {
-        if !self.is_at_hand(task) {
-            return false;
+        let is_lent = self.is_at_hand(task) && batch.add(task);
+        if is_lent {
+            self.set_out(task, true);
         }
-        let Some(place) = batch.slices.iter_mut().find(|place| place.is_none()) else {
-            return false;
-        };
-        *place = Some((task, 0));
-        self.set_out(task, true);
-        true
+        is_lent
     }
 
     fn take_in(&mut self, batch: &Batch, place: u32) -> Option<Back> {

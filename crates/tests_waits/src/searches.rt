@@ -10,7 +10,7 @@ use std::alloc::{AllocError, Global};
 #[derive(Clone, Copy)]
 pub struct Case {
     pub name: &'static str,
-    workers: usize,
+    workers: u32,
     program: Program,
     may_stop: bool,
     seen: Seen,
@@ -52,7 +52,7 @@ const BATCHES: Seen = Seen {
     batch: true,
 };
 
-fn of_several(name: &'static str, workers: usize, program: Program, seen: Seen) -> Case {
+fn of_several(name: &'static str, workers: u32, program: Program, seen: Seen) -> Case {
     Case {
         name,
         workers,

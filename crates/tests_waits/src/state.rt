@@ -111,13 +111,13 @@ pub struct Move {
 
 impl State {
     /// The state before the first worker has come to the lock.
-    pub fn new(program: Program, workers: usize, may_stop: bool) -> State {
+    pub fn new(program: Program, workers: u32, may_stop: bool) -> State {
         let mut seats = [Seat::new(Worker::Ended); WORKERS];
-        for seat in seats.iter_mut().take(workers) {
+        for seat in seats.iter_mut().take(workers as usize) {
             *seat = Seat::new(Worker::New);
         }
         State {
-            waits: Waits::new(workers as u32, SMALL),
+            waits: Waits::new(workers, SMALL),
             run: Run::new(program),
             seats,
             may_stop,
