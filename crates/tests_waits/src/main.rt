@@ -6,8 +6,6 @@ mod run;
 mod search;
 mod searches;
 mod state;
-#[cfg(test)]
-mod tests;
 
 use searches::{Case, Verdict, large, small};
 use std::process::ExitCode;

@@ -11,7 +11,7 @@ const SLICES: usize = 2;
 /// What the tasks do. The root does `row` local instructions, forks the subtasks, joins, closes and
 /// ends. The join waits for the subtasks or for an event from outside, and the close for the subtasks.
 /// A subtask does `rounds` rows of `row` local instructions, and another step behind each.
-#[derive(Clone, Copy, Debug, PartialEq, Eq, Hash)]
+#[derive(Clone, Copy, PartialEq, Eq, Hash)]
 pub struct Program {
     /// At most 3.
     pub subtasks: u32,
@@ -33,7 +33,7 @@ enum Step {
 
 /// The state of a run: how many steps each task has taken, and which tasks are out. And whether the
 /// event from outside has come.
-#[derive(Clone, Copy, Debug, PartialEq, Eq, Hash)]
+#[derive(Clone, Copy, PartialEq, Eq, Hash)]
 pub struct Run {
     program: Program,
     taken: [u32; TASKS],
@@ -42,7 +42,7 @@ pub struct Run {
 }
 
 /// Slices of tasks, with how many local instructions of each were done.
-#[derive(Clone, Copy, Debug, PartialEq, Eq, Hash)]
+#[derive(Clone, Copy, PartialEq, Eq, Hash)]
 pub struct Batch {
     slices: [Option<(u32, u32)>; SLICES],
 }

@@ -24,7 +24,7 @@ pub struct Seen {
 
 /// What a search found: how many states there are, what some schedule comes to, and what is wrong
 /// with a state, if something is.
-#[derive(Clone, Copy, Debug, PartialEq, Eq)]
+#[derive(Clone, Copy)]
 pub struct Found {
     pub states: usize,
     pub seen: Seen,

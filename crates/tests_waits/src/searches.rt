@@ -1,4 +1,4 @@
-//! The searches: small ones for tests, and large ones for `checks waits`.
+//! The searches: small ones for each run of the gate, and large ones for `checks waits` alone.
 
 use crate::run::Program;
 use crate::search::{Seen, explore};
@@ -71,32 +71,18 @@ fn tasks(subtasks: u32, rounds: u32, row: u32, due: u32) -> Program {
     }
 }
 
-/// Three workers, and two subtasks with a long row each.
-pub fn long_rows() -> Case {
-    of_several("long rows", 3, tasks(2, 1, 8, NEVER), BATCHES)
-}
-
-/// Two workers, and subtasks whose rows are too short for slices.
-pub fn short_rows() -> Case {
-    of_several("short rows", 2, tasks(2, 2, 1, NEVER), CLAIMS)
-}
-
-/// A run that may be stopped.
-pub fn stopped() -> Case {
-    Case {
-        may_stop: true,
-        ..of_several("a stop", 2, tasks(2, 1, 4, NEVER), SLICES)
-    }
-}
-
-/// A run in which an event from outside ends the join.
-pub fn event() -> Case {
-    of_several("an event from outside", 2, tasks(2, 1, 4, 12), SLICES)
-}
-
-/// The searches that take a second or two without proofs.
+/// The searches that take the fast program no second. Rows are long or too short for slices, a run may
+/// be stopped, and an event from outside ends a join.
 pub fn small() -> [Case; 4] {
-    [long_rows(), short_rows(), stopped(), event()]
+    [
+        of_several("long rows", 3, tasks(2, 1, 8, NEVER), BATCHES),
+        of_several("short rows", 2, tasks(2, 2, 1, NEVER), CLAIMS),
+        Case {
+            may_stop: true,
+            ..of_several("a stop", 2, tasks(2, 1, 4, NEVER), SLICES)
+        },
+        of_several("an event from outside", 2, tasks(2, 1, 4, 12), SLICES),
+    ]
 }
 
 /// The searches that take the fast program some seconds.

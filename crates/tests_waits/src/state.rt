@@ -27,7 +27,7 @@ const SMALL: Limits = Limits {
 
 /// A worker between two holds: where it is, and its slices. `is_woken` says whether it was woken since
 /// it sleeps.
-#[derive(Clone, Copy, Debug, PartialEq, Eq, Hash)]
+#[derive(Clone, Copy, PartialEq, Eq, Hash)]
 struct Seat {
     worker: Worker,
     batch: Batch,
@@ -72,7 +72,7 @@ impl Seat {
 }
 
 /// The state of a run and of its workers.
-#[derive(Clone, Copy, Debug, PartialEq, Eq, Hash)]
+#[derive(Clone, Copy, PartialEq, Eq, Hash)]
 pub struct State {
     waits: Waits,
     run: Run,
@@ -101,7 +101,7 @@ pub enum Bad {
 }
 
 /// What a hold leads to.
-#[derive(Clone, Copy, Debug, PartialEq, Eq)]
+#[derive(Clone, Copy)]
 pub struct Move {
     pub state: State,
     /// The worker woke up for no reason.
