@@ -1,10 +1,8 @@
 -- Instructions that change no more than the frame of their task.
-use Rattle.std.proofs.Common.{◌≡◌, ℕ, zero, suc, ◌+◌, ◌<◌, ◌⊎◌, inl, inr, List, [], ◌∷◌, ◌++◌}
-use Rattle.std.proofs.Common.{Bool, true, false, Option, Some, None, refl, sym, ◌∙◌, ap, subst, length, drop, map}
-use Rattle.std.proofs.Common.{arith, get_or, set, cond, not, ◌||◌, ◌&&◌, is_none}
-use Rattle.std.specs.Prelude.{slice_get, filter_map, unwrap_or, pos, is_some, count_by}
-use Rattle.std.specs.List.{filter}
-use Rattle.std.proofs.lemmas.List.Sums.{sum_by-cons}
+use Rattle.std.proofs.Common.{◌≡◌, ℕ, ◌+◌, inl, List, [], ◌∷◌, ◌++◌}
+use Rattle.std.proofs.Common.{Bool, true, false, Option, Some, None, refl, sym, ◌∙◌, ap, subst, drop, map}
+use Rattle.std.proofs.Common.{set, not, ◌||◌, ◌&&◌}
+use Rattle.std.specs.Prelude.{filter_map, unwrap_or, pos, is_some}
 use Rattle.sts_code.specs.Program.{Program}
 use Rattle.sts_code.specs.declared.instr.Instr.{Instr}
 use Rattle.sts_code.specs.declared.instr.Instr.TheVariants.{Cancelled, Case, Get, Except, Tally, Total, Forget}
@@ -13,44 +11,42 @@ use Rattle.sts_code.specs.declared.instr.Instr.TheVariants.{Bind, Unbind, Read, 
 use Rattle.sts_code.specs.declared.instr.Kind.{Kind}
 use Rattle.sts_model.specs.declared.event.End.{End}
 use Rattle.sts_model.specs.declared.event.End.TheVariants.{Success, Failed}
-use Rattle.sts_model.specs.declared.record.Bound.{Bound as BoundKey}
 use Rattle.sts_model.specs.declared.record.Entry.{Entry}
 use Rattle.sts_model.specs.declared.record.Entry.TheVariants as entry
 use Rattle.sts_model.specs.declared.record.Frame.{Frame}
 use Rattle.sts_model.specs.declared.record.Scope.{Scope}
 use Rattle.sts_model.specs.declared.record.Slot.{Slot}
 use Rattle.sts_model.specs.declared.record.Slot.TheVariants as slots
-use Rattle.sts_model.specs.declared.record.Task.{Task}
 use Rattle.sts_model.specs.World.{World, task_at, scope_at, with_frame, instr_at, code}
 use Rattle.sts_model.specs.Local as locals
 use Rattle.sts_model.specs.Local.{is_local, goes, steps, truth, operand}
-use Rattle.sts_model.specs.Living.{lives, is_in, is_subtask, completion_of, scope_of, parent, sub_state}
-use Rattle.sts_model.specs.Misuse.{slot, is_sub, is_lent, is_scope, innermost, is_binding, IsFine, has_succeeded, has_failed, at_sub, is_readable, is_illegal}
+use Rattle.sts_model.specs.Living.{lives, completion_of, scope_of, parent, sub_state}
+use Rattle.sts_model.specs.Misuse.{slot, is_sub, is_scope, innermost, is_binding, has_succeeded, has_failed, at_sub, is_readable, is_illegal}
 use Rattle.sts_model.specs.Environment.{environment_of, bound_of, read}
 use Rattle.sts_model.specs.Effect.{named, case_target, value_or_zero, tally, total, moved, effect}
 use Rattle.sts_model.specs.Joining.{is_success, is_failure}
 use Rattle.laws_runs.specs.Runs.{Does}
-use Rattle.laws_runs.specs.Tallies.{births, is_kind, is_in_state, number_in}
 use Rattle.laws_runs.proofs.BirthLemmas.{born_alive}
-use Rattle.laws_runs.proofs.EffectLemmas.{first_no, some-is_in}
+use Rattle.laws_runs.proofs.EffectLemmas.{first_no}
 use Rattle.laws_runs.proofs.EventLemmas.{Next}
 use Rattle.laws_runs.proofs.StayLemmas.{ended_is_dead}
 use Rattle.laws_runs.proofs.FrameLemmas.{Leaves, leaves-local, own_slot}
-use Rattle.laws_calls.specs.Held.{Held}
 use Rattle.laws_calls.specs.Held as held
-use Rattle.laws_calls.specs.Tasks.{Among, AllTwo, at_place, put_place, HasWay, Part, Seen, Own, bare, blank, births_in, held_at}
-use Rattle.laws_calls.specs.Tasks.{Knowledge, Unseen, ByJoiner, Heard, Call, bindings, May}
-use Rattle.laws_calls.specs.Steps.{Row, Table, Owns, Knows, Steps, IsTable, to, pushes, is_cancelled, is_heard, after_cancel}
+use Rattle.laws_calls.specs.Tasks.{AllTwo, at_place, HasWay, Part, Seen, Own, bare, births_in, held_at}
+use Rattle.laws_calls.specs.Tasks.{Knowledge, Unseen, ByJoiner, Heard, bindings, May}
+use Rattle.laws_calls.specs.Steps.{Row, Table, Steps, IsTable, to, pushes, is_cancelled, is_heard, after_cancel}
 use Rattle.laws_calls.specs.Steps.{local_step, read_step, bound_step, or_else_step, bind_step, unbind_step, forget_step}
 use Rattle.laws_calls.specs.Steps.{interrupted_step, lent_step, going_step, cancelled_step, success_step, failure_step}
 use Rattle.laws_calls.specs.Steps.{missed_step, get_step, except_step, tally_step, total_step, only, kept, missed, with_part, with_seen}
-use Rattle.laws_calls.specs.Covers.{subs, PartFits, ScopeFits, SeenFits, HeldFits, FrameFits, TaskFits, IsRight}
-use Rattle.laws_calls.specs.Covers.{Watched, watched_root, watched_sub, Covers, alive_in}
-use Rattle.laws_calls.proofs.Lists.{all_map, all_set, Apart, at_among, kept_way, no}
-use Rattle.laws_calls.proofs.Turns.{Facts, FlagsByCancel, apart_births, births_has}
-use Rattle.laws_calls.proofs.Moves.{Turned, GoesOn, covers_turned, turned_frame, turned_flag, fits_later, subs_same}
+use Rattle.laws_calls.specs.Covers.{subs, PartFits, SeenFits, HeldFits, FrameFits, TaskFits, IsRight}
+use Rattle.laws_calls.specs.Covers.{Watched, Covers, alive_in}
+use Rattle.laws_calls.proofs.Lists.{all_set, Apart, kept_way, no}
+use Rattle.laws_calls.proofs.Turns.{Facts, FlagsByCancel, apart_births, free_around}
+use Rattle.laws_calls.proofs.Moves.{Turned, covers_turned, turned_frame, turned_flag, fits_later, subs_same}
 use Rattle.laws_calls.proofs.Moves.{OwnScope, own_scope, OwnSub, own_sub, held_lent, held_slot, put_seen, put_part}
-use Rattle.laws_calls.proofs.Frames.{bare_local, blank_bounds}
+use Rattle.laws_calls.proofs.Counts.{states_in, tally_states}
+use Rattle.laws_calls.proofs.Totals.{total_states}
+use Rattle.laws_calls.proofs.Frames.{bare_local, blank_bounds, blank_drop}
 
 -- does the instruction change no more than the frame and the flag of its task?
 abbrev pub changes_frame_alone : Instr → Bool
@@ -95,6 +91,18 @@ readable_failure p w f x mine e = by (is_readable p.profile (scope_of w (named (
     by true true d = refl
     by true false d = cc
     by false b d = cc
+
+-- known not to be cancelled
+pub unknown : (q : Knowledge) (scope : Scope) → IsRight q scope → scope.cancelled ≡ false → is_cancelled q ≡ false
+unknown Unseen scope r e = refl
+unknown Heard scope r e = refl
+unknown ByJoiner scope r e = let known : scope.cancelled ≡ true = r in absurd (no (sym known ∙ e))
+
+-- known to be cancelled
+pub unheard : (q : Knowledge) (scope : Scope) → IsRight q scope → scope.cancelled ≡ true → is_heard q ≡ false
+unheard Unseen scope r e = refl
+unheard ByJoiner scope r e = refl
+unheard Heard scope r e = let free : scope.cancelled ≡ false = r.0 in absurd (no (sym e ∙ free))
 
 module _ (p : Program) (t : Table) (root : Row) (is : IsTable p t root) (w : World) (h : Facts w) where
   -- the task goes on with the frame g, and no scope changes
@@ -211,10 +219,6 @@ module _ (p : Program) (t : Table) (root : Row) (is : IsTable p t root) (w : Wor
     births_unbind (entry.Binding x v ∷ es) e = refl
     births_unbind (entry.Scope s ∷ es) e = cc
 
-    blank_drop : (es : List Entry) → map blank (drop 1 es) ≡ drop 1 (map blank es)
-    blank_drop [] = refl
-    blank_drop (e ∷ es) = refl
-
     to_unbind : not (innermost is_binding f.entries) ≡ false → StepsTo p t rows w u own Unbind (record (steps f 0 []) { entries = drop 1 f.entries })
     to_unbind legal =
         record {
@@ -242,24 +246,6 @@ module _ (p : Program) (t : Table) (root : Row) (is : IsTable p t root) (w : Wor
         (record { frame = k.fits.frame; held = k.fits.held; scopes = put_seen rows w opened own.scopes place s x k.fits.scopes (apart alive) at new })
         e
 
-    unknown : (q : Knowledge) (scope : Scope) → IsRight q scope → scope.cancelled ≡ false → is_cancelled q ≡ false
-    unknown Unseen scope r e = refl
-    unknown Heard scope r e = refl
-    unknown ByJoiner scope r e = let known : scope.cancelled ≡ true = r in absurd (no (sym known ∙ e))
-
-    unheard : (q : Knowledge) (scope : Scope) → IsRight q scope → scope.cancelled ≡ true → is_heard q ≡ false
-    unheard Unseen scope r e = refl
-    unheard ByJoiner scope r e = refl
-    unheard Heard scope r e = let free : scope.cancelled ≡ false = r.0 in absurd (no (sym e ∙ free))
-
-    -- the scope of a task that is watched is not cancelled
-    free_around : (q s : ℕ) → (task_at w q).scope ≡ Some s → Watched w q → (scope_at w s).cancelled ≡ false
-    free_around q s inside watched_root = let less = (h.right.sound.born q s inside).1 in absurd (omega (arith, less))
-    free_around q s inside (watched_sub r inside2 free owner) =
-        let both : Some r ≡ Some s = sym inside2 ∙ inside in
-        let one : r ≡ s = cc in
-        subst (λ k. (scope_at w k).cancelled ≡ false) one free
-
     to_cancelled : lives (task_at w u) ≡ true → Watched w u → (x : ℕ) → not (is_scope (slot f x)) ≡ false → StepsTo p t rows w u own (Cancelled x) (moved p w u f (Cancelled x))
     to_cancelled alive watched x legal = by (slot f x) refl legal
       where
@@ -283,7 +269,7 @@ module _ (p : Program) (t : Table) (root : Row) (is : IsTable p t root) (w : Wor
         by (slots.Own s) e d = told s (own_scope rows w f own x s k.fits e) (scope_at w s).cancelled refl
         by (slots.Lent s) e d =
             let inside = ((h.names u x alive).lent s e).1 in
-            let free = free_around u s inside watched in
+            let free = free_around w h.right u s inside watched in
             let lent : held_at own x ≡ held.Lent = held_lent w opened s (held_at own x) (subst (λ z. HeldFits w opened z (held_at own x)) e (held_slot rows w f own x k.fits)) in
             subst (λ b. StepsTo p t rows w u own (Cancelled x) (steps f 0 (truth b ∷ []))) (sym free)
             (record { next = pushes own 0 (truth false); step = lent_step lent; fits = fits_steps rows f own 0 (truth false ∷ []) k.fits })
@@ -383,49 +369,21 @@ module _ (p : Program) (t : Table) (root : Row) (is : IsTable p t root) (w : Wor
 
     -- ---- counts
 
-    -- the states of the subtasks of a scope
-    abbrev states_in : ℕ → List (Option End)
-    states_in s = map (completion_of (scope_at w s).completions) (subs w s)
-
     pick_of : (s : ℕ) (us : List ℕ) (parts : List Part) → AllTwo (PartFits rows (alive_in w) (scope_at w s)) us parts → AllTwo May parts (map (completion_of (scope_at w s).completions) us)
     pick_of s [] [] a = tt
     pick_of s (q ∷ us) (part ∷ parts) a = (a.0.may, pick_of s us parts a.1)
     pick_of s [] (part ∷ parts) a = absurd a
     pick_of s (q ∷ us) [] a = absurd a
 
-    -- the count over the subtasks is the count over all births
-    count_filter : (test inside : ℕ → Bool) (P : Option End → Bool) (f2 : ℕ → Option End) (us : List ℕ) → ((q : ℕ) → test q ≡ (inside q && P (f2 q))) → count_by P (map f2 (filter inside us)) ≡ count_by test us
-    count_filter test inside P f2 [] same = refl
-    count_filter test inside P f2 (q ∷ us) same = by (inside q) (same q) (count_filter test inside P f2 us same)
-      where
-        by : (b : Bool) → test q ≡ (b && P (f2 q)) → count_by P (map f2 (filter inside us)) ≡ count_by test us → count_by P (map f2 (cond b (q ∷ filter inside us) (filter inside us))) ≡ count_by test (q ∷ us)
-        by true e rest =
-            let a = sum_by-cons (λ y. cond (P y) 1 0) (f2 q) (map f2 (filter inside us)) in
-            let b = sum_by-cons (λ y. cond (test y) 1 0) q us in
-            let here : cond {A = ℕ} (test q) 1 0 ≡ cond (P (f2 q)) 1 0 = ap (λ z. cond z 1 0) e in
-            omega (arith, a, b, here, rest)
-        by false e rest =
-            let b = sum_by-cons (λ y. cond (test y) 1 0) q us in
-            let here : cond {A = ℕ} (test q) 1 0 ≡ 0 = ap (λ z. cond z 1 0) e in
-            omega (arith, b, here, rest)
-
-    in_state : (s : ℕ) (kind : Kind) (q : ℕ) → is_in_state w s kind q ≡ (is_subtask s (task_at w q) && is_kind kind (completion_of (scope_at w s).completions q))
-    in_state s kind q = by (is_subtask s (task_at w q)) refl
-      where
-        by : (b : Bool) → is_subtask s (task_at w q) ≡ b → (b && is_kind kind (sub_state w q)) ≡ (b && is_kind kind (completion_of (scope_at w s).completions q))
-        by true e = ap (λ (o : Option ℕ). is_kind kind (completion_of (parent w o).completions q)) (some-is_in s (task_at w q).scope e)
-        by false e = refl
-
     to_tally : (x : ℕ) (kind : Kind) (s : ℕ) → slot f x ≡ slots.Own s → StepsTo p t rows w u own (Tally x kind) (steps f 0 (pos (tally w s kind) ∷ []))
     to_tally x kind s mine =
         let o = own_scope rows w f own x s k.fits mine in
-        let count : tally w s kind ≡ count_by (is_kind kind) (states_in s) =
-        (h.tallied s).each kind ∙ sym (count_filter (is_in_state w s kind) (λ q. is_subtask s (task_at w q)) (is_kind kind) (completion_of (scope_at w s).completions) (births w) (in_state s kind))
-        in
-        to_pushes (Tally x kind) 0 _ _ (ap (λ n. pos n) count) (tally_step o.place o.seen (states_in s) o.owns (pick_of s (subs w s) o.seen.parts o.fits.parts))
+        to_pushes (Tally x kind) 0 _ _ (ap (λ n. pos n) (tally_states w h s kind)) (tally_step o.place o.seen (states_in w s) o.owns (pick_of s (subs w s) o.seen.parts o.fits.parts))
 
-    to_total : (x s : ℕ) → StepsTo p t rows w u own (Total x) (steps f 0 (total w s ∷ []))
-    to_total x s = to_pushes (Total x) 0 _ _ refl (total_step (total w s))
+    to_total : (x s : ℕ) → slot f x ≡ slots.Own s → StepsTo p t rows w u own (Total x) (steps f 0 (total w s ∷ []))
+    to_total x s mine =
+        let o = own_scope rows w f own x s k.fits mine in
+        to_pushes (Total x) 0 _ _ (total_states w h s) (total_step o.place o.seen (states_in w s) o.owns (pick_of s (subs w s) o.seen.parts o.fits.parts))
 
   -- ---- all of them
 
@@ -479,7 +437,9 @@ module _ (p : Program) (t : Table) (root : Row) (is : IsTable p t root) (w : Wor
     give (Tally x kind) a n flags d =
         let mine : slot frame x ≡ slots.Own (named (slot frame x)) = own_slot (slot frame x) (first_no _ _ (first_no _ _ d.fine.slots)) d.fine.own in
         with_next (Tally x kind) (moved p w u frame (Tally x kind)) n flags d (λ watched own k. to_tally c.rows u own k x kind (named (slot frame x)) mine)
-    give (Total x) a n flags d = with_next (Total x) (moved p w u frame (Total x)) n flags d (λ watched own k. to_total c.rows u own k x (named (slot frame x)))
+    give (Total x) a n flags d =
+        let mine : slot frame x ≡ slots.Own (named (slot frame x)) = own_slot (slot frame x) (first_no _ _ (first_no _ _ d.fine.slots)) d.fine.own in
+        with_next (Total x) (moved p w u frame (Total x)) n flags d (λ watched own k. to_total c.rows u own k x (named (slot frame x)) mine)
     give (Read x) a n flags d = with_next (Read x) (moved p w u frame (Read x)) n flags d (λ watched own k. to_read c.rows u own k x)
     give (Bound x) a n flags d = with_next (Bound x) (moved p w u frame (Bound x)) n flags d (λ watched own k. to_bound c.rows u own k x)
     give (OrElse x) a n flags d = with_next (OrElse x) (moved p w u frame (OrElse x)) n flags d (λ watched own k. to_or_else c.rows u own k x)

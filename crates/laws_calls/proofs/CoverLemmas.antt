@@ -1,33 +1,42 @@
 -- What a table covers, over runs.
-use Rattle.std.proofs.Common.{◌≡◌, ℕ, ◌<◌, ◌⊎◌, inl, inr, List, [], ◌∷◌, ◌++◌, Bool, true, false, Option, Some, None, refl}
-use Rattle.std.proofs.Common.{sym, ◌∙◌, ap, subst, length}
+use Rattle.std.proofs.Common.{◌≡◌, ℕ, ◌<◌, ◌⊎◌, inl, inr, List, [], ◌∷◌, ◌++◌, true, false, Some, None, refl}
+use Rattle.std.proofs.Common.{sym, ap, subst, length, zero, suc, append-nil, append_assoc}
 use Rattle.std.specs.List.{list_any}
 use Rattle.sts_code.specs.Program.{Program}
 use Rattle.sts_code.specs.declared.instr.Instr.{Instr}
 use Rattle.sts_code.specs.declared.instr.Instr.TheVariants.{Open, Fork, Join, Close, Ret, Fail}
+use Rattle.sts_model.specs.declared.event.End.TheVariants.{Success, Failed}
 use Rattle.sts_model.specs.declared.event.Event.{Event}
 use Rattle.sts_model.specs.declared.event.Event.TheVariants as event
-use Rattle.sts_model.specs.World.{World, State, Running, Faulted, task_at, scope_at, instr_at}
+use Rattle.sts_model.specs.World.{World, State, Running, Faulted, task_at, scope_at, opening}
 use Rattle.sts_model.specs.Living.{lives, sub_state}
 use Rattle.sts_model.specs.Misuse.{is_joined, is_entry_of}
 use Rattle.sts_model.specs.Effect.{effect}
-use Rattle.sts_model.specs.Run.{after}
+use Rattle.sts_model.specs.Local.{operand}
+use Rattle.sts_model.specs.Run.{after, apply, is_step}
 use Rattle.laws_runs.specs.Flags.{IsCancelled}
-use Rattle.laws_runs.specs.Runs.{In, Between, Each, Does, LeadsBy}
+use Rattle.laws_runs.specs.Runs.{In, Between, Each, Does}
 use Rattle.laws_runs.specs.Scopes.{HasCause, IsEntered}
 use Rattle.laws_runs.specs.Slots.{NamesStanding}
 use Rattle.laws_runs.specs.Tallies.{IsTallied}
-use Rattle.laws_runs.proofs.EventLemmas.{Right, Next, right-after, next-leads, each-from}
+use Rattle.laws_runs.proofs.EventLemmas.{Right, Next, right-after, next-leads, each-from, main}
+use Rattle.laws_runs.proofs.RunLemmas.{after-append}
 use Rattle.laws_runs.proofs.FlagLemmas.{flags_have_cause}
 use Rattle.laws_runs.proofs.ScopeLemmas.{cancelled_has_cause, joined_is_settled, entries_are_open, left_out_is_cancelled}
 use Rattle.laws_runs.proofs.SlotLemmas.{slots_stand}
 use Rattle.laws_runs.proofs.TallyLemmas.{tallies_are_counts}
-use Rattle.laws_calls.specs.Steps.{Row, Table, IsTable}
-use Rattle.laws_calls.specs.Covers.{Covers}
-use Rattle.laws_calls.specs.Covered.{IsStepAlone, StepsAloneAreCovered, acts_alone}
+use Rattle.laws_calls.specs.Held as held
+use Rattle.laws_calls.specs.Tasks.{Call, HasWay, Own, begin}
+use Rattle.laws_calls.specs.Steps.{Row, Table, IsTable, root_call}
+use Rattle.laws_calls.specs.Covers.{Covers, TaskFits, AreSteps}
+use Rattle.laws_calls.specs.Covered.{StepsAreCovered, RunsAreCovered, EndsAreWays}
 use Rattle.laws_calls.proofs.Turns.{Facts, FlagsByCancel}
-use Rattle.laws_calls.proofs.Alone.{give, Gives}
+use Rattle.laws_calls.proofs.Alone.{give}
 use Rattle.laws_calls.proofs.Opens.{open_covered}
+use Rattle.laws_calls.proofs.Forks.{fork_covered, empties}
+use Rattle.laws_calls.proofs.Joins.{join_covered}
+use Rattle.laws_calls.proofs.Closes.{close_covered}
+use Rattle.laws_calls.proofs.Ends.{end_covered}
 
 pub facts_after : (p : Program) (events : List Event) → In Facts (after p events)
 facts_after p events =
@@ -56,42 +65,88 @@ by_cancel w v u said q before after = by (said q before after)
     by (inr r) = r
 
 abbrev Covered : Program → World → Event → World → Type 0
-Covered p w e v = FlagsSaid w e v → (t : Table) (root : Row) → IsTable p t root → Covers p t root w → IsStepAlone p w e → Covers p t root v
+Covered p w e v = FlagsSaid w e v → (t : Table) (root : Row) → IsTable p t root → Covers p t root w → is_step e ≡ true → Covers p t root v
 
-step_same : {u q : ℕ} → event.Step u ≡ event.Step q → u ≡ q
-step_same e = cc
+give_step : (p : Program) (t : Table) (root : Row) (is : IsTable p t root) (w : World) (h : Facts w) (c : Covers p t root w) (u : ℕ) (i : Instr) → Next w (effect p w u (task_at w u).frame i) → FlagsByCancel w (effect p w u (task_at w u).frame i) → Does p w u i → Covers p t root (effect p w u (task_at w u).frame i)
+give_step p t root is w h c u (Open x joiner timed) n flags d = open_covered p t root is w h u x joiner timed c n flags d
+give_step p t root is w h c u (Fork x g q) n flags d = fork_covered p t root is w h u x g q d c n flags
+give_step p t root is w h c u (Join x failed timeout interrupted) n flags d = join_covered p t root is w h u x failed timeout interrupted d c n flags
+give_step p t root is w h c u (Close x) n flags d = close_covered p t root is w h u x d c n flags
+give_step p t root is w h c u Ret n flags d = end_covered p t root is w h u Ret (Success (operand (task_at w u).frame 0)) d refl c n flags
+give_step p t root is w h c u Fail n flags d = end_covered p t root is w h u Fail (Failed (operand (task_at w u).frame 0)) d refl c n flags
+give_step p t root is w h c u i n flags d = give p t root is w h c u i refl n flags d
 
-instr_same : (p : Program) (w : World) (u q : ℕ) (i j : Instr) → u ≡ q → instr_at p (task_at w u).frame ≡ Some i → instr_at p (task_at w q).frame ≡ Some j → j ≡ i
-instr_same p w u q i j same a b = some_one (sym b ∙ ap (λ n. instr_at p (task_at w n).frame) (sym same) ∙ a)
-  where
-    some_one : Some j ≡ Some i → j ≡ i
-    some_one e = cc
-
-give_alone : (p : Program) (t : Table) (root : Row) (is : IsTable p t root) (w : World) (h : Facts w) (c : Covers p t root w) (u : ℕ) (i : Instr) → acts_alone i ≡ true → Next w (effect p w u (task_at w u).frame i) → FlagsByCancel w (effect p w u (task_at w u).frame i) → Does p w u i → Covers p t root (effect p w u (task_at w u).frame i)
-give_alone p t root is w h c u (Open x joiner timed) a n flags d = open_covered p t root is w h u x joiner timed c n flags d
-give_alone p t root is w h c u (Fork x g q) a n flags d = cc
-give_alone p t root is w h c u (Join x failed timeout interrupted) a n flags d = cc
-give_alone p t root is w h c u (Close x) a n flags d = cc
-give_alone p t root is w h c u Ret a n flags d = cc
-give_alone p t root is w h c u Fail a n flags d = cc
-give_alone p t root is w h c u i a n flags d = give p t root is w h c u i refl n flags d
-
-alone_law : Each Covered
-alone_law =
+step_law : Each Covered
+step_law =
     each-from (λ p w. Facts w) facts_after Covered
     (λ p. record {
       nothing = λ w u h e flags t root is c step. c;
       effect = λ w u i h d flags t root is c step.
-          (let same : step.instr ≡ i = instr_same p w u step.task i step.instr (step_same step.step) d.at step.at in
-          give_alone p t root is w h c u i (subst (λ j. acts_alone j ≡ true) same step.alone) ((next-leads p).effect w u i h.right d) (by_cancel w (effect p w u (task_at w u).frame i) u flags) d);
-      interrupt = λ w u h flags t root is c step. (let e = step.step in cc);
-      expire = λ w s h flags t root is c step. (let e = step.step in cc);
+          give_step p t root is w h c u i ((next-leads p).effect w u i h.right d) (by_cancel w (effect p w u (task_at w u).frame i) u flags) d;
+      interrupt = λ w t h flags t2 root is c step. cc;
+      expire = λ w s h flags t root is c step. cc;
     })
 
-both : (p : Program) (e : Event) (a b : State) → Between (λ w v. Covered p w e v) a b → Between (λ w v. FlagsSaid w e v) a b → Between (λ w v. (t : Table) (root : Row) → IsTable p t root → Covers p t root w → IsStepAlone p w e → Covers p t root v) a b
+abbrev Steps : Program → World → Event → World → Type 0
+Steps p w e v = (t : Table) (root : Row) → IsTable p t root → Covers p t root w → is_step e ≡ true → Covers p t root v
+
+both : (p : Program) (e : Event) (a b : State) → Between (λ w v. Covered p w e v) a b → Between (λ w v. FlagsSaid w e v) a b → Between (λ w v. Steps p w e v) a b
 both p e (Running w) (Running v) law flags = law flags
 both p e (Running w) (Faulted kind t f pc) law flags = tt
 both p e (Faulted kind t f pc) b law flags = tt
 
-pub steps_alone_are_covered : StepsAloneAreCovered
-steps_alone_are_covered p events e = both p e (after p events) (after p (events ++ e ∷ [])) (alone_law p events e) (flags_have_cause p events e)
+pub steps_are_covered : StepsAreCovered
+steps_are_covered p events e = both p e (after p events) (after p (events ++ e ∷ [])) (step_law p events e) (flags_have_cause p events e)
+
+-- ---- whole runs
+
+module _ (p : Program) (t : Table) (root : Row) (is : IsTable p t root) where
+  -- the beginning
+  first : In (Covers p t root) (opening p)
+  first =
+      record {
+        rows = λ u. root;
+        listed = λ u. is.listed;
+        first = refl;
+        calm = λ s. refl;
+        tasks = λ u alive watched. begun u alive;
+        ended = λ e ended. cc;
+      }
+    where
+      begun : (u : ℕ) → lives (task_at (record { tasks = main p ∷ []; scopes = [] }) u) ≡ true → (own : Own) × TaskFits (λ k. root) (record { tasks = main p ∷ []; scopes = [] }) u own
+      begun zero alive = (
+        begin held.Empty (root_call p),
+        record {
+          there = is.begins;
+          fits = record { frame = refl; held = (tt, empties (record { tasks = main p ∷ []; scopes = [] }) [] 15); scopes = tt };
+          flag = refl;
+          environment = ap (λ (c : Call). c.environment) (sym is.call);
+        },
+      )
+      begun (suc u) alive = cc
+
+  -- one step more
+  next : (events : List Event) (e : Event) → is_step e ≡ true → In (Covers p t root) (after p events) → In (Covers p t root) (after p (events ++ e ∷ []))
+  next events e step = by (after p events) (after p (events ++ e ∷ [])) (after-append p events (e ∷ [])) (steps_are_covered p events e)
+    where
+      by : (a b : State) → b ≡ apply p a e → Between (λ w v. Steps p w e v) a b → In (Covers p t root) a → In (Covers p t root) b
+      by (Running w) (Running v) same law c = law t root is c step
+      by (Running w) (Faulted kind u f pc) same law c = tt
+      by (Faulted kind u f pc) (Running v) same law c = cc
+      by (Faulted kind u f pc) (Faulted kind2 u2 f2 pc2) same law c = tt
+
+  -- any steps more
+  from : (before events : List Event) → AreSteps events → In (Covers p t root) (after p before) → In (Covers p t root) (after p (before ++ events))
+  from before [] steps c = subst (λ es. In (Covers p t root) (after p es)) (sym (append-nil before)) c
+  from before (e ∷ es) steps c =
+      subst (λ all. In (Covers p t root) (after p all)) (append_assoc before (e ∷ []) es) (from (before ++ e ∷ []) es steps.1 (next before e steps.0 c))
+
+pub runs_are_covered : RunsAreCovered
+runs_are_covered p t root is events steps = from p t root is [] events steps (first p t root is)
+
+pub ends_are_ways : EndsAreWays
+ends_are_ways p t root is events steps end = by (after p events) (runs_are_covered p t root is events steps)
+  where
+    by : (state : State) → In (Covers p t root) state → In (λ w. (task_at w 0).outcome ≡ Some end → HasWay root.ways end) state
+    by (Running w) c = c.ended end
+    by (Faulted kind u f pc) c = tt

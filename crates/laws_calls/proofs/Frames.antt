@@ -1,6 +1,6 @@
 -- Instructions on a frame without births and slots.
-use Rattle.std.proofs.Common.{◌≡◌, ℕ, zero, suc, ◌+◌, ◌-◌, List, [], ◌∷◌, ◌++◌, Bool, true, false, Option, Some}
-use Rattle.std.proofs.Common.{None, refl, sym, ◌∙◌, ap, subst, cond, map}
+use Rattle.std.proofs.Common.{◌≡◌, ◌+◌, ◌-◌, List, [], ◌∷◌, Bool, true, false}
+use Rattle.std.proofs.Common.{refl, ap, cond, map, drop}
 use Rattle.std.specs.Prelude.{filter_map, nat_le, ◌==◌, unwrap_or, pos}
 use Rattle.std.specs.Int.{int_wrapping_div, w64}
 use Rattle.std.specs.Ordering.{int_eq}
@@ -12,7 +12,7 @@ use Rattle.sts_model.specs.declared.record.Entry.{Entry}
 use Rattle.sts_model.specs.declared.record.Entry.TheVariants as entry
 use Rattle.sts_model.specs.declared.record.Frame.{Frame}
 use Rattle.sts_model.specs.declared.record.Loop.{Loop}
-use Rattle.sts_model.specs.Local.{local, goes, steps, operand, enters, turns, clipped}
+use Rattle.sts_model.specs.Local.{local, goes, steps, operand, turns, clipped}
 use Rattle.sts_model.specs.Environment.{bound_of}
 use Rattle.laws_calls.specs.Tasks.{bare, blank}
 
@@ -42,3 +42,7 @@ pub blank_bounds : (es : List Entry) → filter_map bound_of (map blank es) ≡ 
 blank_bounds [] = refl
 blank_bounds (entry.Scope s ∷ es) = blank_bounds es
 blank_bounds (entry.Binding k v ∷ es) = ap (λ (bs : List Bound). record { key = k; value = v } ∷ bs) (blank_bounds es)
+
+pub blank_drop : (es : List Entry) → map blank (drop 1 es) ≡ drop 1 (map blank es)
+blank_drop [] = refl
+blank_drop (e ∷ es) = refl

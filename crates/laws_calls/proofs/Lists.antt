@@ -1,7 +1,7 @@
 -- Two lists element by element, places, and filters.
-use Rattle.std.proofs.Common.{◌≡◌, ℕ, zero, suc, ◌+◌, ◌<◌, ◌≤◌, ◌⊎◌, inl, inr, List, [], ◌∷◌, ◌++◌}
-use Rattle.std.proofs.Common.{Bool, true, false, Option, Some, None, refl, sym, ◌∙◌, ap, subst, length}
-use Rattle.std.proofs.Common.{arith, get_or, set, cond, map}
+use Rattle.std.proofs.Common.{◌≡◌, ℕ, zero, suc, ◌+◌, ◌<◌, ◌≤◌, inl, inr, List, [], ◌∷◌, ◌++◌}
+use Rattle.std.proofs.Common.{Bool, true, false, Some, refl, sym, ◌∙◌, ap, subst, length}
+use Rattle.std.proofs.Common.{arith, get_or, set, cond, map, drop}
 use Rattle.std.specs.Prelude.{◌==◌, slice_get}
 use Rattle.std.specs.List.{filter, range_with_len}
 use Rattle.std.proofs.lemmas.Bool.Decides.{nat_tests}
@@ -27,6 +27,10 @@ all_length R [] [] h = refl
 all_length R (x ∷ xs) (y ∷ ys) h = ap suc (all_length R xs ys h.1)
 all_length R [] (y ∷ ys) h = absurd h
 all_length R (x ∷ xs) [] h = absurd h
+
+pub all_tail : {X Y : Type 0} (R : X → Y → Type 0) (x : X) (xs : List X) (ys : List Y) → AllTwo R (x ∷ xs) ys → AllTwo R xs (drop 1 ys)
+all_tail R x xs [] h = absurd h
+all_tail R x xs (y ∷ ys) h = h.1
 
 pub all_append : {X Y : Type 0} (R : X → Y → Type 0) (xs : List X) (ys : List Y) (us : List X) (vs : List Y) → AllTwo R xs ys → AllTwo R us vs → AllTwo R (xs ++ us) (ys ++ vs)
 all_append R [] [] us vs h k = k
@@ -129,6 +133,24 @@ abbrev pub Apart : List ℕ → Type 0
 Apart [] = Unit {0}
 Apart (x ∷ xs) = (Among xs x → ⊥) × Apart xs
 
+-- the element at a place is the first one, or at its place in the rest
+pub record IsFirst (s : ℕ) (rest : List ℕ) (place r : ℕ) : Type 0 where
+  pub same : (r == s) ≡ (place == length rest)
+  pub later : (r == s) ≡ false → at_place rest place ≡ Some r
+
+pub is_first : (s : ℕ) (rest : List ℕ) (place r : ℕ) → Apart (s ∷ rest) → at_place (s ∷ rest) place ≡ Some r → IsFirst s rest place r
+is_first s rest place r apart e = by (place == length rest) refl e
+  where
+    by : (b : Bool) → (place == length rest) ≡ b → cond b (Some s) (at_place rest place) ≡ Some r → IsFirst s rest place r
+    by true d k =
+        let one : s ≡ r = some_same s r k in
+        let is : (r == s) ≡ true = grind (arith, nat_tests) in
+        record { same = is ∙ sym d; later = λ other. absurd (no (sym is ∙ other)) }
+    by false d k =
+        let other : r ≡ s → ⊥ = λ same. apart.0 (subst (λ z. Among rest z) same (at_among rest place r k)) in
+        let is : (r == s) ≡ false = grind (arith, nat_tests) in
+        record { same = is ∙ sym d; later = λ never. k }
+
 -- one of the second list is replaced, at a place
 pub all_put_place : {Y : Type 0} (R S : ℕ → Y → Type 0) (xs : List ℕ) (ys : List Y) (n x : ℕ) (y : Y) → AllTwo R xs ys → Apart xs → at_place xs n ≡ Some x → S x y → ((z : ℕ) (b : Y) → Among xs z → (z ≡ x → ⊥) → R z b → S z b) → AllTwo S xs (put_place ys n y)
 all_put_place R S [] ys n x y h apart e k f = cc
@@ -155,6 +177,15 @@ all_put_place R S (a ∷ xs) [] n x y h apart e k f = absurd h
 pub filter_same : {X : Type 0} (p q : X → Bool) (xs : List X) → ((x : X) → p x ≡ q x) → filter p xs ≡ filter q xs
 filter_same p q [] same = refl
 filter_same p q (x ∷ xs) same = ap (λ b. cond b (x ∷ filter p xs) (filter p xs)) (same x) ∙ ap (λ ys. cond (q x) (x ∷ ys) ys) (filter_same p q xs same)
+
+-- the tests agree on the elements
+pub filter_agree : {X : Type 0} (p q : X → Bool) (xs : List X) → ((x : X) → Among xs x → p x ≡ q x) → filter p xs ≡ filter q xs
+filter_agree p q [] same = refl
+filter_agree p q (x ∷ xs) same = ap (λ b. cond b (x ∷ filter p xs) (filter p xs)) (same x (inl refl)) ∙ ap (λ ys. cond (q x) (x ∷ ys) ys) (filter_agree p q xs (λ y at. same y (inr at)))
+
+pub range_last : (a n j : ℕ) → a + n ≡ j → range_with_len a (suc n) ≡ range_with_len a n ++ j ∷ []
+range_last a zero j e = ap (λ x. x ∷ []) (omega (arith, e))
+range_last a (suc n) j e = ap (λ xs. a ∷ xs) (range_last (a + 1) n j (omega (arith, e)))
 
 pub among_filter : {X : Type 0} (p : X → Bool) (xs : List X) (x : X) → Among (filter p xs) x → (p x ≡ true) × Among xs x
 among_filter p [] x h = absurd h

@@ -1,36 +1,32 @@
 -- A step that moves one task, and leaves the frames of the others and the scopes of the others.
-use Rattle.std.proofs.Common.{◌≡◌, ℕ, zero, suc, ◌+◌, ◌<◌, ◌≤◌, ◌⊎◌, inl, inr, List, [], ◌∷◌, ◌++◌}
-use Rattle.std.proofs.Common.{Bool, true, false, Option, Some, None, refl, sym, ◌∙◌, ap, subst, length}
-use Rattle.std.proofs.Common.{arith, get_or, set, cond, nat_eq}
+use Rattle.std.proofs.Common.{◌≡◌, ℕ, ◌<◌, List}
+use Rattle.std.proofs.Common.{Bool, true, false, Some, refl, sym, ◌∙◌, ap, subst, length}
+use Rattle.std.proofs.Common.{arith, set, nat_eq}
 use Rattle.std.proofs.Common.{length-set, get_or-set_same, get_or-set_other}
 use Rattle.std.specs.Prelude.{slice_get}
 use Rattle.std.specs.List.{filter, range_with_len}
 use Rattle.std.proofs.lemmas.Bool.Decides.{nat_tests}
 use Rattle.sts_code.specs.Program.{Program}
-use Rattle.sts_model.specs.declared.event.End.{End}
 use Rattle.sts_model.specs.declared.record.Frame.{Frame}
-use Rattle.sts_model.specs.declared.record.Scope.{Scope}
-use Rattle.sts_model.specs.declared.record.Slot.{Slot}
 use Rattle.sts_model.specs.declared.record.Slot.TheVariants as slots
 use Rattle.sts_model.specs.declared.record.Task.{Task}
 use Rattle.sts_model.specs.World.{World, task_at, scope_at, no_task, with_frame, with_task}
-use Rattle.sts_model.specs.Living.{lives, is_in, is_subtask, completion_of}
+use Rattle.sts_model.specs.Living.{lives, is_in, is_subtask}
 use Rattle.sts_model.specs.Misuse.{slot}
 use Rattle.laws_runs.specs.Tallies.{births}
 use Rattle.laws_runs.proofs.ListLemmas.{at_set}
-use Rattle.laws_runs.proofs.EffectLemmas.{some-is_in}
 use Rattle.laws_runs.proofs.EventLemmas.{Next}
 use Rattle.laws_runs.proofs.BirthLemmas.{born_alive}
 use Rattle.laws_calls.specs.Held.{Held}
 use Rattle.laws_calls.specs.Held as held
-use Rattle.laws_calls.specs.Tasks.{Among, AllTwo, at_place, put_place, HasWay, Part, Seen, Own, bare, births_in, held_at}
+use Rattle.laws_calls.specs.Tasks.{Among, AllTwo, at_place, put_place, Part, Seen, Own, births_in, held_at}
 use Rattle.laws_calls.specs.Steps.{Row, Table, Owns, Knows}
-use Rattle.laws_calls.specs.Covers.{subs, PartFits, ScopeFits, SeenFits, HeldFits, FrameFits, TaskFits}
+use Rattle.laws_calls.specs.Covers.{subs, PartFits, SeenFits, HeldFits, FrameFits, TaskFits}
 use Rattle.laws_calls.specs.Covers.{Watched, Covers, alive_in}
-use Rattle.laws_calls.proofs.Lists.{all_map, all_get, all_at, all_put, all_place, all_put_place, among_filter}
+use Rattle.laws_calls.proofs.Lists.{all_map, all_get, all_at, all_put, all_place, all_put_place}
 use Rattle.laws_calls.proofs.Lists.{filter_same, Apart, get_among}
 use Rattle.laws_calls.proofs.Turns.{Facts, FlagsByCancel, alive_later, watched_before, flag_stays}
-use Rattle.laws_calls.proofs.Turns.{environment_stays, seen_same, held_same, task_same, apart_births}
+use Rattle.laws_calls.proofs.Turns.{environment_stays, seen_same, held_same, task_same, listed_inside}
 
 pub record Turned (w v : World) (t : ℕ) (g : Frame) : Type 0 where
   pub count : length v.tasks ≡ length w.tasks
@@ -196,7 +192,7 @@ own_sub rows w f own x u k is =
       at = at;
       fits = r.1.1;
       sub = sub;
-      inside = some-is_in s (task_at w u).scope (among_filter (λ q. is_subtask s (task_at w q)) (births w) u (get_among (subs w s) i u sub)).0;
+      inside = listed_inside w s u (get_among (subs w s) i u sub);
       may = q.1.1;
     }
 

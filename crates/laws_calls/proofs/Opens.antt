@@ -1,6 +1,6 @@
 -- A scope is opened.
-use Rattle.std.proofs.Common.{◌≡◌, ℕ, zero, suc, ◌+◌, ◌<◌, ◌≤◌, ◌⊎◌, inl, inr, List, [], ◌∷◌, ◌++◌}
-use Rattle.std.proofs.Common.{Bool, true, false, Option, Some, None, refl, sym, ◌∙◌, ap, subst, length}
+use Rattle.std.proofs.Common.{◌≡◌, ℕ, ◌+◌, ◌<◌, inl, List, [], ◌∷◌, ◌++◌}
+use Rattle.std.proofs.Common.{Bool, true, false, Some, refl, sym, ◌∙◌, ap, subst, length}
 use Rattle.std.proofs.Common.{arith, get_or, set, cond, length-set, get_or-set_same, get_or-set_other}
 use Rattle.std.specs.Prelude.{slice_get}
 use Rattle.std.specs.List.{filter}
@@ -11,16 +11,14 @@ use Rattle.sts_code.specs.declared.instr.Joiner.{Joiner}
 use Rattle.sts_code.specs.declared.instr.Instr.TheVariants.{Open}
 use Rattle.sts_model.specs.declared.event.Phase.TheVariants.{Opened}
 use Rattle.sts_model.specs.declared.record.Entry.TheVariants as entry
-use Rattle.sts_model.specs.declared.record.Bound.{Bound}
 use Rattle.sts_model.specs.declared.record.Frame.{Frame}
 use Rattle.sts_model.specs.declared.record.Scope.{Scope}
 use Rattle.sts_model.specs.declared.record.Slot.{Slot}
 use Rattle.sts_model.specs.declared.record.Slot.TheVariants as slots
 use Rattle.sts_model.specs.declared.record.Task.{Task}
-use Rattle.sts_model.specs.World.{World, task_at, scope_at, no_task, no_scope, fresh_scope}
-use Rattle.sts_model.specs.Living.{lives, is_in, is_subtask}
+use Rattle.sts_model.specs.World.{World, task_at, scope_at, no_task, no_scope}
+use Rattle.sts_model.specs.Living.{is_subtask}
 use Rattle.sts_model.specs.Local.{steps}
-use Rattle.sts_model.specs.Environment.{environment_of}
 use Rattle.sts_model.specs.Effect.{open_scope}
 use Rattle.laws_runs.specs.Runs.{Does}
 use Rattle.laws_runs.specs.Tallies.{births}
@@ -30,10 +28,10 @@ use Rattle.laws_runs.proofs.EventLemmas.{Next}
 use Rattle.laws_runs.proofs.BirthLemmas.{born_alive, new_scope, opener}
 use Rattle.laws_calls.specs.Held.{Held}
 use Rattle.laws_calls.specs.Held as held
-use Rattle.laws_calls.specs.Tasks.{Among, AllTwo, at_place, Seen, Own, bare, births_in, bindings, Unseen}
+use Rattle.laws_calls.specs.Tasks.{at_place, Seen, Own, births_in, bindings, Unseen}
 use Rattle.laws_calls.specs.Steps.{Row, Table, IsTable, opened, open_step}
-use Rattle.laws_calls.specs.Covers.{subs, PartFits, ScopeFits, SeenFits, HeldFits, FrameFits, TaskFits}
-use Rattle.laws_calls.specs.Covers.{Watched, Covers, alive_in}
+use Rattle.laws_calls.specs.Covers.{subs, ScopeFits, SeenFits, HeldFits, TaskFits}
+use Rattle.laws_calls.specs.Covers.{Covers, alive_in}
 use Rattle.laws_calls.proofs.Lists.{all_map, all_set, all_length, at_first}
 use Rattle.laws_calls.proofs.Lists as lists
 use Rattle.laws_calls.proofs.Turns.{Facts, FlagsByCancel, seen_same, births_has}

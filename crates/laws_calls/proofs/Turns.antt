@@ -1,14 +1,11 @@
 -- What a step of one task leaves of the states of the others.
-use Rattle.std.proofs.Common.{◌≡◌, ℕ, zero, suc, ◌+◌, ◌<◌, ◌≤◌, ◌⊎◌, inl, inr, List, [], ◌∷◌, ◌++◌}
+use Rattle.std.proofs.Common.{◌≡◌, ℕ, zero, suc, ◌+◌, ◌<◌, ◌≤◌, ◌⊎◌, inl, inr, List, [], ◌∷◌}
 use Rattle.std.proofs.Common.{Bool, true, false, Option, Some, None, refl, sym, ◌∙◌, ap, subst, length}
-use Rattle.std.proofs.Common.{arith, get_or, set, cond, nat_eq, ◌||◌}
+use Rattle.std.proofs.Common.{arith, cond, nat_eq, ◌||◌}
 use Rattle.std.specs.Prelude.{◌==◌, slice_get, count_by}
-use Rattle.std.specs.List.{filter, range_with_len, list_any}
+use Rattle.std.specs.List.{list_any}
 use Rattle.std.proofs.lemmas.Bool.Decides.{nat_tests}
 use Rattle.std.proofs.lemmas.List.Sums.{sum_by-cons}
-use Rattle.sts_code.specs.Program.{Program}
-use Rattle.sts_model.specs.declared.event.End.{End}
-use Rattle.sts_model.specs.declared.event.Phase.{Phase}
 use Rattle.sts_model.specs.declared.record.Entry.{Entry}
 use Rattle.sts_model.specs.declared.record.Entry.TheVariants as entry
 use Rattle.sts_model.specs.declared.record.Frame.{Frame}
@@ -16,26 +13,27 @@ use Rattle.sts_model.specs.declared.record.Scope.{Scope}
 use Rattle.sts_model.specs.declared.record.Slot.{Slot}
 use Rattle.sts_model.specs.declared.record.Slot.TheVariants as slots
 use Rattle.sts_model.specs.declared.record.Task.{Task}
-use Rattle.sts_model.specs.World.{World, task_at, scope_at}
-use Rattle.sts_model.specs.Living.{lives, is_in, is_subtask, parent, scope_of, sub_state, completion_of}
+use Rattle.sts_model.specs.World.{World, task_at, scope_at, no_task}
+use Rattle.sts_model.specs.Living.{lives, is_in, is_subtask, parent, scope_of, sub_state}
 use Rattle.sts_model.specs.Misuse.{is_entry_of}
 use Rattle.laws_runs.specs.Flags.{IsCancelled}
-use Rattle.laws_runs.specs.Later.{LaterTask, Later}
+use Rattle.laws_runs.specs.Later.{LaterTask}
 use Rattle.laws_runs.specs.Scopes.{HasCause, IsEntered}
 use Rattle.laws_runs.specs.Slots.{NamesStanding}
 use Rattle.laws_runs.specs.Tallies.{births, IsTallied}
 use Rattle.laws_runs.proofs.EffectLemmas.{is_in-some, some-is_in}
 use Rattle.laws_runs.proofs.EventLemmas.{Right, Next}
+use Rattle.laws_runs.proofs.ListLemmas.{within}
 use Rattle.laws_runs.proofs.KeptLemmas.{dead_later}
 use Rattle.laws_runs.proofs.BirthLemmas.{born_alive}
 use Rattle.sts_model.specs.Misuse.{is_joined}
 use Rattle.laws_calls.specs.Held.{Held}
 use Rattle.laws_calls.specs.Held as held
-use Rattle.laws_calls.specs.Tasks.{Among, AllTwo, at_place, HasWay, Part, Seen, Knowledge, Own, bare, births_in}
-use Rattle.laws_calls.specs.Steps.{Row, Table}
+use Rattle.laws_calls.specs.Tasks.{Among, HasWay, Part, Seen, Own, births_in}
+use Rattle.laws_calls.specs.Steps.{Row}
 use Rattle.laws_calls.specs.Covers.{subs, PartFits, ScopeFits, SeenFits, HeldFits, FrameFits, TaskFits}
-use Rattle.laws_calls.specs.Covers.{Watched, watched_root, watched_sub, Covers, alive_in}
-use Rattle.laws_calls.proofs.Lists.{all_map, among_filter, range_among, filter_same, Apart, at_among, no}
+use Rattle.laws_calls.specs.Covers.{Watched, watched_root, watched_sub, alive_in}
+use Rattle.laws_calls.proofs.Lists.{all_map, among_filter, filter_among, among_range, range_among, Apart, at_among, no}
 
 -- what is known of every state of a run
 pub record Facts (w : World) : Type 0 where
@@ -108,6 +106,65 @@ apart_births (entry.Scope r ∷ es) once = (never, apart_births es (λ s has. re
         let o = once s (or_true (r == s) (list_any (is_entry_of s) es) has) in
         omega (arith, c, o)
 
+-- the subtasks of a scope were born
+pub sub_born : (w : World) (s u : ℕ) → Among (subs w s) u → u < length w.tasks
+sub_born w s u at =
+    let less = range_among 0 (length w.tasks) u (among_filter (λ q. is_subtask s (task_at w q)) (births w) u at).1 in
+    omega (arith, less)
+
+-- each subtask of a scope is listed
+pub sub_listed : (w : World) (s u : ℕ) → (task_at w u).scope ≡ Some s → Among (subs w s) u
+sub_listed w s u inside =
+    let born : u < length w.tasks = within (λ (y : Task). is_in s y.scope) w.tasks u no_task refl (is_in-some s (task_at w u).scope inside) in
+    filter_among (λ q. is_subtask s (task_at w q)) (births w) u (among_range 0 (length w.tasks) u (omega arith) (omega (arith, born))) (is_in-some s (task_at w u).scope inside)
+
+-- a subtask that is listed is in the scope
+pub listed_inside : (w : World) (s u : ℕ) → Among (subs w s) u → (task_at w u).scope ≡ Some s
+listed_inside w s u at = some-is_in s (task_at w u).scope (among_filter (λ q. is_subtask s (task_at w q)) (births w) u at).0
+
+-- ---- watched tasks
+
+module _ (w : World) (o : Right w) where
+  -- the scope of a task that is watched is not cancelled
+  pub free_around : (u s : ℕ) → (task_at w u).scope ≡ Some s → Watched w u → (scope_at w s).cancelled ≡ false
+  free_around u s inside watched_root = let less = (o.sound.born u s inside).1 in absurd (omega (arith, less))
+  free_around u s inside (watched_sub r inside2 free owner) =
+      let both : Some r ≡ Some s = sym inside2 ∙ inside in
+      let one : r ≡ s = cc in
+      subst (λ k. (scope_at w k).cancelled ≡ false) one free
+
+  -- its owner is watched
+  pub owner_watched : (u s : ℕ) → (task_at w u).scope ≡ Some s → Watched w u → Watched w (scope_at w s).owner
+  owner_watched u s inside watched_root = let less = (o.sound.born u s inside).1 in absurd (omega (arith, less))
+  owner_watched u s inside (watched_sub r inside2 free owner) =
+      let both : Some r ≡ Some s = sym inside2 ∙ inside in
+      let one : r ≡ s = cc in
+      subst (λ k. Watched w (scope_at w k).owner) one owner
+
+  only_root : (u : ℕ) → (task_at w u).scope ≡ None → (u ≡ 0 → ⊥) → Watched w u → ⊥
+  only_root u none other watched_root = other refl
+  only_root u none other (watched_sub s inside free owner) = let both : None ≡ Some s = sym none ∙ inside in cc
+
+  pub watched_or_not : (n u : ℕ) → u < n → Watched w u ⊎ (Watched w u → ⊥)
+  watched_or_not zero u less = absurd (omega (arith, less))
+  watched_or_not (suc n) u less = by (nat_eq u 0) refl (λ q below. watched_or_not n q below)
+    where
+      by_owner : (s : ℕ) → (task_at w u).scope ≡ Some s → (scope_at w s).cancelled ≡ false → Watched w (scope_at w s).owner ⊎ (Watched w (scope_at w s).owner → ⊥) → Watched w u ⊎ (Watched w u → ⊥)
+      by_owner s inside free (inl owner) = inl (watched_sub s inside free owner)
+      by_owner s inside free (inr never) = inr (λ watched. never (owner_watched u s inside watched))
+
+      by_scope : (s : ℕ) → (task_at w u).scope ≡ Some s → (b : Bool) → (scope_at w s).cancelled ≡ b → ((q : ℕ) → q < n → Watched w q ⊎ (Watched w q → ⊥)) → Watched w u ⊎ (Watched w u → ⊥)
+      by_scope s inside true e rest = inr (λ watched. no (sym e ∙ free_around u s inside watched))
+      by_scope s inside false e rest = let before = (o.sound.born u s inside).1 in by_owner s inside e (rest (scope_at w s).owner (omega (arith, before, less)))
+
+      around : (q : Option ℕ) → (task_at w u).scope ≡ q → (u ≡ 0 → ⊥) → ((q : ℕ) → q < n → Watched w q ⊎ (Watched w q → ⊥)) → Watched w u ⊎ (Watched w u → ⊥)
+      around None e other rest = inr (λ watched. only_root u e other watched)
+      around (Some s) e other rest = by_scope s e (scope_at w s).cancelled refl rest
+
+      by : (b : Bool) → nat_eq u 0 ≡ b → ((q : ℕ) → q < n → Watched w q ⊎ (Watched w q → ⊥)) → Watched w u ⊎ (Watched w u → ⊥)
+      by true e rest = let same : u ≡ 0 = grind (arith, nat_tests) in inl (subst (λ k. Watched w k) (sym same) watched_root)
+      by false e rest = let other : u ≡ 0 → ⊥ = grind (arith, nat_tests) in around (task_at w u).scope refl other rest
+
 -- ---- one step, from w to v
 
 pub alive_later : (x y : Task) → LaterTask x y → lives y ≡ true → lives x ≡ true
@@ -159,6 +216,16 @@ module _ (w v : World) (h : Facts w) (n : Next w v) where
       by None e = refl
       by (Some s) e = (n.later.scope s (h.right.sound.born u s e).0).same.environment
 
+  -- the part of a subtask that was born
+  pub part_same : (rows later : ℕ → Row) (scope : Scope) (u : ℕ) (part : Part) → u < length w.tasks → later u ≡ rows u → PartFits rows (alive_in w) scope u part → PartFits later (alive_in v) scope u part
+  part_same rows later scope u part born agree f =
+      record {
+        may = f.may;
+        whole = λ alive free e way.
+            f.whole (alive_later (task_at w u) (task_at v u) (n.later.task u born) alive) free e
+            (subst (λ (row : Row). HasWay row.ways e) agree way);
+      }
+
   -- a scope that the step doesn't change
   pub seen_same : (rows later : ℕ → Row) (s : ℕ) (x : Seen) → scope_at v s ≡ scope_at w s → subs v s ≡ subs w s → ((u : ℕ) → u < length w.tasks → later u ≡ rows u) → SeenFits rows w s x → SeenFits later v s x
   seen_same rows later s x same subtasks agree k =
@@ -170,19 +237,9 @@ module _ (w v : World) (h : Facts w) (n : Next w v) where
         environment = k.environment;
         phase = k.phase;
         known = k.known;
-        parts = all_map (PartFits rows (alive_in w) (scope_at w s)) (PartFits later (alive_in v) (scope_at w s)) (subs w s) x.parts (λ u part at f. part_same u part at f) k.parts;
+        parts = all_map (PartFits rows (alive_in w) (scope_at w s)) (PartFits later (alive_in v) (scope_at w s)) (subs w s) x.parts
+            (λ u part at f. part_same rows later (scope_at w s) u part (sub_born w s u at) (agree u (sub_born w s u at)) f) k.parts;
       }))
-    where
-      part_same : (u : ℕ) (part : Part) → Among (subs w s) u → PartFits rows (alive_in w) (scope_at w s) u part → PartFits later (alive_in v) (scope_at w s) u part
-      part_same u part at f =
-          let less = range_among 0 (length w.tasks) u (among_filter (λ q. is_subtask s (task_at w q)) (births w) u at).1 in
-          let born : u < length w.tasks = omega (arith, less) in
-          record {
-            may = f.may;
-            whole = λ alive free e way.
-                f.whole (alive_later (task_at w u) (task_at v u) (n.later.task u born) alive) free e
-                (subst (λ (row : Row). HasWay row.ways e) (agree u born) way);
-          }
 
   -- the slots, if the subtasks of the open scopes keep their places
   pub held_same : (opened : List ℕ) → ((s i u : ℕ) → Among opened s → slice_get (subs w s) i ≡ Some u → slice_get (subs v s) i ≡ Some u) → (x : Slot) (y : Held) → HeldFits w opened x y → HeldFits v opened x y

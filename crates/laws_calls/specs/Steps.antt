@@ -26,7 +26,7 @@ use Rattle.sts_model.specs.World.{code, instr_at}
 use Rattle.sts_model.specs.Local as local
 use Rattle.sts_model.specs.Local.{is_local, operand, goes, steps, truth}
 use Rattle.sts_model.specs.Environment.{read}
-use Rattle.sts_model.specs.Joining.{is_success, is_failure, result_of}
+use Rattle.sts_model.specs.Joining.{is_success, is_failure, result_of, total_of}
 use Rattle.laws_runs.specs.Tallies.{is_kind}
 use Rattle.laws_calls.specs.Held.{Held, is_at}
 use Rattle.laws_calls.specs.Held as held
@@ -77,6 +77,12 @@ kept test part = record { ways = filter (λ (way : Way). test way.end) part.ways
 -- the part has ended
 abbrev pub ended : Part → Part
 ended part = record part { is_open = false }
+
+-- the ends in a pick
+abbrev pub heard_in : List (Option End) → List End
+heard_in [] = []
+heard_in (None ∷ pick) = heard_in pick
+heard_in (Some e ∷ pick) = e ∷ heard_in pick
 
 -- the part had not ended when the owner looked; after that it may end only if nothing is known of a
 -- cancel
@@ -297,8 +303,9 @@ pub data Steps (p : Program) (t : Table) (c : Call) (own : Own) : Instr → Own 
   tally_step : {x : ℕ} {kind : Kind} (place : ℕ) (seen : Seen) (pick : List (Option End))
       → Owns own x place seen → Picks seen.parts pick
       → Steps p t c own (Tally x kind) (pushes own 0 (pos (count_by (is_kind kind) pick)))
-  -- (nothing is said of the sum yet, so no table of a program with `total` has all steps)
-  total_step : {x : ℕ} (sum : ℤ) → Steps p t c own (Total x) (pushes own 0 sum)
+  total_step : {x : ℕ} (place : ℕ) (seen : Seen) (pick : List (Option End))
+      → Owns own x place seen → Picks seen.parts pick
+      → Steps p t c own (Total x) (pushes own 0 (total_of (heard_in pick)))
 
 -- ---- a table that has all steps
 

@@ -1,6 +1,6 @@
-//! The laws of the count.
+//! The laws of the count, and of what a table covers of a run.
 
-ghost use Rattle.laws_calls.specs.Covered.{StepsAloneAreCovered};
+ghost use Rattle.laws_calls.specs.Covered.{EndsAreWays, RunsAreCovered, StepsAreCovered};
 ghost use Rattle.laws_calls.specs.Triggers.{CancelsByCount, LastCounts, LastIsFound, StopsAtLimit};
 ghost use Rattle.laws_calls.specs.Watching.{WatchedIsNotCancelled, WatchedWasWatched};
 
@@ -34,8 +34,17 @@ pub fn watched_is_not_cancelled()
     ensures { WatchedIsNotCancelled }
 {}
 
-/// If a table covers a state of a run, it covers the next one after a step that leaves all scopes
-/// and all other tasks as they are.
-pub fn steps_alone_are_covered()
-    ensures { StepsAloneAreCovered }
+/// If a table covers a state of a run, it covers the next one after any step.
+pub fn steps_are_covered()
+    ensures { StepsAreCovered }
+{}
+
+/// A table covers each state that a run comes to by steps alone.
+pub fn runs_are_covered()
+    ensures { RunsAreCovered }
+{}
+
+/// Each end that the root task comes to by steps alone is a way of the root's row.
+pub fn ends_are_ways()
+    ensures { EndsAreWays }
 {}
