@@ -1,19 +1,22 @@
 -- Instructions that change no more than the frame of their task.
-use Rattle.std.proofs.Common.{◌≡◌, ℕ, ◌+◌, inl, List, [], ◌∷◌, ◌++◌}
-use Rattle.std.proofs.Common.{Bool, true, false, Option, Some, None, refl, sym, ◌∙◌, ap, subst, drop, map}
+use Rattle.std.proofs.Common.{◌≡◌, ℕ, ◌+◌, inl, List, [], ◌∷◌, ◌++◌, ◌⊎◌, inr}
+use Rattle.std.proofs.Common.{Bool, true, false, Option, Some, None, refl, sym, ◌∙◌, ap, subst, drop}
 use Rattle.std.proofs.Common.{set, not, ◌||◌, ◌&&◌}
-use Rattle.std.specs.Prelude.{filter_map, unwrap_or, pos, is_some}
+use Rattle.std.specs.Prelude.{count_by, filter_map, unwrap_or, pos, is_some}
 use Rattle.sts_code.specs.Program.{Program}
 use Rattle.sts_code.specs.declared.instr.Instr.{Instr}
 use Rattle.sts_code.specs.declared.instr.Instr.TheVariants.{Cancelled, Case, Get, Except, Tally, Total, Forget}
 use Rattle.sts_code.specs.declared.instr.Instr.TheVariants.{Open, Fork, Join, Close, Ret, Fail}
 use Rattle.sts_code.specs.declared.instr.Instr.TheVariants.{Bind, Unbind, Read, Bound, OrElse, Interrupted}
+use Rattle.sts_code.specs.Facts.{is_two}
 use Rattle.sts_code.specs.declared.instr.Kind.{Kind}
+use Rattle.sts_code.specs.declared.instr.Kind.TheVariants.{S, F, U}
 use Rattle.sts_model.specs.declared.event.End.{End}
 use Rattle.sts_model.specs.declared.event.End.TheVariants.{Success, Failed}
 use Rattle.sts_model.specs.declared.record.Entry.{Entry}
 use Rattle.sts_model.specs.declared.record.Entry.TheVariants as entry
 use Rattle.sts_model.specs.declared.record.Frame.{Frame}
+use Rattle.sts_model.specs.declared.event.Phase.TheVariants.{Closing}
 use Rattle.sts_model.specs.declared.record.Scope.{Scope}
 use Rattle.sts_model.specs.declared.record.Slot.{Slot}
 use Rattle.sts_model.specs.declared.record.Slot.TheVariants as slots
@@ -21,24 +24,26 @@ use Rattle.sts_model.specs.World.{World, task_at, scope_at, with_frame, instr_at
 use Rattle.sts_model.specs.Local as locals
 use Rattle.sts_model.specs.Local.{is_local, goes, steps, truth, operand}
 use Rattle.sts_model.specs.Living.{lives, completion_of, scope_of, parent, sub_state}
-use Rattle.sts_model.specs.Misuse.{slot, is_sub, is_scope, innermost, is_binding, has_succeeded, has_failed, at_sub, is_readable, is_illegal}
+use Rattle.sts_model.specs.Misuse.{slot, is_sub, is_scope, innermost, is_binding, has_succeeded, has_failed, at_sub, is_readable, is_illegal, is_joined, at_own}
 use Rattle.sts_model.specs.Environment.{environment_of, bound_of, read}
 use Rattle.sts_model.specs.Effect.{named, case_target, value_or_zero, tally, total, moved, effect}
-use Rattle.sts_model.specs.Joining.{is_success, is_failure}
+use Rattle.sts_model.specs.Joining.{is_success, is_failure, total_of}
 use Rattle.laws_runs.specs.Runs.{Does}
 use Rattle.laws_runs.proofs.BirthLemmas.{born_alive}
 use Rattle.laws_runs.proofs.EffectLemmas.{first_no}
 use Rattle.laws_runs.proofs.EventLemmas.{Next}
 use Rattle.laws_runs.proofs.StayLemmas.{ended_is_dead}
-use Rattle.laws_runs.proofs.FrameLemmas.{Leaves, leaves-local, own_slot}
+use Rattle.laws_runs.proofs.FrameLemmas.{at_own-is, Leaves, leaves-local, own_slot}
+use Rattle.laws_runs.specs.Tallies.{is_kind}
+use Rattle.laws_calls.specs.Fitting.{Answers, heard_in}
 use Rattle.laws_calls.specs.Held as held
 use Rattle.laws_calls.specs.Tasks.{AllTwo, at_place, HasWay, Part, Seen, Own, bare, births_in, held_at}
-use Rattle.laws_calls.specs.Tasks.{Knowledge, Unseen, ByJoiner, Heard, bindings, May}
-use Rattle.laws_calls.specs.Steps.{Row, Table, Steps, IsTable, to, pushes, is_cancelled, is_heard, after_cancel}
+use Rattle.laws_calls.specs.Tasks.{Knowledge, Unseen, ByJoiner, Heard, bindings, May, Asked}
+use Rattle.laws_calls.specs.Steps.{Row, Table, Steps, IsTable, to, pushes, is_cancelled, is_heard, after_cancel, counted, summed}
 use Rattle.laws_calls.specs.Steps.{local_step, read_step, bound_step, or_else_step, bind_step, unbind_step, forget_step}
 use Rattle.laws_calls.specs.Steps.{interrupted_step, lent_step, going_step, cancelled_step, success_step, failure_step}
 use Rattle.laws_calls.specs.Steps.{missed_step, get_step, except_step, tally_step, total_step, only, kept, missed, with_part, with_seen}
-use Rattle.laws_calls.specs.Covers.{subs, PartFits, SeenFits, HeldFits, FrameFits, TaskFits, IsRight}
+use Rattle.laws_calls.specs.Covers.{PartFits, SeenFits, HeldFits, FrameFits, TaskFits, IsRight}
 use Rattle.laws_calls.specs.Covers.{Watched, Covers, alive_in}
 use Rattle.laws_calls.proofs.Lists.{all_set, Apart, kept_way, no}
 use Rattle.laws_calls.proofs.Turns.{Facts, FlagsByCancel, apart_births, free_around}
@@ -46,6 +51,7 @@ use Rattle.laws_calls.proofs.Moves.{Turned, covers_turned, turned_frame, turned_
 use Rattle.laws_calls.proofs.Moves.{OwnScope, own_scope, OwnSub, own_sub, held_lent, held_slot, put_seen, put_part}
 use Rattle.laws_calls.proofs.Counts.{states_in, tally_states}
 use Rattle.laws_calls.proofs.Totals.{total_states}
+use Rattle.laws_calls.proofs.Possible.{are_possible, counts_cancelled, pick_fits}
 use Rattle.laws_calls.proofs.Frames.{bare_local, blank_bounds, blank_drop}
 
 -- does the instruction change no more than the frame and the flag of its task?
@@ -92,6 +98,14 @@ readable_failure p w f x mine e = by (is_readable p.profile (scope_of w (named (
     by true false d = cc
     by false b d = cc
 
+-- a scope whose subtasks may be read is joined
+joined_scope : (p : Program) (w : World) (f : Frame) (x : ℕ) → slot f x ≡ slots.Own (named (slot f x)) → at_own w (slot f x) (λ n scope. not (is_readable p.profile scope)) ≡ false → is_joined (scope_at w (named (slot f x))).phase ≡ true
+joined_scope p w f x mine e = by (is_joined (scope_at w (named (slot f x))).phase) (is_two p.profile || not (scope_at w (named (slot f x))).expired) (sym (at_own-is w (slot f x) (λ n scope. not (is_readable p.profile scope)) mine) ∙ e)
+  where
+    by : (a b : Bool) → not (a && b) ≡ false → a ≡ true
+    by true b d = refl
+    by false b d = cc
+
 -- known not to be cancelled
 pub unknown : (q : Knowledge) (scope : Scope) → IsRight q scope → scope.cancelled ≡ false → is_cancelled q ≡ false
 unknown Unseen scope r e = refl
@@ -114,7 +128,7 @@ module _ (p : Program) (t : Table) (root : Row) (is : IsTable p t root) (w : Wor
       let m = moves watched own k in
       record {
         own = m.next;
-        there = is.closed (c.rows u) own m.next i (c.listed u) k.there (instr_of p (task_at w u).frame own i k.fits.frame d.at) m.step;
+        there = is.closed (c.rows u) own m.next i (c.listed u) k.there (instr_of p (task_at w u).frame own i k.fits.frame d.at) m.step (are_possible c.rows w h.right (births_in g.entries) m.next.scopes m.fits.scopes);
         fits = fits_later w v h n c.rows g m.next scopes (λ s. subs_same w v s turned.count turned.scope) m.fits;
       })
 
@@ -262,7 +276,7 @@ module _ (p : Program) (t : Table) (root : Row) (is : IsTable p t root) (w : Wor
               step = cancelled_step o.place o.seen o.owns (unheard o.seen.knowledge (scope_at w s) o.fits.known e);
               fits = fits_seen alive o.place s (after_cancel o.seen) (steps f 0 (truth true ∷ [])) (steps own.frame 0 (truth true ∷ [])) (leaves_refl f (f.pc + 1) 0 (truth true ∷ []))
                   (ap (λ (z : Frame). steps z 0 (truth true ∷ [])) k.fits.frame) o.at
-                  (record { joiner = o.fits.joiner; timed = o.fits.timed; environment = o.fits.environment; phase = o.fits.phase; known = e; parts = o.fits.parts });
+                  (record { joiner = o.fits.joiner; timed = o.fits.timed; environment = o.fits.environment; phase = o.fits.phase; known = e; parts = o.fits.parts; counts = counts_cancelled o.seen.knowledge o.seen.phase o.seen.joiner _ (unheard o.seen.knowledge (scope_at w s) o.fits.known e) o.fits.counts; asked = o.fits.asked });
             }
 
         by : (q : Slot) → slot f x ≡ q → not (is_scope q) ≡ false → StepsTo p t rows w u own (Cancelled x) (steps f 0 (truth (scope_at w (named q)).cancelled ∷ []))
@@ -369,21 +383,61 @@ module _ (p : Program) (t : Table) (root : Row) (is : IsTable p t root) (w : Wor
 
     -- ---- counts
 
-    pick_of : (s : ℕ) (us : List ℕ) (parts : List Part) → AllTwo (PartFits rows (alive_in w) (scope_at w s)) us parts → AllTwo May parts (map (completion_of (scope_at w s).completions) us)
-    pick_of s [] [] a = tt
-    pick_of s (q ∷ us) (part ∷ parts) a = (a.0.may, pick_of s us parts a.1)
-    pick_of s [] (part ∷ parts) a = absurd a
-    pick_of s (q ∷ us) [] a = absurd a
+    -- the owner got an answer
+    seen_asked : (s : ℕ) (x : Seen) (asked : Asked) → SeenFits rows w s x → is_joined (scope_at w s).phase ≡ true → Answers asked (states_in w s) → SeenFits rows w s (record x { asked = asked })
+    seen_asked s x asked k2 joined answers =
+        record {
+          joiner = k2.joiner;
+          timed = k2.timed;
+          environment = k2.environment;
+          phase = k2.phase;
+          known = k2.known;
+          parts = k2.parts;
+          counts = k2.counts;
+          asked = inr (now k2.phase, answers);
+        }
+      where
+        now : ((scope_at w s).phase ≡ x.phase) ⊎ ((scope_at w s).phase ≡ Closing) → is_joined x.phase ≡ true
+        now (inl same) = sym (ap is_joined same) ∙ joined
+        now (inr same) = absurd (no (sym joined ∙ ap is_joined same))
 
-    to_tally : (x : ℕ) (kind : Kind) (s : ℕ) → slot f x ≡ slots.Own s → StepsTo p t rows w u own (Tally x kind) (steps f 0 (pos (tally w s kind) ∷ []))
-    to_tally x kind s mine =
-        let o = own_scope rows w f own x s k.fits mine in
-        to_pushes (Tally x kind) 0 _ _ (ap (λ n. pos n) (tally_states w h s kind)) (tally_step o.place o.seen (states_in w s) o.owns (pick_of s (subs w s) o.seen.parts o.fits.parts))
+    counted_answers : (kind : Kind) (x : Seen) (pick : List (Option End)) → Answers x.asked pick → Answers (counted kind (count_by (is_kind kind) pick) x).asked pick
+    counted_answers S x pick a = record { successes = refl; failures = a.failures; unavailable = a.unavailable; total = a.total }
+    counted_answers F x pick a = record { successes = a.successes; failures = refl; unavailable = a.unavailable; total = a.total }
+    counted_answers U x pick a = record { successes = a.successes; failures = a.failures; unavailable = refl; total = a.total }
 
-    to_total : (x s : ℕ) → slot f x ≡ slots.Own s → StepsTo p t rows w u own (Total x) (steps f 0 (total w s ∷ []))
-    to_total x s mine =
+    seen_counted : (kind : Kind) (n : ℕ) (s : ℕ) (x : Seen) → SeenFits rows w s x → is_joined (scope_at w s).phase ≡ true → Answers (counted kind n x).asked (states_in w s) → SeenFits rows w s (counted kind n x)
+    seen_counted S n s x k2 joined answers = seen_asked s x (counted S n x).asked k2 joined answers
+    seen_counted F n s x k2 joined answers = seen_asked s x (counted F n x).asked k2 joined answers
+    seen_counted U n s x k2 joined answers = seen_asked s x (counted U n x).asked k2 joined answers
+
+    -- the value is pushed, and the scope changes
+    to_answer : lives (task_at w u) ≡ true → (i : Instr) (place s : ℕ) (x : Seen) (a b : _) → a ≡ b → at_place opened place ≡ Some s → SeenFits rows w s x → Steps p t (rows u).call own i (pushes (with_seen own place x) 0 b) → StepsTo p t rows w u own i (steps f 0 (a ∷ []))
+    to_answer alive i place s x a b e at new step =
+        record {
+          next = pushes (with_seen own place x) 0 b;
+          step = step;
+          fits = subst (λ v. FrameFits rows w (steps f 0 (v ∷ [])) (pushes (with_seen own place x) 0 b)) (sym e)
+              (fits_seen alive place s x (steps f 0 (b ∷ [])) (steps own.frame 0 (b ∷ [])) (leaves_refl f (f.pc + 1) 0 (b ∷ [])) (ap (λ (z : Frame). steps z 0 (b ∷ [])) k.fits.frame) at new);
+        }
+
+    to_tally : lives (task_at w u) ≡ true → (x : ℕ) (kind : Kind) (s : ℕ) → slot f x ≡ slots.Own s → is_joined (scope_at w s).phase ≡ true → StepsTo p t rows w u own (Tally x kind) (steps f 0 (pos (tally w s kind) ∷ []))
+    to_tally alive x kind s mine joined =
         let o = own_scope rows w f own x s k.fits mine in
-        to_pushes (Total x) 0 _ _ (total_states w h s) (total_step o.place o.seen (states_in w s) o.owns (pick_of s (subs w s) o.seen.parts o.fits.parts))
+        let pick = pick_fits rows w h.right s o.seen o.fits in
+        let n : ℕ = count_by (is_kind kind) (states_in w s) in
+        to_answer alive (Tally x kind) o.place s (counted kind n o.seen) (pos (tally w s kind)) (pos n) (ap (λ m. pos m) (tally_states w h s kind)) o.at
+        (seen_counted kind n s o.seen o.fits joined (counted_answers kind o.seen (states_in w s) pick.asked))
+        (tally_step o.place o.seen (states_in w s) o.owns pick)
+
+    to_total : lives (task_at w u) ≡ true → (x s : ℕ) → slot f x ≡ slots.Own s → is_joined (scope_at w s).phase ≡ true → StepsTo p t rows w u own (Total x) (steps f 0 (total w s ∷ []))
+    to_total alive x s mine joined =
+        let o = own_scope rows w f own x s k.fits mine in
+        let pick = pick_fits rows w h.right s o.seen o.fits in
+        let sum = total_of (heard_in (states_in w s)) in
+        to_answer alive (Total x) o.place s (summed sum o.seen) (total w s) sum (total_states w h.right s) o.at
+        (seen_asked s o.seen (summed sum o.seen).asked o.fits joined (record { successes = pick.asked.successes; failures = pick.asked.failures; unavailable = pick.asked.unavailable; total = refl }))
+        (total_step o.place o.seen (states_in w s) o.owns pick)
 
   -- ---- all of them
 
@@ -436,10 +490,10 @@ module _ (p : Program) (t : Table) (root : Row) (is : IsTable p t root) (w : Wor
         subst (λ q. StepsTo p t c.rows w u own (Except x) (steps frame 0 (value_or_zero q ∷ []))) (sym e) (to_except c.rows u own k d.alive x o (subst (λ q. has_failed q ≡ true) e legal)))
     give (Tally x kind) a n flags d =
         let mine : slot frame x ≡ slots.Own (named (slot frame x)) = own_slot (slot frame x) (first_no _ _ (first_no _ _ d.fine.slots)) d.fine.own in
-        with_next (Tally x kind) (moved p w u frame (Tally x kind)) n flags d (λ watched own k. to_tally c.rows u own k x kind (named (slot frame x)) mine)
+        with_next (Tally x kind) (moved p w u frame (Tally x kind)) n flags d (λ watched own k. to_tally c.rows u own k d.alive x kind (named (slot frame x)) mine (joined_scope p w frame x mine d.fine.legal))
     give (Total x) a n flags d =
         let mine : slot frame x ≡ slots.Own (named (slot frame x)) = own_slot (slot frame x) (first_no _ _ (first_no _ _ d.fine.slots)) d.fine.own in
-        with_next (Total x) (moved p w u frame (Total x)) n flags d (λ watched own k. to_total c.rows u own k x (named (slot frame x)) mine)
+        with_next (Total x) (moved p w u frame (Total x)) n flags d (λ watched own k. to_total c.rows u own k d.alive x (named (slot frame x)) mine (joined_scope p w frame x mine d.fine.legal))
     give (Read x) a n flags d = with_next (Read x) (moved p w u frame (Read x)) n flags d (λ watched own k. to_read c.rows u own k x)
     give (Bound x) a n flags d = with_next (Bound x) (moved p w u frame (Bound x)) n flags d (λ watched own k. to_bound c.rows u own k x)
     give (OrElse x) a n flags d = with_next (OrElse x) (moved p w u frame (OrElse x)) n flags d (λ watched own k. to_or_else c.rows u own k x)

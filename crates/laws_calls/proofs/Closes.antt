@@ -39,6 +39,7 @@ use Rattle.laws_calls.proofs.Turns.{Facts, FlagsByCancel, seen_same, held_same, 
 use Rattle.laws_calls.proofs.Moves.{GoesOn, covers_turned, subs_same}
 use Rattle.laws_calls.proofs.Phases.{Rescoped, rescoped_close, rescoped_frame}
 use Rattle.laws_calls.proofs.Frames.{blank_drop}
+use Rattle.laws_calls.proofs.Possible.{are_possible}
 use Rattle.laws_calls.proofs.Alone.{instr_of}
 
 -- the innermost entry is that of the scope
@@ -118,6 +119,8 @@ module _ (p : Program) (t : Table) (root : Row) (is : IsTable p t root) (w : Wor
         environment = k.environment;
         phase = inr refl;
         known = still_right some y.knowledge k.known;
+        counts = k.counts;
+        asked = k.asked;
         parts = all_map (PartFits rows (alive_in w) (scope_at w s)) (PartFits rows (alive_in waits) leaving) (subs w s) y.parts
             (λ i part at e. record { may = e.may; whole = λ alive free. absurd (no free) }) k.parts;
       }))
@@ -183,15 +186,18 @@ module _ (p : Program) (t : Table) (root : Row) (is : IsTable p t root) (w : Wor
       let tail : AllTwo (SeenFits c.rows w) rest (drop 1 own.scopes) = all_tail (SeenFits c.rows w) s rest own.scopes scopes in
       let slots_w : AllTwo (HeldFits w (s ∷ rest)) f.slots own.held = subst (λ bs. AllTwo (HeldFits w bs) f.slots own.held) opened k.fits.held in
       let m : ℕ = length (drop 1 own.scopes) in
+      let scopes_after : AllTwo (SeenFits c.rows shut) rest (drop 1 own.scopes) =
+      all_map (SeenFits c.rows w) (SeenFits c.rows shut) rest (drop 1 own.scopes)
+      (λ r y at e. seen_same w shut h nx c.rows c.rows r y (shutting.others r (λ same. apart.0 (subst (λ i. Among rest i) same at))) (same_subs r) (λ i less. refl) e) tail
+      in
       record {
         own = closed own;
-        there = is.closed (c.rows u) own (closed own) (Close x) (c.listed u) k.there (instr_of p f own (Close x) k.fits.frame d.at) close_step;
+        there = is.closed (c.rows u) own (closed own) (Close x) (c.listed u) k.there (instr_of p f own (Close x) k.fits.frame d.at) close_step (are_possible c.rows shut nx.right rest (drop 1 own.scopes) scopes_after);
         fits = record {
           frame = ap (λ es. record (steps (bare f) 0 []) { entries = es }) (blank_drop f.entries) ∙ ap (λ (z : Frame). record (steps z 0 []) { entries = drop 1 z.entries }) k.fits.frame;
           held = all_mapped (HeldFits w (s ∷ rest)) (HeldFits shut rest) (λ a. cond (is_of (cancel w s) s a) slots.Empty a) (clear m) f.slots own.held
               (clears m (all_length (SeenFits c.rows w) rest (drop 1 own.scopes) tail)) slots_w;
-          scopes = all_map (SeenFits c.rows w) (SeenFits c.rows shut) rest (drop 1 own.scopes)
-              (λ r y at e. seen_same w shut h nx c.rows c.rows r y (shutting.others r (λ same. apart.0 (subst (λ i. Among rest i) same at))) (same_subs r) (λ i less. refl) e) tail;
+          scopes = scopes_after;
         };
       }
 

@@ -1,5 +1,5 @@
 -- A task comes to its end.
-use Rattle.std.proofs.Common.{◌≡◌, ℕ, ◌+◌, ◌<◌, ◌⊎◌, inl, inr, [], ◌∷◌, ◌++◌}
+use Rattle.std.proofs.Common.{◌≡◌, ℕ, List, ◌≤◌, ◌+◌, ◌<◌, ◌⊎◌, inl, inr, [], ◌∷◌, ◌++◌, map}
 use Rattle.std.proofs.Common.{Bool, true, false, Option, Some, None, refl, sym, ◌∙◌, ap, subst, length}
 use Rattle.std.proofs.Common.{arith, cond, nat_eq, length-set, get_or-set_same, get_or-set_other}
 use Rattle.std.specs.Prelude.{slice_get}
@@ -8,16 +8,19 @@ use Rattle.sts_code.specs.Program.{Program}
 use Rattle.sts_code.specs.declared.instr.Instr.{Instr}
 use Rattle.sts_model.specs.declared.event.End.{End}
 use Rattle.sts_model.specs.declared.event.Phase.TheVariants.{Closing}
+use Rattle.sts_model.specs.declared.record.Completion.{Completion}
 use Rattle.sts_model.specs.declared.record.Frame.{Frame}
 use Rattle.sts_model.specs.declared.record.Scope.{Scope}
 use Rattle.sts_model.specs.declared.record.Task.{Task}
 use Rattle.sts_model.specs.World.{World, task_at, scope_at, no_task, no_scope, with_scope}
 use Rattle.sts_model.specs.Local.{steps}
-use Rattle.sts_model.specs.Living.{lives, ends, completion_of}
+use Rattle.sts_model.specs.Living.{lives, ends, ends_of, completion_of}
 use Rattle.sts_model.specs.Cancelling.{cancel}
 use Rattle.sts_model.specs.Joining.{cancels}
+use Rattle.sts_model.specs.Misuse.{is_joined}
 use Rattle.sts_model.specs.Effect.{told, decide, tell, ended, end_task}
 use Rattle.laws_runs.specs.Runs.{Does}
+use Rattle.laws_runs.specs.Scopes.{is_leaving}
 use Rattle.laws_runs.proofs.ListLemmas.{at_set}
 use Rattle.laws_runs.proofs.EffectLemmas.{endless, frame-cancel, still-decide}
 use Rattle.laws_runs.proofs.StillLemmas.{Still}
@@ -25,7 +28,7 @@ use Rattle.laws_runs.proofs.StayLemmas.{ended_is_dead}
 use Rattle.laws_runs.proofs.CompletionLemmas.{completion-front, completion-new, completion-either}
 use Rattle.laws_runs.proofs.EventLemmas.{Next}
 use Rattle.laws_runs.proofs.BirthLemmas.{born_alive}
-use Rattle.laws_calls.specs.Tasks.{HasWay, May, Part, Seen, Own, Knowledge, Unseen, ByJoiner, Heard, bare}
+use Rattle.laws_calls.specs.Tasks.{HasWay, May, Part, Seen, Own, Knowledge, Unseen, ByJoiner, Heard, bare, nothing}
 use Rattle.laws_calls.specs.Steps.{Row, Table, IsTable, end_by}
 use Rattle.laws_calls.specs.Covers.{subs, PartFits, ScopeFits, SeenFits, TaskFits, IsRight}
 use Rattle.laws_calls.specs.Covers.{Watched, watched_root, watched_sub, Covers, alive_in}
@@ -33,6 +36,9 @@ use Rattle.laws_calls.proofs.Lists.{all_map, no}
 use Rattle.laws_calls.proofs.Turns.{Facts, FlagsByCancel, alive_later, watched_before, seen_same, task_same, sub_born}
 use Rattle.laws_calls.proofs.Moves.{subs_same}
 use Rattle.laws_calls.proofs.Phases.{at_cancelled, cancel_other}
+use Rattle.laws_calls.specs.Triggers.{triggers}
+use Rattle.laws_calls.specs.Fitting.{most, MayCount, Answers}
+use Rattle.laws_calls.proofs.Possible.{counts_told, few_told}
 use Rattle.laws_calls.proofs.Alone.{instr_of}
 
 -- ---- what the end changes
@@ -159,6 +165,10 @@ module _ (w : World) (u : ℕ) (end : End) (born : u < length w.tasks) where
       by None e = untold
       by (Some s) e = by_cancelled s e (scope_at w s).cancelled refl
 
+ends_more : (cs : List Completion) (c : Completion) → ends_of (cs ++ c ∷ []) ≡ ends_of cs ++ c.end ∷ []
+ends_more [] c = refl
+ends_more (x ∷ cs) c = ap (λ (es : List End). x.end ∷ es) (ends_more cs c)
+
 -- ---- the table
 
 module _ (p : Program) (t : Table) (root : Row) (is : IsTable p t root) (w v : World) (h : Facts w) (n : Next w v) (flags : FlagsByCancel w v) (u : ℕ) (end : End) (alive : lives (task_at w u) ≡ true) (o : Ended w v u end) where
@@ -207,12 +217,30 @@ module _ (p : Program) (t : Table) (root : Row) (is : IsTable p t root) (w v : W
         environment = k.environment ∙ sym (n.later.scope s born).same.environment;
         phase = phase k.phase;
         known = known x.knowledge k.known;
+        counts = counts x.knowledge k.known k.counts;
+        asked = inl (unasked k.phase k.asked);
         parts = all_map (PartFits rows (alive_in w) (scope_at w s)) (PartFits rows (alive_in v) (scope_at v s)) (subs w s) x.parts (λ i part at e. part_told rows way s told i part (sub_born w s i at) e) k.parts;
       })
     where
       phase : ((scope_at w s).phase ≡ x.phase) ⊎ ((scope_at w s).phase ≡ Closing) → ((scope_at v s).phase ≡ x.phase) ⊎ ((scope_at v s).phase ≡ Closing)
       phase (inl e) = inl (told.phase ∙ e)
       phase (inr e) = inr (told.phase ∙ e)
+
+      -- nothing was asked, since u lives
+      unasked : ((scope_at w s).phase ≡ x.phase) ⊎ ((scope_at w s).phase ≡ Closing) → (x.asked ≡ nothing) ⊎ ((is_joined x.phase ≡ true) × Answers x.asked (map (completion_of (scope_at w s).completions) (subs w s))) → x.asked ≡ nothing
+      unasked same (inl e) = e
+      unasked (inl same) (inr a) = let dead = h.settled s u (ap is_joined same ∙ a.0) told.free told.inside in absurd (no (sym alive ∙ dead))
+      unasked (inr same) (inr a) = let gone = (h.caused s born).leaving (ap is_leaving same) in absurd (no (sym gone ∙ told.free))
+
+      few : triggers x.joiner (ends (scope_at v s)) ≤ most x.joiner
+      few =
+          subst (λ (l : List End). triggers x.joiner l ≤ most x.joiner) (sym (ap ends_of told.completions ∙ ends_more (scope_at w s).completions (record { task = u; end = end })))
+          (few_told x.joiner (ends (scope_at w s)) end (λ e. ap ends_of ((h.caused s born).asked told.free (ap (λ j. cancels j (ends (scope_at w s))) (sym k.joiner) ∙ e))))
+
+      counts : (q : Knowledge) → IsRight q (scope_at w s) → MayCount q x.phase x.joiner (triggers x.joiner (ends (scope_at w s))) → MayCount q x.phase x.joiner (triggers x.joiner (ends (scope_at v s)))
+      counts Unseen r m = counts_told x.phase x.joiner (triggers x.joiner (ends (scope_at w s))) (triggers x.joiner (ends (scope_at v s))) m few
+      counts ByJoiner r m = let gone : (scope_at w s).cancelled ≡ true = r in absurd (no (sym gone ∙ told.free))
+      counts Heard r m = let dead = h.settled s u r.1 told.free told.inside in absurd (no (sym alive ∙ dead))
 
       known : (q : Knowledge) → IsRight q (scope_at w s) → IsRight q (scope_at v s)
       known Unseen r = tt

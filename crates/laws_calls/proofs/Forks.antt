@@ -1,7 +1,7 @@
 -- A subtask is forked.
 use Rattle.std.proofs.Common.{◌≡◌, ℕ, zero, suc, ◌+◌, ◌<◌, ◌⊎◌, inl, inr, List, [], ◌∷◌, ◌++◌}
 use Rattle.std.proofs.Common.{Bool, true, false, Option, Some, None, refl, sym, ◌∙◌, ap, subst, length}
-use Rattle.std.proofs.Common.{arith, get_or, set, cond, nat_eq, length-set, length-append, get_or-set_same, get_or-set_other}
+use Rattle.std.proofs.Common.{arith, get_or, set, cond, nat_eq, length-set, length-append, get_or-set_same, get_or-set_other, not}
 use Rattle.std.proofs.Common.{replicate, take, append-nil}
 use Rattle.std.specs.Prelude.{◌==◌, slice_get, reverse}
 use Rattle.std.specs.List.{filter, range_with_len}
@@ -12,6 +12,8 @@ use Rattle.std.proofs.Math.Seq.{get_or-append_seam}
 use Rattle.sts_code.specs.Program.{Program, routine}
 use Rattle.sts_code.specs.declared.instr.Instr.TheVariants.{Fork}
 use Rattle.sts_model.specs.declared.event.End.{End}
+use Rattle.sts_model.specs.declared.event.Phase.{Phase}
+use Rattle.sts_model.specs.declared.event.Phase.TheVariants.{Opened, Closing}
 use Rattle.sts_model.specs.declared.record.Frame.{Frame}
 use Rattle.sts_model.specs.declared.record.Scope.{Scope}
 use Rattle.sts_model.specs.declared.record.Slot.TheVariants as slots
@@ -19,7 +21,7 @@ use Rattle.sts_model.specs.declared.record.Task.{Task}
 use Rattle.sts_model.specs.World.{World, task_at, scope_at, no_task, no_scope, entry_frame}
 use Rattle.sts_model.specs.Local.{steps}
 use Rattle.sts_model.specs.Living.{lives, is_subtask, completion_of, parent}
-use Rattle.sts_model.specs.Misuse.{slot}
+use Rattle.sts_model.specs.Misuse.{slot, is_opened, is_joined}
 use Rattle.sts_model.specs.Effect.{named, fork_task, subtask_of, with_slot}
 use Rattle.sts_model.specs.Effect as effects
 use Rattle.laws_runs.specs.Runs.{Does}
@@ -27,18 +29,19 @@ use Rattle.laws_runs.specs.Tallies.{births}
 use Rattle.laws_runs.proofs.ListLemmas.{past}
 use Rattle.laws_runs.proofs.EffectLemmas.{first_no}
 use Rattle.laws_runs.proofs.EventLemmas.{Right, Next}
-use Rattle.laws_runs.proofs.FrameLemmas.{own_slot}
+use Rattle.laws_runs.proofs.FrameLemmas.{own_slot, at_own-is}
 use Rattle.laws_runs.proofs.BirthLemmas.{born_alive}
 use Rattle.laws_calls.specs.Held as held
-use Rattle.laws_calls.specs.Tasks.{Among, AllTwo, Call, HasWay, Part, May, Seen, Own, bare, begin, births_in}
-use Rattle.laws_calls.specs.Steps.{Row, Table, IsTable, IsRowOf, call_of, with_handle, forked, fork_step}
+use Rattle.laws_calls.specs.Tasks.{Among, AllTwo, Call, HasWay, Part, May, Seen, Own, bare, begin, births_in, Way, Knowledge, Unseen, ByJoiner, Heard, nothing}
+use Rattle.laws_calls.specs.Steps.{Row, Table, IsTable, IsRowOf, call_of, with_handle, forked, fork_step, Steps, is_cancelled, unstarted_step}
 use Rattle.laws_calls.specs.Covers.{subs, PartFits, ScopeFits, SeenFits, HeldFits, FrameFits, TaskFits}
-use Rattle.laws_calls.specs.Covers.{Watched, Covers, alive_in}
+use Rattle.laws_calls.specs.Covers.{Watched, Covers, alive_in, IsRight}
 use Rattle.laws_calls.proofs.Lists.{all_map, all_set, all_length, all_append, all_put_place, Apart, filter_agree, range_last}
-use Rattle.laws_calls.proofs.Lists.{range_among, get_front, get_last}
+use Rattle.laws_calls.proofs.Lists.{range_among, get_front, get_last, no}
 use Rattle.laws_calls.proofs.Turns.{Facts, FlagsByCancel, alive_later, watched_before, flag_stays, environment_stays}
-use Rattle.laws_calls.proofs.Turns.{part_same, seen_same, held_same, task_same, apart_births, sub_born, owner_watched, watched_or_not}
+use Rattle.laws_calls.proofs.Turns.{part_same, seen_same, held_same, task_same, apart_births, sub_born, owner_watched, watched_or_not, free_around}
 use Rattle.laws_calls.proofs.Moves.{OwnScope, own_scope}
+use Rattle.laws_calls.proofs.Possible.{are_possible}
 use Rattle.laws_calls.proofs.Alone.{instr_of}
 
 -- the empty slots of a new task
@@ -59,11 +62,16 @@ unborn w s o = by (completion_of (scope_at w s).completions (length w.tasks)) re
         cc
 
 -- what is known of a forker that is watched
-record Forker (p : Program) (t : Table) (w : World) (u x g : ℕ) (rows : ℕ → Row) (row : Row) : Type 0 where
+record Forker (p : Program) (t : Table) (w : World) (u x g : ℕ) (q : Option ℕ) (rows : ℕ → Row) (row : Row) : Type 0 where
   pub own : Own
   pub old : TaskFits rows w u own
   pub scope : OwnScope rows w (task_at w u).frame own x (named (slot (task_at w u).frame x))
-  pub is_row : IsRowOf t row (call_of p own scope.seen g)
+  pub ways : List Way
+  pub step : Steps p t (rows u).call own (Fork x g q) (forked p own scope.place scope.seen ways g q)
+  pub unasked : scope.seen.asked ≡ nothing
+  -- if the new task runs, the row is that of its call, and each way of it is one of the new part
+  pub is_row : (scope_at w (named (slot (task_at w u).frame x))).cancelled ≡ false → IsRowOf t row (call_of p own scope.seen g)
+  pub told : (scope_at w (named (slot (task_at w u).frame x))).cancelled ≡ false → (e : End) → HasWay row.ways e → HasWay ways e
 
 module _ (p : Program) (w : World) (h : Facts w) (u x g : ℕ) (q : Option ℕ) where
   abbrev f : Frame
@@ -154,17 +162,17 @@ module _ (p : Program) (w : World) (h : Facts w) (u x g : ℕ) (q : Option ℕ) 
 
   -- ---- the new task and the forker
 
-  module _ (nx : Next w after) (born : u < n) (alive : lives (task_at w u) ≡ true) (t : Table) (rows later : ℕ → Row) (row : Row) (agree : (k : ℕ) → k < n → later k ≡ rows k) (new : later n ≡ row) (k : Forker p t w u x g rows row) where
+  module _ (nx : Next w after) (born : u < n) (alive : lives (task_at w u) ≡ true) (t : Table) (rows later : ℕ → Row) (row : Row) (agree : (k : ℕ) → k < n → later k ≡ rows k) (new : later n ≡ row) (k : Forker p t w u x g q rows row) where
     abbrev opened : List ℕ
     opened = births_in f.entries
 
     abbrev call : Call
     call = call_of p k.own k.scope.seen g
 
-    child_fits : TaskFits later after n (begin held.Lent call)
-    child_fits =
+    child_fits : (scope_at w s).cancelled ≡ false → TaskFits later after n (begin held.Lent call)
+    child_fits free =
         record {
-          there = subst (λ (r : Row). Among r.states (begin held.Lent call)) (sym new) k.is_row.begins;
+          there = subst (λ (r : Row). Among r.states (begin held.Lent call)) (sym new) (k.is_row free).begins;
           fits = subst (λ (y : Task). FrameFits later after y.frame (begin held.Lent call)) (sym (task_new born)) (record {
             frame = ap (λ (z : Frame). bare (entry_frame g (reverse (take args z.operands)) slots.Empty)) k.old.fits.frame;
             held = (tt, empties after [] 15);
@@ -173,17 +181,17 @@ module _ (p : Program) (w : World) (h : Facts w) (u x g : ℕ) (q : Option ℕ) 
           flag = ap (λ (y : Task). y.flag) (task_new born);
           environment =
               ap (λ (y : Task). (parent after y.scope).environment) (task_new born) ∙ ap (λ (z : Scope). z.environment) (scope_same s) ∙ sym k.scope.fits.environment
-              ∙ sym (ap (λ (r : Row). r.call.environment) new ∙ ap (λ (c : Call). c.environment) k.is_row.call);
+              ∙ sym (ap (λ (r : Row). r.call.environment) new ∙ ap (λ (c : Call). c.environment) (k.is_row free).call);
         }
 
     abbrev part : Part
-    part = record { ways = row.ways; is_open = true }
+    part = record { ways = k.ways; is_open = true }
 
     part_fits : PartFits later (alive_in after) (scope_at w s) n part
     part_fits =
         record {
           may = subst (λ o. May part o) (sym (unborn w s h.right)) refl;
-          whole = λ lives_n free e way. subst (λ (r : Row). HasWay r.ways e) new way;
+          whole = λ lives_n free e way. k.told free e (subst (λ (r : Row). HasWay r.ways e) new way);
         }
 
     abbrev seen : Seen
@@ -199,6 +207,8 @@ module _ (p : Program) (w : World) (h : Facts w) (u x g : ℕ) (q : Option ℕ) 
           environment = k.scope.fits.environment;
           phase = k.scope.fits.phase;
           known = k.scope.fits.known;
+          counts = k.scope.fits.counts;
+          asked = inl k.unasked;
           parts = all_append (PartFits later (alive_in after) (scope_at w s)) (subs w s) k.scope.seen.parts (n ∷ []) (part ∷ [])
               (all_map (PartFits rows (alive_in w) (scope_at w s)) (PartFits later (alive_in after) (scope_at w s)) (subs w s) k.scope.seen.parts
               (λ i y at e. part_same w after h nx rows later (scope_at w s) i y (sub_born w s i at) (agree i (sub_born w s i at)) e) k.scope.fits.parts)
@@ -224,7 +234,7 @@ module _ (p : Program) (w : World) (h : Facts w) (u x g : ℕ) (q : Option ℕ) 
     apart : Apart opened
     apart = apart_births f.entries (λ r has. (h.entered u r alive has).once)
 
-    forker_fits : FrameFits later after next (forked p k.own k.scope.place k.scope.seen row g q)
+    forker_fits : FrameFits later after next (forked p k.own k.scope.place k.scope.seen k.ways g q)
     forker_fits =
         record {
           frame = ap (λ (z : Frame). steps z args []) k.old.fits.frame;
@@ -232,6 +242,20 @@ module _ (p : Program) (w : World) (h : Facts w) (u x g : ℕ) (q : Option ℕ) 
           scopes = all_put_place (SeenFits rows w) (SeenFits later after) opened k.own.scopes k.scope.place s seen k.old.fits.scopes apart k.scope.at seen_fits
               (λ r y at other e. seen_same w after h nx rows later r y (scope_same r) (subs_other born r other) agree e);
         }
+
+opened_only : (a : Phase) → not (is_opened a) ≡ false → is_joined a ≡ true → ⊥
+opened_only Opened e k = cc
+opened_only _ e k = cc
+
+not_asked : {A B : Type 0} (a b : Phase) → not (is_opened a) ≡ false → (a ≡ b) ⊎ (a ≡ Closing) → A ⊎ ((is_joined b ≡ true) × B) → A
+not_asked a b e same (inl k) = k
+not_asked a b e (inl same) (inr k) = absurd (opened_only a e (ap is_joined same ∙ k.0))
+not_asked a b e (inr same) (inr k) = absurd (no (sym (ap (λ z. not (is_opened z)) same) ∙ e))
+
+known_gone : (q : Knowledge) (scope : Scope) → is_cancelled q ≡ true → IsRight q scope → scope.cancelled ≡ true
+known_gone ByJoiner scope e r = r
+known_gone Unseen scope e r = cc
+known_gone Heard scope e r = cc
 
 -- ---- a row for the new task
 
@@ -252,26 +276,58 @@ row_listed t rows n row old new k = by (k == n)
     by false = old k
 
 -- the row, and what it is if the forker is watched
-record Chosen (p : Program) (t : Table) (w : World) (u x g : ℕ) (rows : ℕ → Row) : Type 0 where
+record Chosen (p : Program) (t : Table) (w : World) (u x g : ℕ) (q : Option ℕ) (rows : ℕ → Row) : Type 0 where
   pub row : Row
   pub listed : Among t row
-  pub forker : Watched w u → Forker p t w u x g rows row
+  pub forker : Watched w u → Forker p t w u x g q rows row
 
 module _ (p : Program) (t : Table) (root : Row) (is : IsTable p t root) (w : World) (h : Facts w) (u x g : ℕ) (q : Option ℕ) (d : Does p w u (Fork x g q)) where
   mine : slot (f p w h u x g q) x ≡ slots.Own (s p w h u x g q)
   mine = own_slot (slot (task_at w u).frame x) (first_no _ _ (first_no _ _ d.fine.slots)) d.fine.own
 
-  choose : (c : Covers p t root w) → Watched w u ⊎ (Watched w u → ⊥) → Chosen p t w u x g c.rows
+  legal : not (is_opened (scope_at w (s p w h u x g q)).phase) ≡ false
+  legal = sym (at_own-is w (slot (task_at w u).frame x) (λ n z. not (is_opened z.phase)) mine) ∙ d.fine.legal
+
+  -- before a `join` nothing was asked
+  unasked : (rows : ℕ → Row) (own : Own) (o : OwnScope rows w (task_at w u).frame own x (s p w h u x g q)) → o.seen.asked ≡ nothing
+  unasked rows own o = not_asked (scope_at w (s p w h u x g q)).phase o.seen.phase legal o.fits.phase o.fits.asked
+
+  -- whether the owner has seen that the scope is cancelled
+  by_knowledge : (c : Covers p t root w) → Watched w u → (own : Own) → TaskFits c.rows w u own → (o : OwnScope c.rows w (task_at w u).frame own x (s p w h u x g q)) → (b : Bool) → is_cancelled o.seen.knowledge ≡ b → Chosen p t w u x g q c.rows
+  by_knowledge c watched own k o false e =
+      let r : (to_row : Row) × IsRowOf t to_row (call_of p own o.seen g) =
+      is.forks (c.rows u) own x g o.place q o.seen (c.listed u) k.there (instr_of p (task_at w u).frame own (Fork x g q) k.fits.frame d.at) o.owns e
+      in
+      record {
+        row = r.0;
+        listed = r.1.there;
+        forker = λ seen. record { own = own; old = k; scope = o; ways = r.0.ways; step = fork_step o.place o.seen r.0 o.owns e r.1; unasked = unasked c.rows own o; is_row = λ free. r.1; told = λ free end way. way };
+      }
+  by_knowledge c watched own k o true e =
+      let gone : (scope_at w (s p w h u x g q)).cancelled ≡ true = known_gone o.seen.knowledge (scope_at w (s p w h u x g q)) e o.fits.known in
+      record {
+        row = root;
+        listed = is.listed;
+        forker = λ seen. record {
+          own = own;
+          old = k;
+          scope = o;
+          ways = [];
+          step = unstarted_step o.place o.seen o.owns e;
+          unasked = unasked c.rows own o;
+          is_row = λ free. absurd (no (sym gone ∙ free));
+          told = λ free. absurd (no (sym gone ∙ free));
+        };
+      }
+
+  choose : (c : Covers p t root w) → Watched w u ⊎ (Watched w u → ⊥) → Chosen p t w u x g q c.rows
   choose c (inl watched) =
       let old : (own : Own) × TaskFits c.rows w u own = c.tasks u d.alive watched in
       let o : OwnScope c.rows w (task_at w u).frame old.0 x (s p w h u x g q) = own_scope c.rows w (task_at w u).frame old.0 x (s p w h u x g q) old.1.fits mine in
-      let r : (to_row : Row) × IsRowOf t to_row (call_of p old.0 o.seen g) =
-      is.forks (c.rows u) old.0 x g o.place q o.seen (c.listed u) old.1.there (instr_of p (task_at w u).frame old.0 (Fork x g q) old.1.fits.frame d.at) o.owns
-      in
-      record { row = r.0; listed = r.1.there; forker = λ seen. record { own = old.0; old = old.1; scope = o; is_row = r.1 } }
+      by_knowledge c watched old.0 old.1 o (is_cancelled o.seen.knowledge) refl
   choose c (inr never) = record { row = root; listed = is.listed; forker = λ watched. absurd (never watched) }
 
-  module _ (c : Covers p t root w) (nx : Next w (after p w h u x g q)) (flags : FlagsByCancel w (after p w h u x g q)) (o : Chosen p t w u x g c.rows) where
+  module _ (c : Covers p t root w) (nx : Next w (after p w h u x g q)) (flags : FlagsByCancel w (after p w h u x g q)) (o : Chosen p t w u x g q c.rows) where
     abbrev v : World
     v = after p w h u x g q
 
@@ -293,16 +349,16 @@ module _ (p : Program) (t : Table) (root : Row) (is : IsTable p t root) (w : Wor
     forker_covered : Watched v u → (own : Own) × TaskFits later v u own
     forker_covered watched =
         let k = o.forker (watched_before w v h nx u born watched) in
-        let next_own : Own = forked p k.own k.scope.place k.scope.seen o.row g q in
+        let next_own : Own = forked p k.own k.scope.place k.scope.seen k.ways g q in
+        let fits : FrameFits later v (next p w h u x g q) next_own = forker_fits p w h u x g q nx born d.alive t c.rows later o.row agree (row_new c.rows m o.row) k in
         let there : Among (c.rows u).states next_own =
         is.closed (c.rows u) k.own next_own (Fork x g q) (c.listed u) k.old.there (instr_of p (task_at w u).frame k.own (Fork x g q) k.old.fits.frame d.at)
-        (fork_step k.scope.place k.scope.seen o.row k.scope.owns k.is_row)
+        k.step (are_possible later v nx.right (births_in (task_at w u).frame.entries) next_own.scopes fits.scopes)
         in (
           next_own,
           record {
             there = subst (λ (r : Row). Among r.states next_own) (sym (agree u born)) there;
-            fits = subst (λ (y : Task). FrameFits later v y.frame next_own) (sym (task_forker p w h u x g q born))
-                (forker_fits p w h u x g q nx born d.alive t c.rows later o.row agree (row_new c.rows m o.row) k);
+            fits = subst (λ (y : Task). FrameFits later v y.frame next_own) (sym (task_forker p w h u x g q born)) fits;
             flag = flag_stays w v h nx flags u born watched k.old.flag;
             environment = environment_stays w v h nx u born ∙ k.old.environment ∙ ap (λ (r : Row). r.call.environment) (sym (agree u born));
           },
@@ -315,7 +371,8 @@ module _ (p : Program) (t : Table) (root : Row) (is : IsTable p t root) (w : Wor
         let same : (scope_at v (s p w h u x g q)).owner ≡ u = ap (λ (z : Scope). z.owner) (scope_same p w h u x g q (s p w h u x g q)) ∙ owner in
         let before : Watched w u = watched_before w v h nx u born (subst (λ k. Watched v k) same by_owner) in
         let k = o.forker before in
-        (begin held.Lent (call_of p k.own k.scope.seen g), child_fits p w h u x g q nx born d.alive t c.rows later o.row agree (row_new c.rows m o.row) k)
+        let free : (scope_at w (s p w h u x g q)).cancelled ≡ false = ap (λ (z : Scope). z.cancelled) (sym (scope_same p w h u x g q (s p w h u x g q))) ∙ free_around v nx.right m (s p w h u x g q) inside watched in
+        (begin held.Lent (call_of p k.own k.scope.seen g), child_fits p w h u x g q nx born d.alive t c.rows later o.row agree (row_new c.rows m o.row) k free)
 
     other_covered : (k : ℕ) → k < m → (k ≡ u → ⊥) → lives (task_at v k) ≡ true → Watched v k → (own : Own) × TaskFits later v k own
     other_covered k less other alive watched =

@@ -1,5 +1,5 @@
 -- A `join` has its outcome.
-use Rattle.std.proofs.Common.{◌≡◌, ℕ, ◌<◌, inl, List, [], ◌∷◌}
+use Rattle.std.proofs.Common.{◌≡◌, ℕ, ◌<◌, inl, List, [], ◌∷◌, ◌⊎◌, inr}
 use Rattle.std.proofs.Common.{Bool, true, false, Option, Some, None, refl, sym, ◌∙◌, ap, subst, length}
 use Rattle.std.proofs.Common.{set, cond, not, map, ◌||◌, unwrap_or}
 use Rattle.std.specs.Prelude.{slice_get, pos, negsuc, find}
@@ -27,7 +27,7 @@ use Rattle.sts_model.specs.World.{World, task_at, scope_at, with_task}
 use Rattle.sts_model.specs.Local.{goes}
 use Rattle.sts_model.specs.Living.{lives, any_lives, subtask_count, ends, ends_of, completion_of, sub_state, parent}
 use Rattle.sts_model.specs.Joining.{is_success, is_failure, cancels, result_of, verdict_or}
-use Rattle.sts_model.specs.Misuse.{slot, can_join, misuse, fault_at, fault_of, IsFine}
+use Rattle.sts_model.specs.Misuse.{slot, can_join, misuse, fault_at, fault_of, IsFine, is_joined}
 use Rattle.sts_model.specs.Waiting.{stand_at_instr, stands_at_join, can_go, stand_at}
 use Rattle.sts_model.specs.Effect.{named, with_phase, join_verdict, join_scope}
 use Rattle.sts_model.specs.Effect as effects
@@ -38,19 +38,21 @@ use Rattle.laws_runs.proofs.EventLemmas.{Next}
 use Rattle.laws_runs.proofs.FrameLemmas.{own_slot, at_own-is, Leaves}
 use Rattle.laws_runs.proofs.StayLemmas.{ended_is_dead}
 use Rattle.laws_runs.proofs.BirthLemmas.{born_alive}
-use Rattle.laws_calls.specs.Tasks.{Among, AllTwo, May, Part, Seen, Own, bare, births_in}
+use Rattle.laws_calls.specs.Tasks.{Among, AllTwo, May, Part, Seen, Own, bare, births_in, ByJoiner, Heard, nothing}
 use Rattle.laws_calls.specs.Steps.{Row, Table, IsTable, Steps, MayEnd, with_seen, answered, joined, decided, only, ended, after_cancel, after_all}
 use Rattle.laws_calls.specs.Steps.{by_one_step, by_count_step, heard_step, none_step, is_by_one, is_until, is_any}
 use Rattle.laws_calls.specs.Covers.{subs, PartFits, ScopeFits, SeenFits, HeldFits, FrameFits, TaskFits, IsRight}
 use Rattle.laws_calls.specs.Covers.{Covers, alive_in}
-use Rattle.laws_calls.specs.Triggers.{is_trigger}
+use Rattle.laws_calls.specs.Triggers.{is_trigger, triggers}
+use Rattle.laws_calls.specs.Fitting.{MayCount, Answers}
+use Rattle.laws_calls.proofs.Possible.{are_possible, counts_most, enough, fewer_heard}
 use Rattle.laws_calls.proofs.Lists.{all_map, all_at, all_put, all_right, all_length, all_put_place, Apart, among_get, no}
 use Rattle.laws_calls.proofs.Turns.{Facts, FlagsByCancel, part_same, seen_same, held_same, apart_births, sub_born, sub_listed, listed_inside}
 use Rattle.laws_calls.proofs.Moves.{GoesOn, covers_turned, subs_same, OwnScope, own_scope}
 use Rattle.laws_calls.proofs.Phases.{Rescoped, rescoped_phase, rescoped_flag, rescoped_frame}
 use Rattle.laws_calls.proofs.Told.{who, state_among, First, first_end, find_none, none_passes, one_verdict, any_verdict, neither}
 use Rattle.laws_calls.proofs.Alone.{instr_of, unknown, unheard}
-use Rattle.laws_calls.proofs.Counts.{subs_count}
+use Rattle.laws_calls.proofs.Counts.{subs_count, states_in}
 
 -- if no row of misuse applies, nothing is misused
 no_misuse : (p : Program) (w : World) (t : ℕ) (i : Instr) → IsFine p w t (task_at w t).frame i → fault_of p w t (task_at w t).frame i ≡ None
@@ -113,7 +115,7 @@ module _ (p : Program) (t : Table) (root : Row) (is : IsTable p t root) (w : Wor
   -- ---- the state of the table goes on
 
   -- what the table answers, and what it knows of the scope then
-  record Answers (rows : ℕ → Row) (own : Own) (o : OwnScope rows w f own x s) : Type 0 where
+  record Outcome (rows : ℕ → Row) (own : Own) (o : OwnScope rows w f own x s) : Type 0 where
     pub answer : Verdict
     pub seen : Seen
     pub same : told ≡ answer
@@ -134,6 +136,8 @@ module _ (p : Program) (t : Table) (root : Row) (is : IsTable p t root) (w : Wor
           environment = k.environment;
           phase = k.phase;
           known = k.known;
+          counts = k.counts;
+          asked = k.asked;
           parts = all_map (PartFits rows (alive_in w) after_join) (PartFits rows (alive_in v) after_join) (subs w s) y.parts
               (λ i part at e. part_same w v h nx rows rows after_join i part (sub_born w s i at) refl e) k.parts;
         }))
@@ -155,16 +159,17 @@ module _ (p : Program) (t : Table) (root : Row) (is : IsTable p t root) (w : Wor
   abbrev g : Frame
   g = answered told f (unwrap_or failed 0)
 
-  goes_on : (c : Covers p t root w) (v : World) → Next w v → Rescoped w v u s g after_join → (own : Own) → TaskFits c.rows w u own → (o : OwnScope c.rows w f own x s) → Answers c.rows own o → GoesOn c.rows v u g
+  goes_on : (c : Covers p t root w) (v : World) → Next w v → Rescoped w v u s g after_join → (own : Own) → TaskFits c.rows w u own → (o : OwnScope c.rows w f own x s) → Outcome c.rows own o → GoesOn c.rows v u g
   goes_on c v nx re own k o a =
       let next : Own = joined own o.place a.seen a.answer (unwrap_or failed 0) in
       let frame : bare g ≡ answered a.answer own.frame (unwrap_or failed 0) =
       bare_answered told f (unwrap_or failed 0) ∙ ap (λ (z : Frame). answered told z (unwrap_or failed 0)) k.fits.frame ∙ ap (λ q. answered q own.frame (unwrap_or failed 0)) a.same
       in
+      let fits : FrameFits c.rows v g next = fits_joined g v nx re c.rows own k o (record a.seen { phase = Joined }) (answered a.answer own.frame (unwrap_or failed 0)) (leaves_answered told f (unwrap_or failed 0)) frame a.fits in
       record {
         own = next;
-        there = is.closed (c.rows u) own next (Join x failed timeout to_i) (c.listed u) k.there (instr_of p f own (Join x failed timeout to_i) k.fits.frame d.at) a.step;
-        fits = fits_joined g v nx re c.rows own k o (record a.seen { phase = Joined }) (answered a.answer own.frame (unwrap_or failed 0)) (leaves_answered told f (unwrap_or failed 0)) frame a.fits;
+        there = is.closed (c.rows u) own next (Join x failed timeout to_i) (c.listed u) k.there (instr_of p f own (Join x failed timeout to_i) k.fits.frame d.at) a.step (are_possible c.rows v nx.right (births_in g.entries) next.scopes fits.scopes);
+        fits = fits;
       }
 
   -- ---- what the table may answer
@@ -202,15 +207,21 @@ module _ (p : Program) (t : Table) (root : Row) (is : IsTable p t root) (w : Wor
     parts_joined : (z : Seen) → AllTwo (PartFits rows (alive_in w) scope) (subs w s) z.parts → AllTwo (PartFits rows (alive_in w) after_join) (subs w s) z.parts
     parts_joined z k = all_map (PartFits rows (alive_in w) scope) (PartFits rows (alive_in w) after_join) (subs w s) z.parts (λ i part at e. record { may = e.may; whole = e.whole }) k
 
+    asked_joined : (z : Seen) → z.asked ≡ o.seen.asked → (o.seen.asked ≡ nothing) ⊎ ((is_joined o.seen.phase ≡ true) × Answers o.seen.asked (states_in w s)) → (z.asked ≡ nothing) ⊎ ((is_joined Joined ≡ true) × Answers z.asked (states_in w s))
+    asked_joined z same (inl e) = inl (same ∙ e)
+    asked_joined z same (inr k) = inr (refl, subst (λ a. Answers a (states_in w s)) (sym same) k.1)
+
     -- with other knowledge and other parts
-    fits_with : (z : Seen) → z.joiner ≡ o.seen.joiner → z.timed ≡ o.seen.timed → z.environment ≡ o.seen.environment → IsRight z.knowledge after_join → AllTwo (PartFits rows (alive_in w) scope) (subs w s) z.parts → ScopeFits rows (alive_in w) after_join (subs w s) (record z { phase = Joined })
-    fits_with z joiner timed environment known k =
+    fits_with : (z : Seen) → z.joiner ≡ o.seen.joiner → z.timed ≡ o.seen.timed → z.environment ≡ o.seen.environment → z.asked ≡ o.seen.asked → IsRight z.knowledge after_join → MayCount z.knowledge Joined z.joiner (triggers z.joiner (ends scope)) → AllTwo (PartFits rows (alive_in w) scope) (subs w s) z.parts → ScopeFits rows (alive_in w) after_join (subs w s) (record z { phase = Joined })
+    fits_with z joiner timed environment asked known counts k =
         record {
           joiner = joiner ∙ o.fits.joiner;
           timed = timed ∙ o.fits.timed;
           environment = environment ∙ o.fits.environment;
           phase = inl refl;
           known = known;
+          counts = counts;
+          asked = asked_joined z asked o.fits.asked;
           parts = parts_joined z k;
         }
 
@@ -225,9 +236,15 @@ module _ (p : Program) (t : Table) (root : Row) (is : IsTable p t root) (w : Wor
 
     -- ---- a scope that its joiner has cancelled
 
-    by_one : scope.cancelled ≡ true → (test : End → Bool) (j : Joiner) → scope.joiner ≡ j → is_by_one j ≡ true → ((e : End) → test e ≡ true → is_trigger j e ≡ true)
-        → (b : First test (ends scope)) → result_of j (ends scope) (subtask_count w s) ≡ result_of j (b.end ∷ []) (length parts) → Answers rows own o
-    by_one gone test j is_j one triggers b same =
+    gone_counts : is_asked scope ≡ true → MayCount ByJoiner Joined o.seen.joiner (triggers o.seen.joiner (ends scope))
+    gone_counts asked = (
+      enough o.seen.joiner (ends scope) (ap (λ k. cancels k (ends scope)) o.fits.joiner ∙ asked),
+      counts_most o.seen.knowledge o.seen.phase o.seen.joiner (triggers o.seen.joiner (ends scope)) o.fits.counts,
+    )
+
+    by_one : scope.cancelled ≡ true → is_asked scope ≡ true → (test : End → Bool) (j : Joiner) → scope.joiner ≡ j → is_by_one j ≡ true → ((e : End) → test e ≡ true → is_trigger j e ≡ true)
+        → (b : First test (ends scope)) → result_of j (ends scope) (subtask_count w s) ≡ result_of j (b.end ∷ []) (length parts) → Outcome rows own o
+    by_one gone asked test j is_j one triggers b same =
         let e : End = b.end in
         let c : EndedBy e = ended_by e b.there in
         let seen_j : o.seen.joiner ≡ j = o.fits.joiner ∙ is_j in
@@ -237,33 +254,33 @@ module _ (p : Program) (t : Table) (root : Row) (is : IsTable p t root) (w : Wor
           same = ap (λ k. result_of k (ends scope) (subtask_count w s)) is_j ∙ same ∙ ap (λ k. result_of k (e ∷ []) (length parts)) (sym seen_j);
           step = by_one_step o.place o.seen c.i e o.owns (unheard o.seen.knowledge scope o.fits.known gone) (subst (λ k. is_by_one k ≡ true) (sym seen_j) one) c.may
               (subst (λ k. is_trigger k e ≡ true) (sym seen_j) (triggers e b.passes));
-          fits = fits_with (decided (after_cancel o.seen) c.i e) refl refl refl gone (parts_decided o.seen e c o.fits.parts);
+          fits = fits_with (decided (after_cancel o.seen) c.i e) refl refl refl refl gone (gone_counts asked) (parts_decided o.seen e c o.fits.parts);
         }
 
-    by_count : scope.cancelled ≡ true → (j : Joiner) → scope.joiner ≡ j → is_until j ≡ true → ((n : ℕ) (es : List End) → result_of j es n ≡ result_of j [] n) → Answers rows own o
-    by_count gone j is_j until none =
+    by_count : scope.cancelled ≡ true → is_asked scope ≡ true → (j : Joiner) → scope.joiner ≡ j → is_until j ≡ true → ((n : ℕ) (es : List End) → result_of j es n ≡ result_of j [] n) → Outcome rows own o
+    by_count gone asked j is_j until none =
         let seen_j : o.seen.joiner ≡ j = o.fits.joiner ∙ is_j in
         record {
           answer = result_of o.seen.joiner [] (length parts);
           seen = after_cancel o.seen;
           same = ap (λ k. result_of k (ends scope) (subtask_count w s)) is_j ∙ none (subtask_count w s) (ends scope) ∙ ap (λ n. result_of j [] n) count ∙ ap (λ k. result_of k [] (length parts)) (sym seen_j);
           step = by_count_step o.place o.seen o.owns (unheard o.seen.knowledge scope o.fits.known gone) (subst (λ k. is_until k ≡ true) (sym seen_j) until);
-          fits = fits_with (after_cancel o.seen) refl refl refl gone o.fits.parts;
+          fits = fits_with (after_cancel o.seen) refl refl refl refl gone (gone_counts asked) o.fits.parts;
         }
 
-    cancelled_answers : scope.cancelled ≡ true → (j : Joiner) → scope.joiner ≡ j → cancels j (ends scope) ≡ true → Answers rows own o
-    cancelled_answers gone AllSucceed is_j asked =
+    cancelled_answers : scope.cancelled ≡ true → is_asked scope ≡ true → (j : Joiner) → scope.joiner ≡ j → cancels j (ends scope) ≡ true → Outcome rows own o
+    cancelled_answers gone told_asked AllSucceed is_j asked =
         let b = first_end is_failure (ends scope) asked in
-        by_one gone is_failure AllSucceed is_j refl (λ e passes. passes) b (one_verdict is_failure (ends scope) b (verdict.Ok (Some (pos (subtask_count w s)))) (verdict.Ok (Some (pos (length parts)))))
-    cancelled_answers gone AwaitOk is_j asked =
+        by_one gone told_asked is_failure AllSucceed is_j refl (λ e passes. passes) b (one_verdict is_failure (ends scope) b (verdict.Ok (Some (pos (subtask_count w s)))) (verdict.Ok (Some (pos (length parts)))))
+    cancelled_answers gone told_asked AwaitOk is_j asked =
         let b = first_end is_failure (ends scope) asked in
-        by_one gone is_failure AwaitOk is_j refl (λ e passes. passes) b (one_verdict is_failure (ends scope) b (verdict.Ok None) (verdict.Ok None))
-    cancelled_answers gone AnySucceeds is_j asked =
+        by_one gone told_asked is_failure AwaitOk is_j refl (λ e passes. passes) b (one_verdict is_failure (ends scope) b (verdict.Ok None) (verdict.Ok None))
+    cancelled_answers gone told_asked AnySucceeds is_j asked =
         let b = first_end is_success (ends scope) asked in
-        by_one gone is_success AnySucceeds is_j refl (λ e passes. passes) b
+        by_one gone told_asked is_success AnySucceeds is_j refl (λ e passes. passes) b
         (one_verdict is_success (ends scope) b (verdict_or (find is_failure (ends scope)) (verdict.Failed (negsuc 0))) (verdict_or (find is_failure (b.end ∷ [])) (verdict.Failed (negsuc 0))))
-    cancelled_answers gone AwaitAll is_j asked = cc
-    cancelled_answers gone (Until q) is_j asked = by_count gone (Until q) is_j refl (λ n es. refl)
+    cancelled_answers gone told_asked AwaitAll is_j asked = cc
+    cancelled_answers gone told_asked (Until q) is_j asked = by_count gone told_asked (Until q) is_j refl (λ n es. refl)
 
     -- ---- all subtasks have ended
 
@@ -298,7 +315,10 @@ module _ (p : Program) (t : Table) (root : Row) (is : IsTable p t root) (w : Wor
               let never : list_any test (ends scope) ≡ false = ap (λ cs. list_any test (ends_of cs)) empty in
               absurd (no (sym e ∙ never))
 
-      by_heard : (j : Joiner) → scope.joiner ≡ j → (is_any j ≡ true → parts ≡ []) → result_of j (ends scope) (subtask_count w s) ≡ result_of j [] (subtask_count w s) → Answers rows own o
+      heard_counts : MayCount Heard Joined o.seen.joiner (triggers o.seen.joiner (ends scope))
+      heard_counts = fewer_heard o.seen.joiner (ends scope) (λ e. ap ends_of ((h.caused s born_s).asked free (ap (λ k. cancels k (ends scope)) (sym o.fits.joiner) ∙ e)))
+
+      by_heard : (j : Joiner) → scope.joiner ≡ j → (is_any j ≡ true → parts ≡ []) → result_of j (ends scope) (subtask_count w s) ≡ result_of j [] (subtask_count w s) → Outcome rows own o
       by_heard j is_j any same =
           let seen_j : o.seen.joiner ≡ j = o.fits.joiner ∙ is_j in
           record {
@@ -306,7 +326,7 @@ module _ (p : Program) (t : Table) (root : Row) (is : IsTable p t root) (w : Wor
             seen = after_all o.seen;
             same = ap (λ k. result_of k (ends scope) (subtask_count w s)) is_j ∙ same ∙ ap (λ n. result_of j [] n) count ∙ ap (λ k. result_of k [] (length parts)) (sym seen_j);
             step = heard_step o.place o.seen o.owns (unknown o.seen.knowledge scope o.fits.known free) (λ e. any (ap is_any (sym seen_j) ∙ e));
-            fits = fits_with (after_all o.seen) refl refl refl (free, refl) heard_parts;
+            fits = fits_with (after_all o.seen) refl refl refl refl (free, refl) heard_counts heard_parts;
           }
 
       -- a scope without subtasks
@@ -330,7 +350,7 @@ module _ (p : Program) (t : Table) (root : Row) (is : IsTable p t root) (w : Wor
           by [] (part ∷ ps) among k = absurd k
           by (i ∷ us) ps among k = absurd (never i (among i (inl refl)) (completion_of scope.completions i) refl)
 
-      by_none : scope.joiner ≡ AnySucceeds → list_any is_success (ends scope) ≡ false → First is_failure (ends scope) → Answers rows own o
+      by_none : scope.joiner ≡ AnySucceeds → list_any is_success (ends scope) ≡ false → First is_failure (ends scope) → Outcome rows own o
       by_none is_j no_success b =
           let e : End = b.end in
           let c : EndedBy e = ended_by e b.there in
@@ -345,10 +365,10 @@ module _ (p : Program) (t : Table) (root : Row) (is : IsTable p t root) (w : Wor
                 ∙ any_verdict e b.passes
                 ∙ ap (λ k. result_of k (e ∷ []) (length parts)) (sym seen_j);
             step = none_step o.place o.seen c.i e o.owns (unknown o.seen.knowledge scope o.fits.known free) (ap is_any seen_j) c.may b.passes;
-            fits = fits_with (decided (after_all o.seen) c.i e) refl refl refl (free, refl) (parts_decided (after_all o.seen) e c heard_parts);
+            fits = fits_with (decided (after_all o.seen) c.i e) refl refl refl refl (free, refl) heard_counts (parts_decided (after_all o.seen) e c heard_parts);
           }
 
-      any_answers : scope.joiner ≡ AnySucceeds → list_any is_success (ends scope) ≡ false → (b : Bool) → list_any is_failure (ends scope) ≡ b → Answers rows own o
+      any_answers : scope.joiner ≡ AnySucceeds → list_any is_success (ends scope) ≡ false → (b : Bool) → list_any is_failure (ends scope) ≡ b → Outcome rows own o
       any_answers is_j no_success true e = by_none is_j no_success (first_end is_failure (ends scope) e)
       any_answers is_j no_success false e =
           by_heard AnySucceeds is_j (λ any. no_parts no_success e)
@@ -358,7 +378,7 @@ module _ (p : Program) (t : Table) (root : Row) (is : IsTable p t root) (w : Wor
       asks_if : (j : Joiner) → scope.joiner ≡ j → cancels j (ends scope) ≡ true → is_asked scope ≡ true
       asks_if j is_j e = ap (λ k. cancels k (ends scope)) is_j ∙ e
 
-      heard_answers : (j : Joiner) → scope.joiner ≡ j → Answers rows own o
+      heard_answers : (j : Joiner) → scope.joiner ≡ j → Outcome rows own o
       heard_answers AllSucceed is_j =
           let quiet = unasked is_failure (asks_if AllSucceed is_j) in
           by_heard AllSucceed is_j (λ e. absurd (no (sym e))) (ap (λ q. verdict_or q (verdict.Ok (Some (pos (subtask_count w s))))) (find_none is_failure (ends scope) quiet))
@@ -371,11 +391,11 @@ module _ (p : Program) (t : Table) (root : Row) (is : IsTable p t root) (w : Wor
 
     -- ---- either
 
-    answers : scope.expired ≡ false → (scope.cancelled || not (any_lives w s)) ≡ true → Answers rows own o
+    answers : scope.expired ≡ false → (scope.cancelled || not (any_lives w s)) ≡ true → Outcome rows own o
     answers timely done = by scope.cancelled refl (any_lives w s) refl done
       where
-        by : (a : Bool) → scope.cancelled ≡ a → (b : Bool) → any_lives w s ≡ b → (a || not b) ≡ true → Answers rows own o
-        by true gone b e k = cancelled_answers gone scope.joiner refl ((h.caused s born_s).cause gone timely (staying scope.phase legal))
+        by : (a : Bool) → scope.cancelled ≡ a → (b : Bool) → any_lives w s ≡ b → (a || not b) ≡ true → Outcome rows own o
+        by true gone b e k = let asked = (h.caused s born_s).cause gone timely (staying scope.phase legal) in cancelled_answers gone asked scope.joiner refl asked
         by false free false none k = heard_answers free none scope.joiner refl
         by false free true some k = cc
 

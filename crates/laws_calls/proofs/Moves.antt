@@ -209,5 +209,7 @@ put_part rows w s x i u part f at new =
       environment = f.environment;
       phase = f.phase;
       known = f.known;
+      counts = f.counts;
+      asked = f.asked;
       parts = all_put (PartFits rows (alive_in w) (scope_at w s)) (subs w s) x.parts i u part f.parts at new;
     }

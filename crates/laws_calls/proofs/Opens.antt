@@ -28,7 +28,7 @@ use Rattle.laws_runs.proofs.EventLemmas.{Next}
 use Rattle.laws_runs.proofs.BirthLemmas.{born_alive, new_scope, opener}
 use Rattle.laws_calls.specs.Held.{Held}
 use Rattle.laws_calls.specs.Held as held
-use Rattle.laws_calls.specs.Tasks.{at_place, Seen, Own, births_in, bindings, Unseen}
+use Rattle.laws_calls.specs.Tasks.{AllTwo, at_place, Seen, Own, births_in, bindings, Unseen, nothing}
 use Rattle.laws_calls.specs.Steps.{Row, Table, IsTable, opened, open_step}
 use Rattle.laws_calls.specs.Covers.{subs, ScopeFits, SeenFits, HeldFits, TaskFits}
 use Rattle.laws_calls.specs.Covers.{Covers, alive_in}
@@ -36,6 +36,7 @@ use Rattle.laws_calls.proofs.Lists.{all_map, all_set, all_length, at_first}
 use Rattle.laws_calls.proofs.Lists as lists
 use Rattle.laws_calls.proofs.Turns.{Facts, FlagsByCancel, seen_same, births_has}
 use Rattle.laws_calls.proofs.Moves.{Turned, GoesOn, covers_turned, subs_same}
+use Rattle.laws_calls.proofs.Possible.{are_possible, no_trigger}
 use Rattle.laws_calls.proofs.Alone.{instr_of, bindings_same}
 
 filter_none : (test : ℕ → Bool) (us : List ℕ) → ((u : ℕ) → test u ≡ false) → filter test us ≡ []
@@ -111,9 +112,9 @@ module _ (p : Program) (t : Table) (root : Row) (is : IsTable p t root) (w : Wor
   held_more born (slots.Sub q) (held.Sub place i) e = (e.0, (lists.at_more n old place e.0 e.1.0, subst (λ us. slice_get us i ≡ Some q) (sym (same_subs born e.0)) e.1.1))
   held_more born a b e = absurd e
 
-  fresh : (rows : ℕ → Row) (own : Own) → u < length w.tasks → TaskFits rows w u own → SeenFits rows after n (record { joiner = joiner; timed = timed; environment = bindings (rows u).call own; phase = Opened; knowledge = Unseen; parts = [] })
+  fresh : (rows : ℕ → Row) (own : Own) → u < length w.tasks → TaskFits rows w u own → SeenFits rows after n (record { joiner = joiner; timed = timed; environment = bindings (rows u).call own; phase = Opened; knowledge = Unseen; asked = nothing; parts = [] })
   fresh rows own born k =
-      let y : Seen = record { joiner = joiner; timed = timed; environment = bindings (rows u).call own; phase = Opened; knowledge = Unseen; parts = [] } in
+      let y : Seen = record { joiner = joiner; timed = timed; environment = bindings (rows u).call own; phase = Opened; knowledge = Unseen; asked = nothing; parts = [] } in
       subst (λ (scope : Scope). ScopeFits rows (alive_in after) scope (subs after n) y) (sym scope_new)
       (subst (λ us. ScopeFits rows (alive_in after) new us y) (sym (none_inside born))
       (record {
@@ -122,20 +123,29 @@ module _ (p : Program) (t : Table) (root : Row) (is : IsTable p t root) (w : Wor
         environment = sym (bindings_same p t root is w h rows u own k);
         phase = inl refl;
         known = tt;
+        counts = no_trigger joiner;
+        asked = inl refl;
         parts = tt;
       }))
+
+  scopes : (c : Covers p t root w) → Next w after → Does p w u (Open x joiner timed) → u < length w.tasks → (own : Own) → TaskFits c.rows w u own → AllTwo (SeenFits c.rows after) (n ∷ old) (opened (c.rows u).call own x joiner timed).scopes
+  scopes c next d born own k = (
+    fresh c.rows own born k,
+    all_map (SeenFits c.rows w) (SeenFits c.rows after) old own.scopes (λ s y at e. seen_same w after h next c.rows c.rows s y (scope_old s (h.entered u s d.alive (births_has f.entries s at)).born) (same_subs born s) (λ q less. refl) e) k.fits.scopes,
+  )
 
   goes_on : (c : Covers p t root w) → Next w after → Does p w u (Open x joiner timed) → u < length w.tasks → (own : Own) → TaskFits c.rows w u own → GoesOn c.rows after u g
   goes_on c next d born own k =
       record {
         own = opened (c.rows u).call own x joiner timed;
-        there = is.closed (c.rows u) own (opened (c.rows u).call own x joiner timed) (Open x joiner timed) (c.listed u) k.there (instr_of p f own (Open x joiner timed) k.fits.frame d.at) open_step;
+        there = is.closed (c.rows u) own (opened (c.rows u).call own x joiner timed) (Open x joiner timed) (c.listed u) k.there (instr_of p f own (Open x joiner timed) k.fits.frame d.at) open_step
+            (are_possible c.rows after next.right (n ∷ old) (opened (c.rows u).call own x joiner timed).scopes (scopes c next d born own k));
         fits = record {
           frame = ap (λ (z : Frame). record (steps z 0 []) { entries = entry.Scope 0 ∷ z.entries }) k.fits.frame;
           held = all_set (HeldFits after (n ∷ old)) f.slots own.held x (slots.Own n) (held.Own (length own.scopes))
               (all_map (HeldFits w old) (HeldFits after (n ∷ old)) f.slots own.held (λ a b at e. held_more born a b e) k.fits.held)
               (subst (λ m. at_place (n ∷ old) m ≡ Some n) (all_length (SeenFits c.rows w) old own.scopes k.fits.scopes) (at_first n old));
-          scopes = (fresh c.rows own born k, all_map (SeenFits c.rows w) (SeenFits c.rows after) old own.scopes (λ s y at e. seen_same w after h next c.rows c.rows s y (scope_old s (h.entered u s d.alive (births_has f.entries s at)).born) (same_subs born s) (λ q less. refl) e) k.fits.scopes);
+          scopes = scopes c next d born own k;
         };
       }
 

@@ -57,7 +57,7 @@ more_count {X} q xs x =
     let none : sum_by f [] ≡ 0 = refl in
     omega (arith, both, one, none)
 
-going_on : (j : Joiner) (ends : List End) → cancels j ends ≡ false → triggers j ends < limit j
+pub going_on : (j : Joiner) (ends : List End) → cancels j ends ≡ false → triggers j ends < limit j
 going_on j ends going = leb-false (limit j) (triggers j ends) (sym (cancels_by_count j ends) ∙ going)
 
 at_most_one : (b : Bool) → cond b 1 0 ≤ 1

@@ -1,7 +1,7 @@
 -- What a table covers of a run: the tasks that its owner still looks at, each by a state of its
 -- call (this project's own).
-use Rattle.std.specs.Prelude.{◌≡◌, ℕ, ◌⊎◌, List, [], ◌∷◌, Bool, true, false, Some}
-use Rattle.std.specs.Prelude.{slice_get}
+use Rattle.std.specs.Prelude.{◌≡◌, ℕ, ◌⊎◌, List, [], ◌∷◌, Bool, true, false, Option, Some}
+use Rattle.std.specs.Prelude.{slice_get, map}
 use Rattle.std.specs.List.{filter}
 use Rattle.sts_code.specs.Program.{Program}
 use Rattle.sts_model.specs.declared.event.End.{End}
@@ -12,15 +12,17 @@ use Rattle.sts_model.specs.declared.record.Slot.TheVariants as slots
 use Rattle.sts_model.specs.declared.record.Frame.{Frame}
 use Rattle.sts_model.specs.declared.record.Scope.{Scope}
 use Rattle.sts_model.specs.World.{World, task_at, scope_at}
-use Rattle.sts_model.specs.Living.{lives, is_subtask, completion_of, scope_of}
+use Rattle.sts_model.specs.Living.{lives, is_subtask, completion_of, scope_of, ends}
 use Rattle.sts_model.specs.Misuse.{is_joined}
 use Rattle.sts_model.specs.Run.{is_step}
 use Rattle.laws_runs.specs.Tallies.{births}
 use Rattle.laws_calls.specs.Held.{Held}
 use Rattle.laws_calls.specs.Held as held
 use Rattle.laws_calls.specs.Tasks.{Among, AllTwo, at_place, HasWay, Part, Knowledge, Unseen}
-use Rattle.laws_calls.specs.Tasks.{ByJoiner}
+use Rattle.laws_calls.specs.Tasks.{ByJoiner, nothing}
 use Rattle.laws_calls.specs.Tasks.{Heard, Seen, May, Own, bare, births_in}
+use Rattle.laws_calls.specs.Fitting.{MayCount, Answers}
+use Rattle.laws_calls.specs.Triggers.{triggers}
 use Rattle.laws_calls.specs.Steps.{Row, Table}
 
 -- the subtasks of a scope by birth, in fork order
@@ -43,6 +45,11 @@ IsRight Unseen scope = Unit {0}
 IsRight ByJoiner scope = scope.cancelled ≡ true
 IsRight Heard scope = (scope.cancelled ≡ false) × (is_joined scope.phase ≡ true)
 
+-- what its owner was told of its subtasks, after a `join`
+abbrev pub IsAsked : Seen → List (Option End) → Type 0
+IsAsked x states =
+    (x.asked ≡ nothing) ⊎ ((is_joined x.phase ≡ true) × Answers x.asked states)
+
 pub record ScopeFits (rows : ℕ → Row) (alive : ℕ → Bool) (scope : Scope) (subtasks : List ℕ)
     (x : Seen) : Type 0 where
   pub joiner : x.joiner ≡ scope.joiner
@@ -51,6 +58,8 @@ pub record ScopeFits (rows : ℕ → Row) (alive : ℕ → Bool) (scope : Scope)
   pub phase : (scope.phase ≡ x.phase) ⊎ (scope.phase ≡ Closing)
   pub known : IsRight x.knowledge scope
   pub parts : AllTwo (PartFits rows alive scope) subtasks x.parts
+  pub counts : MayCount x.knowledge x.phase x.joiner (triggers x.joiner (ends scope))
+  pub asked : IsAsked x (map (completion_of scope.completions) subtasks)
 
 -- ---- tasks
 

@@ -15,6 +15,7 @@ use Rattle.sts_code.specs.declared.instr.Joiner.{Joiner}
 use Rattle.sts_code.specs.declared.instr.Joiner.TheVariants.{AllSucceed, AnySucceeds, AwaitOk}
 use Rattle.sts_code.specs.declared.instr.Joiner.TheVariants.{Until}
 use Rattle.sts_code.specs.declared.instr.Kind.{Kind}
+use Rattle.sts_code.specs.declared.instr.Kind.TheVariants.{S, F, U}
 use Rattle.sts_model.specs.declared.event.End.{End}
 use Rattle.sts_model.specs.declared.event.End.TheVariants.{Success, Failed}
 use Rattle.sts_model.specs.declared.event.Phase.TheVariants.{Opened, Joined}
@@ -31,8 +32,9 @@ use Rattle.laws_runs.specs.Tallies.{is_kind}
 use Rattle.laws_calls.specs.Held.{Held, is_at}
 use Rattle.laws_calls.specs.Held as held
 use Rattle.laws_calls.specs.Tasks.{Among, at_place, put_place, Call, Way, HasWay, Part, Knowledge}
-use Rattle.laws_calls.specs.Tasks.{Unseen, ByJoiner, Heard, Seen, Picks, Own, begin, bindings}
+use Rattle.laws_calls.specs.Tasks.{nothing, Unseen, ByJoiner, Heard, Seen, Own, begin, bindings}
 use Rattle.laws_calls.specs.Tasks.{held_at}
+use Rattle.laws_calls.specs.Fitting.{Fits, ArePossible, heard_in}
 use Rattle.laws_calls.specs.Triggers.{is_trigger}
 
 -- ---- tables
@@ -78,12 +80,6 @@ kept test part = record { ways = filter (λ (way : Way). test way.end) part.ways
 abbrev pub ended : Part → Part
 ended part = record part { is_open = false }
 
--- the ends in a pick
-abbrev pub heard_in : List (Option End) → List End
-heard_in [] = []
-heard_in (None ∷ pick) = heard_in pick
-heard_in (Some e ∷ pick) = e ∷ heard_in pick
-
 -- the part had not ended when the owner looked; after that it may end only if nothing is known of a
 -- cancel
 abbrev pub missed : Knowledge → Part → Part
@@ -103,6 +99,7 @@ opened c own x joiner timed =
         environment = bindings c own;
         phase = Opened;
         knowledge = Unseen;
+        asked = nothing;
         parts = [];
       } ∷ own.scopes;
     }
@@ -120,14 +117,14 @@ abbrev pub with_handle : List Held → Option ℕ → Held → List Held
 with_handle slots None x = slots
 with_handle slots (Some h) x = slice_set slots h x
 
--- a new part, all of whose ways are possible
-abbrev pub forked : Program → Own → ℕ → Seen → Row → ℕ → Option ℕ → Own
-forked p own place x row g h =
+-- a new part, with these ways
+abbrev pub forked : Program → Own → ℕ → Seen → List Way → ℕ → Option ℕ → Own
+forked p own place x ways g h =
     record {
       frame = steps own.frame (routine p g).args [];
       held = with_handle own.held h (held.Sub place (length x.parts));
       scopes = put_place own.scopes place
-          (record x { parts = x.parts ++ record { ways = row.ways; is_open = true } ∷ [] });
+          (record x { parts = x.parts ++ record { ways = ways; is_open = true } ∷ [] });
     }
 
 abbrev pub clear : ℕ → Held → Held
@@ -190,6 +187,18 @@ after_all x = record x { knowledge = Heard; parts = map ended x.parts }
 abbrev pub decided : Seen → ℕ → End → Seen
 decided x i e = record x { parts = slice_set x.parts i (only e) }
 
+-- ---- answers
+
+-- after `tally` gave this number
+abbrev pub counted : Kind → ℕ → Seen → Seen
+counted S n x = record x { asked = record x.asked { successes = Some n } }
+counted F n x = record x { asked = record x.asked { failures = Some n } }
+counted U n x = record x { asked = record x.asked { unavailable = Some n } }
+
+-- after `total` gave this sum
+abbrev pub summed : ℤ → Seen → Seen
+summed sum x = record x { asked = record x.asked { total = Some sum } }
+
 -- ---- what a state has
 
 -- the slot holds the open scope at this place
@@ -250,9 +259,14 @@ pub data Steps (p : Program) (t : Table) (c : Call) (own : Own) : Instr → Own 
   -- scopes
   open_step : {x : ℕ} {joiner : Joiner} {timed : Bool}
       → Steps p t c own (Open x joiner timed) (opened c own x joiner timed)
+  -- a new part; no subtask runs in a scope that is known to be cancelled
   fork_step : {x g : ℕ} {h : Option ℕ} (place : ℕ) (seen : Seen) (row : Row)
-      → Owns own x place seen → IsRowOf t row (call_of p own seen g)
-      → Steps p t c own (Fork x g h) (forked p own place seen row g h)
+      → Owns own x place seen → is_cancelled seen.knowledge ≡ false
+      → IsRowOf t row (call_of p own seen g)
+      → Steps p t c own (Fork x g h) (forked p own place seen row.ways g h)
+  unstarted_step : {x g : ℕ} {h : Option ℕ} (place : ℕ) (seen : Seen)
+      → Owns own x place seen → is_cancelled seen.knowledge ≡ true
+      → Steps p t c own (Fork x g h) (forked p own place seen [] g h)
   close_step : {x : ℕ} → Steps p t c own (Close x) (closed own)
   -- `join` of a cancelled scope: one end decided, or as many as the joiner waits for
   by_one_step : {x to_i : ℕ} {failed timeout : Option ℕ} (place : ℕ) (seen : Seen) (i : ℕ) (e : End)
@@ -301,11 +315,14 @@ pub data Steps (p : Program) (t : Table) (c : Call) (own : Own) : Instr → Own 
       → Steps p t c own (Except h) (pushes (with_part own place seen i (only (Failed v))) 0 v)
   -- a count, a sum: of some pick
   tally_step : {x : ℕ} {kind : Kind} (place : ℕ) (seen : Seen) (pick : List (Option End))
-      → Owns own x place seen → Picks seen.parts pick
-      → Steps p t c own (Tally x kind) (pushes own 0 (pos (count_by (is_kind kind) pick)))
+      → Owns own x place seen → Fits seen pick
+      → Steps p t c own (Tally x kind) (pushes
+      (with_seen own place (counted kind (count_by (is_kind kind) pick) seen)) 0
+      (pos (count_by (is_kind kind) pick)))
   total_step : {x : ℕ} (place : ℕ) (seen : Seen) (pick : List (Option End))
-      → Owns own x place seen → Picks seen.parts pick
-      → Steps p t c own (Total x) (pushes own 0 (total_of (heard_in pick)))
+      → Owns own x place seen → Fits seen pick
+      → Steps p t c own (Total x) (pushes
+      (with_seen own place (summed (total_of (heard_in pick)) seen)) 0 (total_of (heard_in pick)))
 
 -- ---- a table that has all steps
 
@@ -324,13 +341,15 @@ pub record IsTable (p : Program) (t : Table) (root : Row) : Type 0 where
   pub listed : Among t root
   pub call : root.call ≡ root_call p
   pub begins : Among root.states (begin held.Empty (root_call p))
-  -- each fork has a row for its call
+  -- each fork has a row for its call, unless its scope is known to be cancelled
   pub forks : (row : Row) (own : Own) (x g place : ℕ) (h : Option ℕ) (seen : Seen) → Among t row
       → Among row.states own → instr_at p own.frame ≡ Some (Fork x g h) → Owns own x place seen
+      → is_cancelled seen.knowledge ≡ false
       → (to_row : Row) × IsRowOf t to_row (call_of p own seen g)
-  -- each step leads to a state of the row
+  -- each step to a state that is possible leads to a state of the row
   pub closed : (row : Row) (own next : Own) (i : Instr) → Among t row → Among row.states own
-      → instr_at p own.frame ≡ Some i → Steps p t row.call own i next → Among row.states next
+      → instr_at p own.frame ≡ Some i → Steps p t row.call own i next → ArePossible next.scopes
+      → Among row.states next
   -- each end is a way of the row
   pub ends : (row : Row) (own : Own) (i : Instr) (e : End) → Among t row → Among row.states own
       → instr_at p own.frame ≡ Some i → end_by i own.frame ≡ Some e → HasWay row.ways e

@@ -73,6 +73,17 @@ pub data Knowledge : Type 0 where
   ByJoiner : Knowledge
   Heard : Knowledge
 
+-- The answers that an owner got to `tally` and `total`: how many succeeded, failed and are
+-- unavailable, and the sum.
+pub record Asked : Type 0 where
+  pub successes : Option ℕ
+  pub failures : Option ℕ
+  pub unavailable : Option ℕ
+  pub total : Option ℤ
+
+abbrev pub nothing : Asked
+nothing = record { successes = None; failures = None; unavailable = None; total = None }
+
 -- a scope, as its owner knows it
 pub record Seen : Type 0 where
   pub joiner : Joiner
@@ -80,6 +91,7 @@ pub record Seen : Type 0 where
   pub environment : List Bound
   pub phase : Phase
   pub knowledge : Knowledge
+  pub asked : Asked
   -- its subtasks, in fork order
   pub parts : List Part
 

@@ -1,0 +1,100 @@
+-- The states that are covered are possible: what became of the subtasks is a pick that fits.
+use Rattle.std.proofs.Common.{◌≡◌, ◌⊎◌, inl, inr, Option, ℕ, ◌<◌, ◌≤◌, List, [], ◌∷◌, ◌++◌, Bool, true, false, refl, sym, ◌∙◌, ap, subst}
+use Rattle.std.proofs.Common.{map, arith, cond, sum_by}
+use Rattle.std.proofs.lemmas.Bool.{leb-true}
+use Rattle.std.proofs.lemmas.List.Sums.{sum_by-cons}
+use Rattle.sts_code.specs.declared.instr.Joiner.{Joiner}
+use Rattle.sts_model.specs.declared.event.End.{End}
+use Rattle.sts_model.specs.declared.event.Phase.{Phase}
+use Rattle.sts_model.specs.declared.event.Phase.TheVariants.{Joined}
+use Rattle.sts_model.specs.World.{World, scope_at}
+use Rattle.sts_model.specs.Living.{completion_of}
+use Rattle.sts_model.specs.Joining.{cancels}
+use Rattle.laws_runs.proofs.EventLemmas.{Right}
+use Rattle.laws_calls.specs.Tasks.{AllTwo, May, Part, Seen, Knowledge, Unseen, ByJoiner, Heard, Asked, nothing}
+use Rattle.laws_calls.specs.Triggers.{is_trigger, limit, triggers}
+use Rattle.laws_calls.specs.Fitting.{Answers, most, MayCount, Fits, ArePossible}
+use Rattle.laws_calls.specs.Steps.{Row, is_heard}
+use Rattle.laws_calls.specs.Covers.{subs, PartFits, SeenFits, alive_in}
+use Rattle.laws_calls.proofs.Counts.{states_in}
+use Rattle.laws_calls.proofs.Totals.{count_states}
+use Rattle.laws_calls.proofs.TriggerLemmas.{cancels_by_count, going_on, stops_at_limit}
+
+-- ---- how many ends count
+
+pub counts_most : (q : Knowledge) (phase : Phase) (j : Joiner) (n : ℕ) → MayCount q phase j n → n ≤ most j
+counts_most Unseen Joined j n m = absurd m
+counts_most ByJoiner Joined j n m = m.1
+counts_most Heard phase j n m = omega (arith, m)
+counts_most q phase j n m = m
+
+-- the owner has seen that the scope is cancelled
+pub counts_cancelled : (q : Knowledge) (phase : Phase) (j : Joiner) (n : ℕ) → is_heard q ≡ false → MayCount q phase j n → MayCount ByJoiner phase j n
+counts_cancelled Heard phase j n e m = cc
+counts_cancelled Unseen Joined j n e m = absurd m
+counts_cancelled q phase j n e m = m
+
+-- the joiner was told of one more end
+pub counts_told : (phase : Phase) (j : Joiner) (n k : ℕ) → MayCount Unseen phase j n → k ≤ most j → MayCount Unseen phase j k
+counts_told Joined j n k m few = absurd m
+counts_told phase j n k m few = few
+
+one_trigger : (j : Joiner) (e : End) → triggers j (e ∷ []) ≤ 1
+one_trigger j e =
+    let f : End → ℕ = λ y. cond (is_trigger j y) 1 0 in
+    let n = sum_by-cons f e [] in
+    let none : sum_by f [] ≡ 0 = refl in
+    let one = by (is_trigger j e) in
+    omega (arith, n, none, one)
+  where
+    by : (b : Bool) → cond {A = ℕ} b 1 0 ≤ 1
+    by true = omega arith
+    by false = omega arith
+
+pub no_trigger : (j : Joiner) → triggers j [] ≤ most j
+no_trigger j = let none : triggers j [] ≡ 0 = refl in omega (arith, none)
+
+-- a scope that is not cancelled is told of an end
+pub few_told : (j : Joiner) (es : List End) (e : End) → (cancels j es ≡ true → es ≡ []) → triggers j (es ++ e ∷ []) ≤ most j
+few_told j es e empty = by (cancels j es) refl
+  where
+    by : (b : Bool) → cancels j es ≡ b → triggers j (es ++ e ∷ []) ≤ most j
+    by false going = let n = stops_at_limit j es e going in omega (arith, n)
+    by true asked = subst (λ (l : List End). triggers j (l ++ e ∷ []) ≤ most j) (sym (empty asked)) (let n = one_trigger j e in omega (arith, n))
+
+-- all subtasks have ended, and the scope is not cancelled
+pub fewer_heard : (j : Joiner) (es : List End) → (cancels j es ≡ true → es ≡ []) → triggers j es < most j
+fewer_heard j es empty = by (cancels j es) refl
+  where
+    by : (b : Bool) → cancels j es ≡ b → triggers j es < most j
+    by false going = let n = going_on j es going in omega (arith, n)
+    by true asked = let none : triggers j es ≡ 0 = ap (triggers j) (empty asked) in omega (arith, none)
+
+pub enough : (j : Joiner) (es : List End) → cancels j es ≡ true → limit j ≤ triggers j es
+enough j es asked = leb-true (limit j) (triggers j es) (sym (cancels_by_count j es) ∙ asked)
+
+-- ---- picks
+
+pick_of : (rows : ℕ → Row) (w : World) (s : ℕ) (us : List ℕ) (parts : List Part) → AllTwo (PartFits rows (alive_in w) (scope_at w s)) us parts → AllTwo May parts (map (completion_of (scope_at w s).completions) us)
+pick_of rows w s [] [] a = tt
+pick_of rows w s (q ∷ us) (part ∷ parts) a = (a.0.may, pick_of rows w s us parts a.1)
+pick_of rows w s [] (part ∷ parts) a = absurd a
+pick_of rows w s (q ∷ us) [] a = absurd a
+
+pub answers_of : {A : Type 0} (asked : Asked) (pick : List (Option End)) → (asked ≡ nothing) ⊎ (A × Answers asked pick) → Answers asked pick
+answers_of asked pick (inl e) = subst (λ a. Answers a pick) (sym e) (record { successes = tt; failures = tt; unavailable = tt; total = tt })
+answers_of asked pick (inr k) = k.1
+
+pub pick_fits : (rows : ℕ → Row) (w : World) → Right w → (s : ℕ) (x : Seen) → SeenFits rows w s x → Fits x (states_in w s)
+pick_fits rows w o s x k =
+    record {
+      picks = pick_of rows w s (subs w s) x.parts k.parts;
+      asked = answers_of x.asked (states_in w s) k.asked;
+      counts = subst (λ n. MayCount x.knowledge x.phase x.joiner n) (count_states w o s (is_trigger x.joiner)) k.counts;
+    }
+
+pub are_possible : (rows : ℕ → Row) (w : World) → Right w → (opened : List ℕ) (scopes : List Seen) → AllTwo (SeenFits rows w) opened scopes → ArePossible scopes
+are_possible rows w o [] [] k = tt
+are_possible rows w o (s ∷ opened) (x ∷ scopes) k = ((states_in w s, pick_fits rows w o s x k.0), are_possible rows w o opened scopes k.1)
+are_possible rows w o [] (x ∷ scopes) k = absurd k
+are_possible rows w o (s ∷ opened) [] k = absurd k
