@@ -45,7 +45,6 @@ SUM, TRACE, DEADLINE, DUE = (
     os.path.join(ROOT, "examples", name) for name in ("sum.sts", "sum.trace", "deadline.sts", "deadline.outside")
 )
 ADDRESSES, ALLOCATED, SECONDS = 64 << 20, 16, 60  # bytes, MiB, seconds
-NAMED = 96 << 20  # the bytes for `view`, which looks for a name of each line first
 LONG = 3.5  # the seconds of a search that says more than once how far it is
 TOO_LONG, NO_MEMORY, NO_FILE = ("error A8 line 0\n", 3), ("error memory\n", 6), ("error file\n", 6)
 EXPLAINED_TOO_LONG = ("error A8\nthe text has more than 1048576 bytes\n", 3)
@@ -65,12 +64,12 @@ MANY_STATES = "func kid 0\npush 1\ninterrupted\nadd\nret\nend\nfunc main 0\nopen
 )
 
 
-def limited(closed=(), addresses=ADDRESSES):
+def limited(closed=()):
     """Prepares a new process before it becomes the program: it limits addresses and closes these files."""
 
     def prepare():
         if "ASAN_OPTIONS" not in os.environ:
-            resource.setrlimit(resource.RLIMIT_AS, (addresses, addresses))
+            resource.setrlimit(resource.RLIMIT_AS, (ADDRESSES, ADDRESSES))
         for file in closed:
             os.close(file)
 
@@ -103,7 +102,7 @@ def without_end(line):
 def looks(text, trace):
     """The commands of `look` on a text and a trace."""
     files = [text, trace]
-    return [["view", *files], ["view", *files, "--each", "--full"], ["explain", text], ["explain", *files], ["draw", *files], ["ends", text]]
+    return [["view", *files], ["view", *files, "--each", "--full"], ["explain", text], ["explain", *files], ["draw", *files], ["tell", *files], ["ends", text]]
 
 
 def unended(program, look):
@@ -114,10 +113,8 @@ def unended(program, look):
             with without_end(line) as given:
                 yield f"{line!r} as {words}", answer(program, words, given), TOO_LONG
         for words in looks(file, TRACE):
-            bound = limited(addresses=NAMED if words[0] == "view" else ADDRESSES)
             with without_end(line) as given:
-                said = answer(look, words, given, preexec_fn=bound)
-                yield f"{line!r} as {words}", said, EXPLAINED_TOO_LONG if words[0] in ("explain", "ends") else TOO_LONG
+                yield f"{line!r} as {words}", answer(look, words, given), TOO_LONG if words[0] in ("view", "draw") else EXPLAINED_TOO_LONG
     for file, line in (("/dev/zero", "step 0"), ("/dev/stdin", "step 0")):
         for words in (it for it in looks(SUM, file) if file in it):
             with without_end(line) as given:

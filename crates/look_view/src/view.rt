@@ -19,7 +19,7 @@ use std::alloc::{AllocError, Global};
 use std::fmt::Write;
 use std::io;
 use sts_asm::AsmError;
-use sts_output::{Output, TakeError, WriteFailed, failed, steps_line, text_fault, trace_fault};
+use sts_output::{Output, WriteFailed, steps_line, text_fault, trace_fault};
 use sts_trace::TraceError;
 
 /// The state of the machine, and the steps that it took.
@@ -105,11 +105,24 @@ impl<'n, 't> View for NamedView<'n, 't> {
     }
 }
 
-impl<'n, 't> Form for NamedView<'n, 't> {
-    ghost shows = { λ v. def.named_form v.names.now v.wanted };
+/// A view with the lines and the names of this text. It reads them if the text and its trace have
+/// no fault.
+#[derive(Clone, Copy)]
+struct ViewOfText<'t> {
+    wanted: ViewOptions,
+    text: &'t [u8],
+}
+
+impl<'t> Form for ViewOfText<'t> {
+    ghost shows = { λ v. def.named_form v.text.now v.wanted };
 
     fn of_run(&self, alloc: Global, run: Run<'_>) -> Result<Output, AllocError> {
-        view_output(alloc, self, self.wanted.each, run)
+        let names = Names::read(alloc, self.text)?;
+        let view = NamedView {
+            wanted: self.wanted,
+            names: &names,
+        };
+        view_output(alloc, &view, self.wanted.each, run)
     }
 
     fn of_text_fault(&self, alloc: Global, error: AsmError) -> Result<Output, AllocError> {
@@ -139,14 +152,5 @@ pub fn write_view<W: io::Write>(
     ensures { IfOk result (λ s. (o : Output) × def.IsNamedViewOf wanted text.now trace.now o
         × Writes (W.contents out.old) (W.contents out.new) s o) }
 {
-    match Names::read(alloc, text) {
-        Ok(names) => {
-            let view = NamedView {
-                wanted,
-                names: &names,
-            };
-            write_run(alloc, &view, text, trace, out)
-        }
-        Err(_) => failed(TakeError::Memory, out),
-    }
+    write_run(alloc, &ViewOfText { wanted, text }, text, trace, out)
 }
