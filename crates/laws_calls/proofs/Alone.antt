@@ -1,5 +1,5 @@
 -- Instructions that change no more than the frame of their task.
-use Rattle.std.proofs.Common.{◌≡◌, ℕ, ◌+◌, inl, List, [], ◌∷◌, ◌++◌, ◌⊎◌, inr}
+use Rattle.std.proofs.Common.{◌≡◌, ℕ, ◌+◌, inl, List, [], ◌∷◌, ◌++◌, ◌⊎◌, inr, cond, ◌<◌}
 use Rattle.std.proofs.Common.{Bool, true, false, Option, Some, None, refl, sym, ◌∙◌, ap, subst, drop}
 use Rattle.std.proofs.Common.{set, not, ◌||◌, ◌&&◌}
 use Rattle.std.specs.Prelude.{count_by, filter_map, unwrap_or, pos, is_some}
@@ -35,23 +35,24 @@ use Rattle.laws_runs.proofs.EventLemmas.{Next}
 use Rattle.laws_runs.proofs.StayLemmas.{ended_is_dead}
 use Rattle.laws_runs.proofs.FrameLemmas.{at_own-is, Leaves, leaves-local, own_slot}
 use Rattle.laws_runs.specs.Tallies.{is_kind}
-use Rattle.laws_calls.specs.Fitting.{Answers, heard_in}
+use Rattle.laws_calls.specs.Fitting.{Answers, heard_in, most}
 use Rattle.laws_calls.specs.Held as held
 use Rattle.laws_calls.specs.Tasks.{AllTwo, at_place, HasWay, Part, Seen, Own, bare, births_in, held_at}
 use Rattle.laws_calls.specs.Tasks.{Knowledge, Unseen, ByJoiner, Heard, bindings, May, Asked}
-use Rattle.laws_calls.specs.Steps.{Row, Table, Steps, IsTable, to, pushes, is_cancelled, is_heard, after_cancel, counted, summed}
+use Rattle.laws_calls.specs.Steps.{Row, Table, Steps, IsTable, to, pushes, after_cancel, counted, summed, parts_with, split, told}
 use Rattle.laws_calls.specs.Steps.{local_step, read_step, bound_step, or_else_step, bind_step, unbind_step, forget_step}
 use Rattle.laws_calls.specs.Steps.{interrupted_step, lent_step, going_step, cancelled_step, success_step, failure_step}
 use Rattle.laws_calls.specs.Steps.{missed_step, get_step, except_step, tally_step, total_step, only, kept, missed, with_part, with_seen}
 use Rattle.laws_calls.specs.Covers.{PartFits, SeenFits, HeldFits, FrameFits, TaskFits, IsRight}
 use Rattle.laws_calls.specs.Covers.{Watched, Covers, alive_in}
-use Rattle.laws_calls.proofs.Lists.{all_set, Apart, kept_way, no}
-use Rattle.laws_calls.proofs.Turns.{Facts, FlagsByCancel, apart_births, free_around}
+use Rattle.laws_calls.proofs.Lists.{all_set, Apart, kept_way, no, at_among}
+use Rattle.laws_calls.proofs.Turns.{Facts, FlagsByCancel, apart_births, free_around, births_has}
 use Rattle.laws_calls.proofs.Moves.{Turned, covers_turned, turned_frame, turned_flag, fits_later, subs_same}
 use Rattle.laws_calls.proofs.Moves.{OwnScope, own_scope, OwnSub, own_sub, held_lent, held_slot, put_seen, put_part}
 use Rattle.laws_calls.proofs.Counts.{states_in, tally_states}
-use Rattle.laws_calls.proofs.Totals.{total_states}
-use Rattle.laws_calls.proofs.Possible.{are_possible, counts_cancelled, pick_fits}
+use Rattle.laws_calls.proofs.Totals.{total_states, count_states}
+use Rattle.laws_calls.proofs.Possible.{are_possible, counts_cancelled, pick_fits, unknown, unheard, few_free, settled_fits}
+use Rattle.laws_calls.specs.Triggers.{is_trigger}
 use Rattle.laws_calls.proofs.Frames.{bare_local, blank_bounds, blank_drop}
 
 -- does the instruction change no more than the frame and the flag of its task?
@@ -106,17 +107,10 @@ joined_scope p w f x mine e = by (is_joined (scope_at w (named (slot f x))).phas
     by true b d = refl
     by false b d = cc
 
--- known not to be cancelled
-pub unknown : (q : Knowledge) (scope : Scope) → IsRight q scope → scope.cancelled ≡ false → is_cancelled q ≡ false
-unknown Unseen scope r e = refl
-unknown Heard scope r e = refl
-unknown ByJoiner scope r e = let known : scope.cancelled ≡ true = r in absurd (no (sym known ∙ e))
-
--- known to be cancelled
-pub unheard : (q : Knowledge) (scope : Scope) → IsRight q scope → scope.cancelled ≡ true → is_heard q ≡ false
-unheard Unseen scope r e = refl
-unheard ByJoiner scope r e = refl
-unheard Heard scope r e = let free : scope.cancelled ≡ false = r.0 in absurd (no (sym e ∙ free))
+split_self : (a b : Bool) → a ≡ true → (a && cond b b (not b)) ≡ true
+split_self true true e = refl
+split_self true false e = refl
+split_self false b e = cc
 
 module _ (p : Program) (t : Table) (root : Row) (is : IsTable p t root) (w : World) (h : Facts w) where
   -- the task goes on with the frame g, and no scope changes
@@ -263,14 +257,17 @@ module _ (p : Program) (t : Table) (root : Row) (is : IsTable p t root) (w : Wor
     to_cancelled : lives (task_at w u) ≡ true → Watched w u → (x : ℕ) → not (is_scope (slot f x)) ≡ false → StepsTo p t rows w u own (Cancelled x) (moved p w u f (Cancelled x))
     to_cancelled alive watched x legal = by (slot f x) refl legal
       where
-        told : (s : ℕ) → OwnScope rows w f own x s → (b : Bool) → (scope_at w s).cancelled ≡ b → StepsTo p t rows w u own (Cancelled x) (steps f 0 (truth b ∷ []))
-        told s o false e =
+        by_own : (s : ℕ) → slot f x ≡ slots.Own s → OwnScope rows w f own x s → (b : Bool) → (scope_at w s).cancelled ≡ b → StepsTo p t rows w u own (Cancelled x) (steps f 0 (truth b ∷ []))
+        by_own s mine o false e =
+            let fits = pick_fits rows w h.right s o.seen o.fits in
+            let few = few_free w h s (h.right.sound.own u x s mine).born e o.seen.joiner o.fits.joiner in
             record {
               next = pushes own 0 (truth false);
-              step = going_step o.place o.seen o.owns (unknown o.seen.knowledge (scope_at w s) o.fits.known e);
+              step = going_step o.place o.seen (states_in w s) o.owns (unknown o.seen.knowledge (scope_at w s) o.fits.known e) fits
+                  (subst (λ n. n < most o.seen.joiner) (count_states w h.right s (is_trigger o.seen.joiner)) few);
               fits = fits_steps rows f own 0 (truth false ∷ []) k.fits;
             }
-        told s o true e =
+        by_own s mine o true e =
             record {
               next = pushes (with_seen own o.place (after_cancel o.seen)) 0 (truth true);
               step = cancelled_step o.place o.seen o.owns (unheard o.seen.knowledge (scope_at w s) o.fits.known e);
@@ -280,7 +277,7 @@ module _ (p : Program) (t : Table) (root : Row) (is : IsTable p t root) (w : Wor
             }
 
         by : (q : Slot) → slot f x ≡ q → not (is_scope q) ≡ false → StepsTo p t rows w u own (Cancelled x) (steps f 0 (truth (scope_at w (named q)).cancelled ∷ []))
-        by (slots.Own s) e d = told s (own_scope rows w f own x s k.fits e) (scope_at w s).cancelled refl
+        by (slots.Own s) e d = by_own s e (own_scope rows w f own x s k.fits e) (scope_at w s).cancelled refl
         by (slots.Lent s) e d =
             let inside = ((h.names u x alive).lent s e).1 in
             let free = free_around w h.right u s inside watched in
@@ -342,20 +339,33 @@ module _ (p : Program) (t : Table) (root : Row) (is : IsTable p t root) (w : Wor
       to_case : (success failed : ℕ) → StepsTo p t rows w u own (Case x success failed) (goes f (case_target state success failed (f.pc + 1)) 0 [])
       to_case success failed = by state refl
         where
+          -- the part has ended by an end that counts, or by another
+          to_told : (to_pc : ℕ) (test : End → Bool) (end : End) → state ≡ Some end → test end ≡ true
+              → Steps p t (rows u).call own (Case x success failed) (to (with_seen own o.place (told o.seen o.i o.part (is_trigger o.seen.joiner end) test)) (goes own.frame to_pc 0 []))
+              → StepsTo p t rows w u own (Case x success failed) (goes f to_pc 0 [])
+          to_told to_pc test end e passes step =
+              let counting : Bool = is_trigger o.seen.joiner end in
+              let part : Part = kept (split o.seen.joiner counting test) o.part in
+              let fits : PartFits rows (alive_in w) (scope_at w o.scope) c part =
+              ended_part part end e (kept_way (split o.seen.joiner counting test) o.part.ways end (split_self (test end) counting passes) (way_of end e))
+              in
+              let born = (h.entered u o.scope alive (births_has f.entries o.scope (at_among (births_in f.entries) o.place o.scope o.at))).born in
+              record {
+                next = to (with_seen own o.place (told o.seen o.i o.part counting test)) (goes own.frame to_pc 0 []);
+                step = step;
+                fits = fits_seen alive o.place o.scope (told o.seen o.i o.part counting test) (goes f to_pc 0 []) (goes own.frame to_pc 0 []) (leaves_refl f to_pc 0 [])
+                    (ap (λ (z : Frame). goes z to_pc 0 []) k.fits.frame) o.at
+                    (settled_fits rows w h o.scope born (parts_with o.seen o.i part) (put_part rows w o.scope o.seen o.i c part o.fits o.sub fits));
+              }
+
           by : (q : Option End) → state ≡ q → StepsTo p t rows w u own (Case x success failed) (goes f (case_target q success failed (f.pc + 1)) 0 [])
           by None e =
               to_part alive (Case x success failed) x o (missed o.seen.knowledge o.part) (goes f (f.pc + 1) 0 []) (goes own.frame (own.frame.pc + 1) 0 []) (leaves_refl f (f.pc + 1) 0 [])
               (ap (λ (z : Frame). goes z (z.pc + 1) 0 []) k.fits.frame) (missed_part e) (missed_step o.place o.seen o.i o.part o.knows (open_of e))
           by (Some (Success v)) e =
-              to_part alive (Case x success failed) x o (kept is_success o.part) (goes f success 0 []) (goes own.frame success 0 []) (leaves_refl f success 0 [])
-              (ap (λ (z : Frame). goes z success 0 []) k.fits.frame)
-              (ended_part (kept is_success o.part) (Success v) e (kept_way is_success o.part.ways (Success v) refl (way_of (Success v) e)))
-              (success_step o.place o.seen o.i o.part o.knows)
+              to_told success is_success (Success v) e refl (success_step o.place o.seen o.i o.part (is_trigger o.seen.joiner (Success v)) o.knows)
           by (Some (Failed v)) e =
-              to_part alive (Case x success failed) x o (kept is_failure o.part) (goes f failed 0 []) (goes own.frame failed 0 []) (leaves_refl f failed 0 [])
-              (ap (λ (z : Frame). goes z failed 0 []) k.fits.frame)
-              (ended_part (kept is_failure o.part) (Failed v) e (kept_way is_failure o.part.ways (Failed v) refl (way_of (Failed v) e)))
-              (failure_step o.place o.seen o.i o.part o.knows)
+              to_told failed is_failure (Failed v) e refl (failure_step o.place o.seen o.i o.part (is_trigger o.seen.joiner (Failed v)) o.knows)
 
       to_get : has_succeeded state ≡ true → StepsTo p t rows w u own (Get x) (steps f 0 (value_or_zero state ∷ []))
       to_get = by state refl

@@ -45,13 +45,13 @@ use Rattle.laws_calls.specs.Covers.{subs, PartFits, ScopeFits, SeenFits, HeldFit
 use Rattle.laws_calls.specs.Covers.{Covers, alive_in}
 use Rattle.laws_calls.specs.Triggers.{is_trigger, triggers}
 use Rattle.laws_calls.specs.Fitting.{MayCount, Answers}
-use Rattle.laws_calls.proofs.Possible.{are_possible, counts_most, enough, fewer_heard}
+use Rattle.laws_calls.proofs.Possible.{are_possible, counts_most, enough, few_free, unknown, unheard}
 use Rattle.laws_calls.proofs.Lists.{all_map, all_at, all_put, all_right, all_length, all_put_place, Apart, among_get, no}
 use Rattle.laws_calls.proofs.Turns.{Facts, FlagsByCancel, part_same, seen_same, held_same, apart_births, sub_born, sub_listed, listed_inside}
 use Rattle.laws_calls.proofs.Moves.{GoesOn, covers_turned, subs_same, OwnScope, own_scope}
 use Rattle.laws_calls.proofs.Phases.{Rescoped, rescoped_phase, rescoped_flag, rescoped_frame}
 use Rattle.laws_calls.proofs.Told.{who, state_among, First, first_end, find_none, none_passes, one_verdict, any_verdict, neither}
-use Rattle.laws_calls.proofs.Alone.{instr_of, unknown, unheard}
+use Rattle.laws_calls.proofs.Alone.{instr_of}
 use Rattle.laws_calls.proofs.Counts.{subs_count, states_in}
 
 -- if no row of misuse applies, nothing is misused
@@ -316,7 +316,7 @@ module _ (p : Program) (t : Table) (root : Row) (is : IsTable p t root) (w : Wor
               absurd (no (sym e ∙ never))
 
       heard_counts : MayCount Heard Joined o.seen.joiner (triggers o.seen.joiner (ends scope))
-      heard_counts = fewer_heard o.seen.joiner (ends scope) (λ e. ap ends_of ((h.caused s born_s).asked free (ap (λ k. cancels k (ends scope)) (sym o.fits.joiner) ∙ e)))
+      heard_counts = few_free w h s born_s free o.seen.joiner o.fits.joiner
 
       by_heard : (j : Joiner) → scope.joiner ≡ j → (is_any j ≡ true → parts ≡ []) → result_of j (ends scope) (subtask_count w s) ≡ result_of j [] (subtask_count w s) → Outcome rows own o
       by_heard j is_j any same =

@@ -1,24 +1,43 @@
 -- The states that are covered are possible: what became of the subtasks is a pick that fits.
-use Rattle.std.proofs.Common.{◌≡◌, ◌⊎◌, inl, inr, Option, ℕ, ◌<◌, ◌≤◌, List, [], ◌∷◌, ◌++◌, Bool, true, false, refl, sym, ◌∙◌, ap, subst}
+use Rattle.std.proofs.Common.{◌≡◌, ◌⊎◌, inl, inr, Option, ℕ, ◌<◌, ◌≤◌, List, [], ◌∷◌, ◌++◌, Bool, true, false, refl, sym, ◌∙◌, ap, subst, Some, None, length, not, ◌&&◌}
 use Rattle.std.proofs.Common.{map, arith, cond, sum_by}
-use Rattle.std.proofs.lemmas.Bool.{leb-true}
+use Rattle.std.proofs.lemmas.Bool.{leb-true, or_parts, and_parts}
+use Rattle.std.specs.Prelude.{nat_le, count_by}
+use Rattle.std.specs.List.{list_any}
+use Rattle.laws_calls.proofs.Turns.{Facts}
+use Rattle.laws_calls.proofs.Lists.{no}
 use Rattle.std.proofs.lemmas.List.Sums.{sum_by-cons}
 use Rattle.sts_code.specs.declared.instr.Joiner.{Joiner}
 use Rattle.sts_model.specs.declared.event.End.{End}
 use Rattle.sts_model.specs.declared.event.Phase.{Phase}
 use Rattle.sts_model.specs.declared.event.Phase.TheVariants.{Joined}
 use Rattle.sts_model.specs.World.{World, scope_at}
-use Rattle.sts_model.specs.Living.{completion_of}
+use Rattle.sts_model.specs.Living.{completion_of, ends, ends_of}
+use Rattle.sts_model.specs.declared.record.Scope.{Scope}
 use Rattle.sts_model.specs.Joining.{cancels}
 use Rattle.laws_runs.proofs.EventLemmas.{Right}
-use Rattle.laws_calls.specs.Tasks.{AllTwo, May, Part, Seen, Knowledge, Unseen, ByJoiner, Heard, Asked, nothing}
+use Rattle.laws_calls.specs.Tasks.{AllTwo, May, Part, Seen, Knowledge, Unseen, ByJoiner, Heard, Asked, nothing, Way, HasWay}
 use Rattle.laws_calls.specs.Triggers.{is_trigger, limit, triggers}
-use Rattle.laws_calls.specs.Fitting.{Answers, most, MayCount, Fits, ArePossible}
-use Rattle.laws_calls.specs.Steps.{Row, is_heard}
-use Rattle.laws_calls.specs.Covers.{subs, PartFits, SeenFits, alive_in}
+use Rattle.laws_calls.specs.Fitting.{heard_in, Answers, most, MayCount, Fits, ArePossible}
+use Rattle.laws_calls.specs.Steps.{Row, is_heard, is_cancelled, is_sure, settled, after_cancel}
+use Rattle.laws_calls.specs.Covers.{subs, PartFits, SeenFits, alive_in, IsRight}
 use Rattle.laws_calls.proofs.Counts.{states_in}
 use Rattle.laws_calls.proofs.Totals.{count_states}
 use Rattle.laws_calls.proofs.TriggerLemmas.{cancels_by_count, going_on, stops_at_limit}
+
+-- ---- what is known of a cancel
+
+-- known not to be cancelled
+pub unknown : (q : Knowledge) (scope : Scope) → IsRight q scope → scope.cancelled ≡ false → is_cancelled q ≡ false
+unknown Unseen scope r e = refl
+unknown Heard scope r e = refl
+unknown ByJoiner scope r e = let known : scope.cancelled ≡ true = r in absurd (no (sym known ∙ e))
+
+-- known to be cancelled
+pub unheard : (q : Knowledge) (scope : Scope) → IsRight q scope → scope.cancelled ≡ true → is_heard q ≡ false
+unheard Unseen scope r e = refl
+unheard ByJoiner scope r e = refl
+unheard Heard scope r e = let free : scope.cancelled ≡ false = r.0 in absurd (no (sym e ∙ free))
 
 -- ---- how many ends count
 
@@ -63,12 +82,16 @@ few_told j es e empty = by (cancels j es) refl
     by true asked = subst (λ (l : List End). triggers j (l ++ e ∷ []) ≤ most j) (sym (empty asked)) (let n = one_trigger j e in omega (arith, n))
 
 -- all subtasks have ended, and the scope is not cancelled
-pub fewer_heard : (j : Joiner) (es : List End) → (cancels j es ≡ true → es ≡ []) → triggers j es < most j
+fewer_heard : (j : Joiner) (es : List End) → (cancels j es ≡ true → es ≡ []) → triggers j es < most j
 fewer_heard j es empty = by (cancels j es) refl
   where
     by : (b : Bool) → cancels j es ≡ b → triggers j es < most j
     by false going = let n = going_on j es going in omega (arith, n)
     by true asked = let none : triggers j es ≡ 0 = ap (triggers j) (empty asked) in omega (arith, none)
+
+-- a scope that is not cancelled
+pub few_free : (w : World) → Facts w → (s : ℕ) → s < length w.scopes → (scope_at w s).cancelled ≡ false → (j : Joiner) → j ≡ (scope_at w s).joiner → triggers j (ends (scope_at w s)) < most j
+few_free w h s born free j is_j = fewer_heard j (ends (scope_at w s)) (λ e. ap ends_of ((h.caused s born).asked free (ap (λ k. cancels k (ends (scope_at w s))) (sym is_j) ∙ e)))
 
 pub enough : (j : Joiner) (es : List End) → cancels j es ≡ true → limit j ≤ triggers j es
 enough j es asked = leb-true (limit j) (triggers j es) (sym (cancels_by_count j es) ∙ asked)
@@ -92,6 +115,77 @@ pick_fits rows w o s x k =
       asked = answers_of x.asked (states_in w s) k.asked;
       counts = subst (λ n. MayCount x.knowledge x.phase x.joiner n) (count_states w o s (is_trigger x.joiner)) k.counts;
     }
+
+-- ---- parts that have ended by an end that counts
+
+sure_way : (j : Joiner) (ways : List Way) (e : End) → list_any (λ (way : Way). not (is_trigger j way.end)) ways ≡ false → HasWay ways e → is_trigger j e ≡ true
+sure_way j [] e none at = absurd at
+sure_way j (way ∷ ways) e none (inl same) = by (is_trigger j way.end) refl (or_parts (not (is_trigger j way.end)) _ none).0
+  where
+    by : (b : Bool) → is_trigger j way.end ≡ b → not b ≡ false → is_trigger j e ≡ true
+    by true is k = subst (λ z. is_trigger j z ≡ true) same is
+    by false is k = cc
+sure_way j (way ∷ ways) e none (inr at) = sure_way j ways e (or_parts (not (is_trigger j way.end)) _ none).1 at
+
+sure_end : (j : Joiner) (part : Part) (e : End) → is_sure j part ≡ true → HasWay part.ways e → is_trigger j e ≡ true
+sure_end j part e sure way = sure_way j part.ways e (by (list_any (λ (y : Way). not (is_trigger j y.end)) part.ways) (and_parts (not part.is_open) _ sure).1) way
+  where
+    by : (b : Bool) → not b ≡ true → b ≡ false
+    by true k = cc
+    by false k = refl
+
+never_sure : (j : Joiner) (part : Part) → part.is_open ≡ true → is_sure j part ≡ false
+never_sure j part is_open = ap (λ b. not b && not (list_any (λ (y : Way). not (is_trigger j y.end)) part.ways)) is_open
+
+sure_one : (a b : Bool) → (a ≡ true → b ≡ true) → cond {A = ℕ} a 1 0 ≤ cond b 1 0
+sure_one true true h = omega arith
+sure_one true false h = let never = h refl in cc
+sure_one false true h = omega arith
+sure_one false false h = omega arith
+
+-- so many ends count at least
+sure_few : (j : Joiner) (parts : List Part) (pick : List (Option End)) → AllTwo May parts pick → count_by (is_sure j) parts ≤ triggers j (heard_in pick)
+sure_few j [] [] h = omega arith
+sure_few j (part ∷ parts) (None ∷ pick) h =
+    let n = sum_by-cons (λ (y : Part). cond (is_sure j y) 1 0) part parts in
+    let none : cond {A = ℕ} (is_sure j part) 1 0 ≡ 0 = ap (λ b. cond b 1 0) (never_sure j part h.0) in
+    let rest = sure_few j parts pick h.1 in
+    omega (arith, n, none, rest)
+sure_few j (part ∷ parts) (Some e ∷ pick) h =
+    let n = sum_by-cons (λ (y : Part). cond (is_sure j y) 1 0) part parts in
+    let m = sum_by-cons (λ (y : End). cond (is_trigger j y) 1 0) e (heard_in pick) in
+    let one = sure_one (is_sure j part) (is_trigger j e) (λ sure. sure_end j part e sure h.0) in
+    let rest = sure_few j parts pick h.1 in
+    omega (arith, n, m, one, rest)
+sure_few j [] (q ∷ pick) h = absurd h
+sure_few j (part ∷ parts) [] h = absurd h
+
+-- what a `case` told of a scope
+pub settled_fits : (rows : ℕ → Row) (w : World) → Facts w → (s : ℕ) → s < length w.scopes → (x : Seen) → SeenFits rows w s x → SeenFits rows w s (settled x)
+settled_fits rows w h s born x k = by (nat_le (most x.joiner) (count_by (is_sure x.joiner) x.parts)) refl
+  where
+    gone : most x.joiner ≤ count_by (is_sure x.joiner) x.parts → (b : Bool) → (scope_at w s).cancelled ≡ b → b ≡ true
+    gone many true e = refl
+    gone many false e =
+        let few = few_free w h s born e x.joiner k.joiner in
+        let same = count_states w h.right s (is_trigger x.joiner) in
+        let sure = sure_few x.joiner x.parts (states_in w s) (pick_of rows w s (subs w s) x.parts k.parts) in
+        absurd (omega (arith, many, few, same, sure))
+
+    by : (b : Bool) → nat_le (most x.joiner) (count_by (is_sure x.joiner) x.parts) ≡ b → SeenFits rows w s (cond b (after_cancel x) x)
+    by false e = k
+    by true e =
+        let cancelled : (scope_at w s).cancelled ≡ true = gone (leb-true (most x.joiner) (count_by (is_sure x.joiner) x.parts) e) (scope_at w s).cancelled refl in
+        record {
+          joiner = k.joiner;
+          timed = k.timed;
+          environment = k.environment;
+          phase = k.phase;
+          known = cancelled;
+          parts = k.parts;
+          counts = counts_cancelled x.knowledge x.phase x.joiner _ (unheard x.knowledge (scope_at w s) k.known cancelled) k.counts;
+          asked = k.asked;
+        }
 
 pub are_possible : (rows : ℕ → Row) (w : World) → Right w → (opened : List ℕ) (scopes : List Seen) → AllTwo (SeenFits rows w) opened scopes → ArePossible scopes
 are_possible rows w o [] [] k = tt

@@ -1,10 +1,10 @@
 -- The steps of a task by itself, and the tables that are closed under them (this project's own).
 -- No interrupt and no expiry comes. A step may lead to more states than a run does.
 use Rattle.std.specs.Prelude.{◌≡◌, ℕ, ◌+◌, ◌-◌, ℤ, pos, List, [], ◌∷◌, ◌++◌, length, take, drop}
-use Rattle.std.specs.Prelude.{reverse}
+use Rattle.std.specs.Prelude.{reverse, nat_le, not, ◌&&◌, ◌<◌}
 use Rattle.std.specs.Prelude.{map, count_by, Bool, true, false, Option, Some, None, is_some}
 use Rattle.std.specs.Prelude.{unwrap_or, if◌then◌else◌, slice_get, slice_set}
-use Rattle.std.specs.List.{filter}
+use Rattle.std.specs.List.{filter, list_any}
 use Rattle.sts_code.specs.Program.{Program, routine}
 use Rattle.sts_code.specs.declared.instr.Instr.{Instr}
 use Rattle.sts_code.specs.declared.instr.Instr.TheVariants.{Open, Fork, Join, Close, Cancelled}
@@ -34,8 +34,8 @@ use Rattle.laws_calls.specs.Held as held
 use Rattle.laws_calls.specs.Tasks.{Among, at_place, put_place, Call, Way, HasWay, Part, Knowledge}
 use Rattle.laws_calls.specs.Tasks.{nothing, Unseen, ByJoiner, Heard, Seen, Own, begin, bindings}
 use Rattle.laws_calls.specs.Tasks.{held_at}
-use Rattle.laws_calls.specs.Fitting.{Fits, ArePossible, heard_in}
-use Rattle.laws_calls.specs.Triggers.{is_trigger}
+use Rattle.laws_calls.specs.Fitting.{Fits, ArePossible, heard_in, most}
+use Rattle.laws_calls.specs.Triggers.{is_trigger, triggers}
 
 -- ---- tables
 
@@ -62,9 +62,12 @@ pushes own n value = to own (steps own.frame n (value ∷ []))
 abbrev pub with_seen : Own → ℕ → Seen → Own
 with_seen own place x = record own { scopes = put_place own.scopes place x }
 
--- with another part in a scope at a place
+-- a scope with another part, also at a place
+abbrev pub parts_with : Seen → ℕ → Part → Seen
+parts_with x i part = record x { parts = slice_set x.parts i part }
+
 abbrev pub with_part : Own → ℕ → Seen → ℕ → Part → Own
-with_part own place x i part = with_seen own place (record x { parts = slice_set x.parts i part })
+with_part own place x i part = with_seen own place (parts_with x i part)
 
 -- ---- parts
 
@@ -75,6 +78,10 @@ only e = record { ways = record { end = e } ∷ []; is_open = false }
 -- the part has ended by one of its ways that pass the test
 abbrev pub kept : (End → Bool) → Part → Part
 kept test part = record { ways = filter (λ (way : Way). test way.end) part.ways; is_open = false }
+
+-- the ends that pass the test and count towards a cancel, or those that don't count
+abbrev pub split : Joiner → Bool → (End → Bool) → End → Bool
+split j counting test e = test e && (if counting then is_trigger j e else not (is_trigger j e))
 
 -- the part has ended
 abbrev pub ended : Part → Part
@@ -187,6 +194,22 @@ after_all x = record x { knowledge = Heard; parts = map ended x.parts }
 abbrev pub decided : Seen → ℕ → End → Seen
 decided x i e = record x { parts = slice_set x.parts i (only e) }
 
+-- ---- case
+
+-- has the part ended by an end that counts, whichever it was?
+abbrev pub is_sure : Joiner → Part → Bool
+is_sure j part =
+    not part.is_open && not (list_any (λ (way : Way). not (is_trigger j way.end)) part.ways)
+
+-- known to be cancelled if so many of the parts have ended by ends that count
+abbrev pub settled : Seen → Seen
+settled x =
+    if nat_le (most x.joiner) (count_by (is_sure x.joiner) x.parts) then after_cancel x else x
+
+-- after the owner saw that a part has ended by an end of this kind
+abbrev pub told : Seen → ℕ → Part → Bool → (End → Bool) → Seen
+told x i part counting test = settled (parts_with x i (kept (split x.joiner counting test) part))
+
 -- ---- answers
 
 -- after `tally` gave this number
@@ -249,8 +272,9 @@ pub data Steps (p : Program) (t : Table) (c : Call) (own : Own) : Instr → Own 
   -- the task's own scope: if it was cancelled, nobody sees what the task does
   lent_step : {x : ℕ} → held_at own x ≡ held.Lent
       → Steps p t c own (Cancelled x) (pushes own 0 (truth false))
-  going_step : {x : ℕ} (place : ℕ) (seen : Seen) → Owns own x place seen
-      → is_cancelled seen.knowledge ≡ false
+  going_step : {x : ℕ} (place : ℕ) (seen : Seen) (pick : List (Option End))
+      → Owns own x place seen → is_cancelled seen.knowledge ≡ false → Fits seen pick
+      → triggers seen.joiner (heard_in pick) < most seen.joiner
       → Steps p t c own (Cancelled x) (pushes own 0 (truth false))
   cancelled_step : {x : ℕ} (place : ℕ) (seen : Seen) → Owns own x place seen
       → is_heard seen.knowledge ≡ false
@@ -295,13 +319,14 @@ pub data Steps (p : Program) (t : Table) (c : Call) (own : Own) : Instr → Own 
       (result_of seen.joiner (e ∷ []) (length seen.parts)) (unwrap_or failed 0))
   -- a subtask
   success_step : {h succeeded failed : ℕ} (place : ℕ) (seen : Seen) (i : ℕ) (part : Part)
-      → Knows own h place seen i part
+      (counting : Bool) → Knows own h place seen i part
       → Steps p t c own (Case h succeeded failed)
-      (to (with_part own place seen i (kept is_success part)) (goes own.frame succeeded 0 []))
+      (to (with_seen own place (told seen i part counting is_success))
+      (goes own.frame succeeded 0 []))
   failure_step : {h succeeded failed : ℕ} (place : ℕ) (seen : Seen) (i : ℕ) (part : Part)
-      → Knows own h place seen i part
+      (counting : Bool) → Knows own h place seen i part
       → Steps p t c own (Case h succeeded failed)
-      (to (with_part own place seen i (kept is_failure part)) (goes own.frame failed 0 []))
+      (to (with_seen own place (told seen i part counting is_failure)) (goes own.frame failed 0 []))
   missed_step : {h succeeded failed : ℕ} (place : ℕ) (seen : Seen) (i : ℕ) (part : Part)
       → Knows own h place seen i part → part.is_open ≡ true
       → Steps p t c own (Case h succeeded failed)
