@@ -9,6 +9,7 @@ import subprocess
 import sys
 
 from checks.build.sources import ROOT, crates, needed
+from checks.programs import door
 
 
 def changed_since(revision, names):
@@ -43,8 +44,10 @@ def main():
         tried = {"proof": ["rt", "check"], "tests": ["rt", "test"]}
         if name in changed and os.path.isdir(f"{folder}/must-fail"):
             tried["edits"] = ["rt", "must-fail", name]
+        if name in changed and os.path.isdir(f"{ROOT}/checks/named/{name}"):
+            tried["named edits"] = door("named", name)
         for what, words in tried.items():
-            well = said(words, ROOT if what == "edits" else folder)
+            well = said(words, ROOT if "edits" in what else folder)
             print(f"{name}: {what} {'passed' if well else 'FAILED'}", flush=True)
             passed, failed = passed + well, failed + (not well)
     print(f"{passed} passed, {failed} failed")

@@ -5,6 +5,7 @@ The figures are read off /proc twice a second, so a process that ends between tw
 """
 import collections
 import os
+import re
 import subprocess
 import sys
 import threading
@@ -24,7 +25,7 @@ def looked_at(pid):
         crate = kit.crate_of(words)
         if not words[0].endswith("/rattle") or not crate:
             return None
-        is_edit = "/rt-edit-" in os.readlink(f"/proc/{pid}/cwd")
+        is_edit = bool(re.search("/(rt-edit|sts-named)-", os.readlink(f"/proc/{pid}/cwd")))
         stat = open(f"/proc/{pid}/stat").read().rsplit(")", 1)[1].split()
     except (OSError, IndexError):
         return None

@@ -45,7 +45,8 @@ def neighbours(floor, is_writing):
 
 def edits():
     """Fails if an edit doesn't say in its first line what it makes wrong."""
-    folders = [f"crates/{it}/must-fail" for it in crates()] + [f"checks/edits/{it}" for it in os.listdir(f"{ROOT}/checks/edits")]
+    folders = [f"crates/{it}/must-fail" for it in crates()]
+    folders += [f"{of}/{it}" for of in ("checks/named", "checks/edits") for it in os.listdir(f"{ROOT}/{of}")]
     for path in (f"{it}/{name}" for it in folders if os.path.isdir(f"{ROOT}/{it}") for name in os.listdir(f"{ROOT}/{it}")):
         if path.endswith(".edit") and not read(path).startswith("# "):
             fail(f"{path} doesn't say what it makes wrong")

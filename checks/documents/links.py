@@ -69,7 +69,7 @@ def checks_listed():
     listed = {name: in_gate for names, in_gate in rows for name in re.findall(r"`(\w+)`", names)}
     if sorted(listed) != sorted(names()):
         fail(f"checks/README.md doesn't list each check: {sorted(set(listed) ^ set(names()))}")
-    in_gate = {it.split(" ")[0] for it in (*gate.BEFORE, *gate.after([]))} & {*names()} | {"vectors"}
+    in_gate = {it.split(" ")[0] for it in (*gate.BEFORE, "named", *gate.after([]))} & {*names()} | {"vectors"}
     if {it for it, said in listed.items() if said} != in_gate:
         fail(f"checks/README.md doesn't say which checks are in the gate: {sorted({it for it, said in listed.items() if said} ^ in_gate)}")
 

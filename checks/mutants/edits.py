@@ -3,7 +3,7 @@
     python3 -m checks edits [--jobs N] [--alone] [CRATE ..]
 
 An edit makes a body of a function wrong; its first line says how. The gate tries some forty, which are in the crates' own
-folders `must-fail/`. The others are in checks/edits/CRATE/, since each costs a check of its crate.
+folders `must-fail/` and in checks/named/. The others are in checks/edits/CRATE/.
 
 With no crate named, the edits of all crates are tried, N crates side by side (as many as there are processors, if no N is
 given). The script works on a copy of the repository. It takes along the libraries that were built in crates/*/out, if they
