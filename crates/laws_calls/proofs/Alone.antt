@@ -23,7 +23,7 @@ use Rattle.sts_model.specs.declared.record.Slot.TheVariants as slots
 use Rattle.sts_model.specs.World.{World, task_at, scope_at, with_frame, instr_at, code}
 use Rattle.sts_model.specs.Local as locals
 use Rattle.sts_model.specs.Local.{is_local, goes, steps, truth, operand}
-use Rattle.sts_model.specs.Living.{lives, completion_of, scope_of, parent, sub_state}
+use Rattle.sts_model.specs.Living.{lives, completion_of, scope_of, parent, sub_state, ends}
 use Rattle.sts_model.specs.Misuse.{slot, is_sub, is_scope, innermost, is_binding, has_succeeded, has_failed, at_sub, is_readable, is_illegal, is_joined, at_own}
 use Rattle.sts_model.specs.Environment.{environment_of, bound_of, read}
 use Rattle.sts_model.specs.Effect.{named, case_target, value_or_zero, tally, total, moved, effect}
@@ -35,15 +35,15 @@ use Rattle.laws_runs.proofs.EventLemmas.{Next}
 use Rattle.laws_runs.proofs.StayLemmas.{ended_is_dead}
 use Rattle.laws_runs.proofs.FrameLemmas.{at_own-is, Leaves, leaves-local, own_slot}
 use Rattle.laws_runs.specs.Tallies.{is_kind}
-use Rattle.laws_calls.specs.Fitting.{Answers, heard_in, most}
+use Rattle.laws_calls.specs.Fitting.{Answers, heard_in, most, MayCount}
 use Rattle.laws_calls.specs.Held as held
 use Rattle.laws_calls.specs.Tasks.{AllTwo, at_place, HasWay, Part, Seen, Own, bare, births_in, held_at}
-use Rattle.laws_calls.specs.Tasks.{Knowledge, Unseen, ByJoiner, Heard, bindings, May, Asked}
-use Rattle.laws_calls.specs.Steps.{Row, Table, Steps, IsTable, to, pushes, after_cancel, counted, summed, parts_with, split, told}
+use Rattle.laws_calls.specs.Tasks.{Knowledge, Unseen, ByJoiner, Heard, bindings, May, Asked, Late}
+use Rattle.laws_calls.specs.Steps.{Row, Table, Steps, IsTable, to, pushes, after_cancel, counted, summed, parts_with, split, told, after_expiry, expired_step}
 use Rattle.laws_calls.specs.Steps.{local_step, read_step, bound_step, or_else_step, bind_step, unbind_step, forget_step}
 use Rattle.laws_calls.specs.Steps.{interrupted_step, lent_step, going_step, cancelled_step, success_step, failure_step}
 use Rattle.laws_calls.specs.Steps.{missed_step, get_step, except_step, tally_step, total_step, only, kept, missed, with_part, with_seen}
-use Rattle.laws_calls.specs.Covers.{PartFits, SeenFits, HeldFits, FrameFits, TaskFits, IsRight}
+use Rattle.laws_calls.specs.Covers.{PartFits, SeenFits, HeldFits, FrameFits, TaskFits, IsRight, IsTimely}
 use Rattle.laws_calls.specs.Covers.{Watched, Covers, alive_in}
 use Rattle.laws_calls.proofs.Lists.{all_set, Apart, kept_way, no, at_among}
 use Rattle.laws_calls.proofs.Turns.{Facts, FlagsByCancel, apart_births, free_around, births_has}
@@ -51,8 +51,8 @@ use Rattle.laws_calls.proofs.Moves.{Turned, covers_turned, turned_frame, turned_
 use Rattle.laws_calls.proofs.Moves.{OwnScope, own_scope, OwnSub, own_sub, held_lent, held_slot, put_seen, put_part}
 use Rattle.laws_calls.proofs.Counts.{states_in, tally_states}
 use Rattle.laws_calls.proofs.Totals.{total_states, count_states}
-use Rattle.laws_calls.proofs.Possible.{are_possible, counts_cancelled, pick_fits, unknown, unheard, few_free, settled_fits}
-use Rattle.laws_calls.specs.Triggers.{is_trigger}
+use Rattle.laws_calls.proofs.Possible.{are_possible, counts_cancelled, pick_fits, unknown, unheard, few_free, settled_fits, counts_most, undecided}
+use Rattle.laws_calls.specs.Triggers.{is_trigger, triggers}
 use Rattle.laws_calls.proofs.Frames.{bare_local, blank_bounds, blank_drop}
 
 -- does the instruction change no more than the frame and the flag of its task?
@@ -254,9 +254,31 @@ module _ (p : Program) (t : Table) (root : Row) (is : IsTable p t root) (w : Wor
         (record { frame = k.fits.frame; held = k.fits.held; scopes = put_seen rows w opened own.scopes place s x k.fits.scopes (apart alive) at new })
         e
 
-    to_cancelled : lives (task_at w u) ≡ true → Watched w u → (x : ℕ) → not (is_scope (slot f x)) ≡ false → StepsTo p t rows w u own (Cancelled x) (moved p w u f (Cancelled x))
-    to_cancelled alive watched x legal = by (slot f x) refl legal
+    to_cancelled : ((s : ℕ) → IsTimely (scope_at w s)) → lives (task_at w u) ≡ true → Watched w u → (x : ℕ) → not (is_scope (slot f x)) ≡ false → StepsTo p t rows w u own (Cancelled x) (moved p w u f (Cancelled x))
+    to_cancelled timely alive watched x legal = by (slot f x) refl legal
       where
+        -- the scope is cancelled
+        pushed : (s : ℕ) (o : OwnScope rows w f own x s) (y : Seen) → SeenFits rows w s y → Steps p t (rows u).call own (Cancelled x) (pushes (with_seen own o.place y) 0 (truth true)) → StepsTo p t rows w u own (Cancelled x) (steps f 0 (truth true ∷ []))
+        pushed s o y new step =
+            record {
+              next = pushes (with_seen own o.place y) 0 (truth true);
+              step = step;
+              fits = fits_seen alive o.place s y (steps f 0 (truth true ∷ [])) (steps own.frame 0 (truth true ∷ [])) (leaves_refl f (f.pc + 1) 0 (truth true ∷ []))
+                  (ap (λ (z : Frame). steps z 0 (truth true ∷ [])) k.fits.frame) o.at new;
+            }
+
+        known_as : (s : ℕ) (y : Seen) (q : Knowledge) → SeenFits rows w s y → IsRight q (scope_at w s) → MayCount q y.phase y.joiner (triggers y.joiner (ends (scope_at w s))) → SeenFits rows w s (record y { knowledge = q })
+        known_as s y q k2 right counts =
+            record { joiner = k2.joiner; timed = k2.timed; environment = k2.environment; phase = k2.phase; known = right; parts = k2.parts; counts = counts; asked = k2.asked }
+
+        gone : (s : ℕ) (o : OwnScope rows w f own x s) → (scope_at w s).cancelled ≡ true → (b : Bool) → (scope_at w s).expired ≡ b → StepsTo p t rows w u own (Cancelled x) (steps f 0 (truth true ∷ []))
+        gone s o e false on_time =
+            let may = undecided o.seen.knowledge (scope_at w s) o.fits.known e on_time in
+            pushed s o (after_cancel o.seen) (known_as s o.seen ByJoiner o.fits e (counts_cancelled o.seen.knowledge o.seen.phase o.seen.joiner _ may o.fits.counts)) (cancelled_step o.place o.seen o.owns may)
+        gone s o e true late =
+            pushed s o (after_expiry o.seen) (known_as s o.seen Late o.fits (e, late) (counts_most o.seen.knowledge o.seen.phase o.seen.joiner _ o.fits.counts))
+            (expired_step o.place o.seen o.owns (unheard o.seen.knowledge (scope_at w s) o.fits.known e) (o.fits.timed ∙ timely s late))
+
         by_own : (s : ℕ) → slot f x ≡ slots.Own s → OwnScope rows w f own x s → (b : Bool) → (scope_at w s).cancelled ≡ b → StepsTo p t rows w u own (Cancelled x) (steps f 0 (truth b ∷ []))
         by_own s mine o false e =
             let fits = pick_fits rows w h.right s o.seen o.fits in
@@ -267,14 +289,7 @@ module _ (p : Program) (t : Table) (root : Row) (is : IsTable p t root) (w : Wor
                   (subst (λ n. n < most o.seen.joiner) (count_states w h.right s (is_trigger o.seen.joiner)) few);
               fits = fits_steps rows f own 0 (truth false ∷ []) k.fits;
             }
-        by_own s mine o true e =
-            record {
-              next = pushes (with_seen own o.place (after_cancel o.seen)) 0 (truth true);
-              step = cancelled_step o.place o.seen o.owns (unheard o.seen.knowledge (scope_at w s) o.fits.known e);
-              fits = fits_seen alive o.place s (after_cancel o.seen) (steps f 0 (truth true ∷ [])) (steps own.frame 0 (truth true ∷ [])) (leaves_refl f (f.pc + 1) 0 (truth true ∷ []))
-                  (ap (λ (z : Frame). steps z 0 (truth true ∷ [])) k.fits.frame) o.at
-                  (record { joiner = o.fits.joiner; timed = o.fits.timed; environment = o.fits.environment; phase = o.fits.phase; known = e; parts = o.fits.parts; counts = counts_cancelled o.seen.knowledge o.seen.phase o.seen.joiner _ (unheard o.seen.knowledge (scope_at w s) o.fits.known e) o.fits.counts; asked = o.fits.asked });
-            }
+        by_own s mine o true e = gone s o e (scope_at w s).expired refl
 
         by : (q : Slot) → slot f x ≡ q → not (is_scope q) ≡ false → StepsTo p t rows w u own (Cancelled x) (steps f 0 (truth (scope_at w (named q)).cancelled ∷ []))
         by (slots.Own s) e d = by_own s e (own_scope rows w f own x s k.fits e) (scope_at w s).cancelled refl
@@ -329,6 +344,7 @@ module _ (p : Program) (t : Table) (root : Row) (is : IsTable p t root) (w : Wor
         where
           by : (q : Knowledge) → IsRight q (scope_at w o.scope) → PartFits rows (alive_in w) (scope_at w o.scope) c (missed q o.part)
           by Unseen r = o.may
+          by Late r = record { may = subst (λ q. May (record { ways = []; is_open = true }) q) (sym is2) refl; whole = λ a free e way. absurd (no (sym r.0 ∙ free)) }
           by ByJoiner r = record { may = subst (λ q. May (record { ways = []; is_open = true }) q) (sym is2) refl; whole = λ a free e way. cc }
           by Heard r =
               record {
@@ -475,7 +491,7 @@ module _ (p : Program) (t : Table) (root : Row) (is : IsTable p t root) (w : Wor
         (λ watched own k. to_local c.rows u own k i local))
 
     pub give : (i : Instr) → changes_frame_alone i ≡ true → Gives i
-    give (Cancelled x) a n flags d = with_next (Cancelled x) (moved p w u frame (Cancelled x)) n flags d (λ watched own k. to_cancelled c.rows u own k d.alive watched x d.fine.slots)
+    give (Cancelled x) a n flags d = with_next (Cancelled x) (moved p w u frame (Cancelled x)) n flags d (λ watched own k. to_cancelled c.rows u own k c.timely d.alive watched x d.fine.slots)
     give (Case x success failed) a n flags d =
         let mine = named_sub (Case x success failed) x false d.fine.slots in
         with_next (Case x success failed) (moved p w u frame (Case x success failed)) n flags d

@@ -30,7 +30,7 @@ use Rattle.laws_runs.proofs.FrameLemmas.{own_slot, at_own-is}
 use Rattle.laws_runs.proofs.BirthLemmas.{born_alive}
 use Rattle.laws_calls.specs.Held.{Held}
 use Rattle.laws_calls.specs.Held as held
-use Rattle.laws_calls.specs.Tasks.{Among, AllTwo, Seen, Own, Knowledge, Unseen, ByJoiner, Heard, bare, births_in}
+use Rattle.laws_calls.specs.Tasks.{Among, AllTwo, Seen, Own, Knowledge, Unseen, ByJoiner, Heard, bare, births_in, Late}
 use Rattle.laws_calls.specs.Steps.{Row, Table, IsTable, closed, clear, close_step}
 use Rattle.laws_calls.specs.Covers.{subs, PartFits, ScopeFits, SeenFits, HeldFits, TaskFits, IsRight}
 use Rattle.laws_calls.specs.Covers.{Covers, alive_in}
@@ -107,6 +107,7 @@ module _ (p : Program) (t : Table) (root : Row) (is : IsTable p t root) (w : Wor
   still_right : any_lives (cancel w s) s ≡ true → (q : Knowledge) → IsRight q (scope_at w s) → IsRight q leaving
   still_right some Unseen r = tt
   still_right some ByJoiner r = refl
+  still_right some Late r = (refl, r.1)
   still_right some Heard r = absurd (never_heard some r)
 
   waiting_seen : any_lives (cancel w s) s ≡ true → (rows : ℕ → Row) (y : Seen) → SeenFits rows w s y → SeenFits rows waits s y

@@ -1,6 +1,6 @@
 -- What a table covers, over runs.
 use Rattle.std.proofs.Common.{◌≡◌, ℕ, ◌<◌, ◌⊎◌, inl, inr, List, [], ◌∷◌, ◌++◌, true, false, Some, None, refl}
-use Rattle.std.proofs.Common.{sym, ap, subst, length, zero, suc, append-nil, append_assoc}
+use Rattle.std.proofs.Common.{◌∙◌, sym, ap, subst, length, zero, suc, append-nil, append_assoc}
 use Rattle.std.specs.List.{list_any}
 use Rattle.sts_code.specs.Program.{Program}
 use Rattle.sts_code.specs.declared.instr.Instr.{Instr}
@@ -13,7 +13,8 @@ use Rattle.sts_model.specs.Living.{lives, sub_state}
 use Rattle.sts_model.specs.Misuse.{is_joined, is_entry_of}
 use Rattle.sts_model.specs.Effect.{effect}
 use Rattle.sts_model.specs.Local.{operand}
-use Rattle.sts_model.specs.Run.{after, apply, is_step}
+use Rattle.sts_model.specs.Run.{after, apply}
+use Rattle.sts_model.specs.Outside.{expire}
 use Rattle.laws_runs.specs.Flags.{IsCancelled}
 use Rattle.laws_runs.specs.Runs.{In, Between, Each, Does}
 use Rattle.laws_runs.specs.Scopes.{HasCause, IsEntered}
@@ -28,8 +29,8 @@ use Rattle.laws_runs.proofs.TallyLemmas.{tallies_are_counts}
 use Rattle.laws_calls.specs.Held as held
 use Rattle.laws_calls.specs.Tasks.{Call, HasWay, Own, begin}
 use Rattle.laws_calls.specs.Steps.{Row, Table, IsTable, root_call}
-use Rattle.laws_calls.specs.Covers.{Covers, TaskFits, AreSteps}
-use Rattle.laws_calls.specs.Covered.{StepsAreCovered, RunsAreCovered, EndsAreWays}
+use Rattle.laws_calls.specs.Covers.{Covers, TaskFits, NoInterrupts, is_interrupt}
+use Rattle.laws_calls.specs.Covered.{EventsAreCovered, RunsAreCovered, EndsAreWays}
 use Rattle.laws_calls.proofs.Turns.{Facts, FlagsByCancel}
 use Rattle.laws_calls.proofs.Alone.{give}
 use Rattle.laws_calls.proofs.Opens.{open_covered}
@@ -37,6 +38,8 @@ use Rattle.laws_calls.proofs.Forks.{fork_covered, empties}
 use Rattle.laws_calls.proofs.Joins.{join_covered}
 use Rattle.laws_calls.proofs.Closes.{close_covered}
 use Rattle.laws_calls.proofs.Ends.{end_covered}
+use Rattle.laws_calls.proofs.Expires.{expiry_covered}
+use Rattle.laws_calls.proofs.Lists.{no}
 
 pub facts_after : (p : Program) (events : List Event) → In Facts (after p events)
 facts_after p events =
@@ -57,15 +60,15 @@ facts_after p events =
 abbrev FlagsSaid : World → Event → World → Type 0
 FlagsSaid w e v = (u : ℕ) → (task_at w u).flag ≡ false → (task_at v u).flag ≡ true → (e ≡ event.Interrupt u) ⊎ ((s : ℕ) × ((task_at w u).scope ≡ Some s) × IsCancelled w v s)
 
-by_cancel : (w v : World) (u : ℕ) → FlagsSaid w (event.Step u) v → FlagsByCancel w v
-by_cancel w v u said q before after = by (said q before after)
+by_cancel : (w v : World) (e : Event) → is_interrupt e ≡ false → FlagsSaid w e v → FlagsByCancel w v
+by_cancel w v e calm said q before after = by (said q before after)
   where
-    by : (event.Step u ≡ event.Interrupt q) ⊎ ((s : ℕ) × ((task_at w q).scope ≡ Some s) × IsCancelled w v s) → (s : ℕ) × ((task_at w q).scope ≡ Some s) × IsCancelled w v s
-    by (inl e) = cc
+    by : (e ≡ event.Interrupt q) ⊎ ((s : ℕ) × ((task_at w q).scope ≡ Some s) × IsCancelled w v s) → (s : ℕ) × ((task_at w q).scope ≡ Some s) × IsCancelled w v s
+    by (inl same) = absurd (no (sym (ap is_interrupt same) ∙ calm))
     by (inr r) = r
 
 abbrev Covered : Program → World → Event → World → Type 0
-Covered p w e v = FlagsSaid w e v → (t : Table) (root : Row) → IsTable p t root → Covers p t root w → is_step e ≡ true → Covers p t root v
+Covered p w e v = FlagsSaid w e v → (t : Table) (root : Row) → IsTable p t root → Covers p t root w → is_interrupt e ≡ false → Covers p t root v
 
 give_step : (p : Program) (t : Table) (root : Row) (is : IsTable p t root) (w : World) (h : Facts w) (c : Covers p t root w) (u : ℕ) (i : Instr) → Next w (effect p w u (task_at w u).frame i) → FlagsByCancel w (effect p w u (task_at w u).frame i) → Does p w u i → Covers p t root (effect p w u (task_at w u).frame i)
 give_step p t root is w h c u (Open x joiner timed) n flags d = open_covered p t root is w h u x joiner timed c n flags d
@@ -76,27 +79,27 @@ give_step p t root is w h c u Ret n flags d = end_covered p t root is w h u Ret 
 give_step p t root is w h c u Fail n flags d = end_covered p t root is w h u Fail (Failed (operand (task_at w u).frame 0)) d refl c n flags
 give_step p t root is w h c u i n flags d = give p t root is w h c u i refl n flags d
 
-step_law : Each Covered
-step_law =
+event_law : Each Covered
+event_law =
     each-from (λ p w. Facts w) facts_after Covered
     (λ p. record {
       nothing = λ w u h e flags t root is c step. c;
       effect = λ w u i h d flags t root is c step.
-          give_step p t root is w h c u i ((next-leads p).effect w u i h.right d) (by_cancel w (effect p w u (task_at w u).frame i) u flags) d;
+          give_step p t root is w h c u i ((next-leads p).effect w u i h.right d) (by_cancel w (effect p w u (task_at w u).frame i) (event.Step u) refl flags) d;
       interrupt = λ w t h flags t2 root is c step. cc;
-      expire = λ w s h flags t root is c step. cc;
+      expire = λ w s h flags t root is c step. expiry_covered p t root w h s c ((next-leads p).expire w s h.right) (by_cancel w (expire w s) (event.Expire s) refl flags);
     })
 
-abbrev Steps : Program → World → Event → World → Type 0
-Steps p w e v = (t : Table) (root : Row) → IsTable p t root → Covers p t root w → is_step e ≡ true → Covers p t root v
+abbrev Gives : Program → World → Event → World → Type 0
+Gives p w e v = (t : Table) (root : Row) → IsTable p t root → Covers p t root w → is_interrupt e ≡ false → Covers p t root v
 
-both : (p : Program) (e : Event) (a b : State) → Between (λ w v. Covered p w e v) a b → Between (λ w v. FlagsSaid w e v) a b → Between (λ w v. Steps p w e v) a b
+both : (p : Program) (e : Event) (a b : State) → Between (λ w v. Covered p w e v) a b → Between (λ w v. FlagsSaid w e v) a b → Between (λ w v. Gives p w e v) a b
 both p e (Running w) (Running v) law flags = law flags
 both p e (Running w) (Faulted kind t f pc) law flags = tt
 both p e (Faulted kind t f pc) b law flags = tt
 
-pub steps_are_covered : StepsAreCovered
-steps_are_covered p events e = both p e (after p events) (after p (events ++ e ∷ [])) (step_law p events e) (flags_have_cause p events e)
+pub events_are_covered : EventsAreCovered
+events_are_covered p events e = both p e (after p events) (after p (events ++ e ∷ [])) (event_law p events e) (flags_have_cause p events e)
 
 -- ---- whole runs
 
@@ -108,7 +111,7 @@ module _ (p : Program) (t : Table) (root : Row) (is : IsTable p t root) where
         rows = λ u. root;
         listed = λ u. is.listed;
         first = refl;
-        calm = λ s. refl;
+        timely = λ s late. cc;
         tasks = λ u alive watched. begun u alive;
         ended = λ e ended. cc;
       }
@@ -125,18 +128,18 @@ module _ (p : Program) (t : Table) (root : Row) (is : IsTable p t root) where
       )
       begun (suc u) alive = cc
 
-  -- one step more
-  next : (events : List Event) (e : Event) → is_step e ≡ true → In (Covers p t root) (after p events) → In (Covers p t root) (after p (events ++ e ∷ []))
-  next events e step = by (after p events) (after p (events ++ e ∷ [])) (after-append p events (e ∷ [])) (steps_are_covered p events e)
+  -- one event more
+  next : (events : List Event) (e : Event) → is_interrupt e ≡ false → In (Covers p t root) (after p events) → In (Covers p t root) (after p (events ++ e ∷ []))
+  next events e step = by (after p events) (after p (events ++ e ∷ [])) (after-append p events (e ∷ [])) (events_are_covered p events e)
     where
-      by : (a b : State) → b ≡ apply p a e → Between (λ w v. Steps p w e v) a b → In (Covers p t root) a → In (Covers p t root) b
+      by : (a b : State) → b ≡ apply p a e → Between (λ w v. Gives p w e v) a b → In (Covers p t root) a → In (Covers p t root) b
       by (Running w) (Running v) same law c = law t root is c step
       by (Running w) (Faulted kind u f pc) same law c = tt
       by (Faulted kind u f pc) (Running v) same law c = cc
       by (Faulted kind u f pc) (Faulted kind2 u2 f2 pc2) same law c = tt
 
-  -- any steps more
-  from : (before events : List Event) → AreSteps events → In (Covers p t root) (after p before) → In (Covers p t root) (after p (before ++ events))
+  -- any events more
+  from : (before events : List Event) → NoInterrupts events → In (Covers p t root) (after p before) → In (Covers p t root) (after p (before ++ events))
   from before [] steps c = subst (λ es. In (Covers p t root) (after p es)) (sym (append-nil before)) c
   from before (e ∷ es) steps c =
       subst (λ all. In (Covers p t root) (after p all)) (append_assoc before (e ∷ []) es) (from (before ++ e ∷ []) es steps.1 (next before e steps.0 c))

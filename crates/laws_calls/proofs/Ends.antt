@@ -28,10 +28,10 @@ use Rattle.laws_runs.proofs.StayLemmas.{ended_is_dead}
 use Rattle.laws_runs.proofs.CompletionLemmas.{completion-front, completion-new, completion-either}
 use Rattle.laws_runs.proofs.EventLemmas.{Next}
 use Rattle.laws_runs.proofs.BirthLemmas.{born_alive}
-use Rattle.laws_calls.specs.Tasks.{HasWay, May, Part, Seen, Own, Knowledge, Unseen, ByJoiner, Heard, bare, nothing}
+use Rattle.laws_calls.specs.Tasks.{HasWay, May, Part, Seen, Own, Knowledge, Unseen, ByJoiner, Heard, bare, nothing, Late}
 use Rattle.laws_calls.specs.Steps.{Row, Table, IsTable, end_by}
 use Rattle.laws_calls.specs.Covers.{subs, PartFits, ScopeFits, SeenFits, TaskFits, IsRight}
-use Rattle.laws_calls.specs.Covers.{Watched, watched_root, watched_sub, Covers, alive_in}
+use Rattle.laws_calls.specs.Covers.{IsTimely, Watched, watched_root, watched_sub, Covers, alive_in}
 use Rattle.laws_calls.proofs.Lists.{all_map, no}
 use Rattle.laws_calls.proofs.Turns.{Facts, FlagsByCancel, alive_later, watched_before, seen_same, task_same, sub_born}
 use Rattle.laws_calls.proofs.Moves.{subs_same}
@@ -57,7 +57,7 @@ pub record Ended (w v : World) (u : ℕ) (end : End) : Type 0 where
   pub outcome : (k : ℕ) → (k ≡ u → ⊥) → (task_at v k).outcome ≡ (task_at w k).outcome
   pub frame : (k : ℕ) → (k ≡ u → ⊥) → (task_at v k).frame ≡ (task_at w k).frame
   pub scope : (k : ℕ) → (task_at v k).scope ≡ (task_at w k).scope
-  pub expired : (s : ℕ) → (scope_at v s).expired ≡ (scope_at w s).expired
+  pub timely : (s : ℕ) → IsTimely (scope_at w s) → IsTimely (scope_at v s)
   pub scopes : (s : ℕ) → (scope_at v s ≡ scope_at w s) ⊎ IsTold w v u end s
 
 module _ (w : World) (u : ℕ) (end : End) (born : u < length w.tasks) where
@@ -79,7 +79,7 @@ module _ (w : World) (u : ℕ) (end : End) (born : u < length w.tasks) where
         outcome = λ k other. ap (λ (y : Task). y.outcome) (get_or-set_other w.tasks u k x no_task other);
         frame = λ k other. ap (λ (y : Task). y.frame) (get_or-set_other w.tasks u k x no_task other);
         scope = λ k. at_set (λ (y : Task). y.scope ≡ (task_at w k).scope) w.tasks u k x no_task (λ e. rw e refl) refl;
-        expired = λ s. refl;
+        timely = λ s k. k;
         scopes = λ s. inl refl;
       }
 
@@ -133,8 +133,8 @@ module _ (w : World) (u : ℕ) (end : End) (born : u < length w.tasks) where
           completions = still.completions s ∙ ap (λ (z : Scope). z.completions) here_told;
         }
 
-    old_expired : (r : ℕ) → (scope_at w2 r).expired ≡ (scope_at w r).expired
-    old_expired r = at_set (λ (z : Scope). z.expired ≡ (scope_at w r).expired) w.scopes s r y no_scope (λ e. rw e refl) refl
+    old_timely : (r : ℕ) → IsTimely (scope_at w r) → IsTimely (scope_at w2 r)
+    old_timely r k = at_set (λ (z : Scope). IsTimely z) w.scopes s r y no_scope (λ e. subst (λ i. IsTimely (scope_at w i)) e k) k
 
     -- the joiner of its scope is told
     telling : Ended w w3 u end
@@ -145,7 +145,7 @@ module _ (w : World) (u : ℕ) (end : End) (born : u < length w.tasks) where
           outcome = λ k other. still.outcome k ∙ untold.outcome k other;
           frame = λ k other. same_frame k ∙ untold.frame k other;
           scope = λ k. (still.kept.task k).same.scope ∙ untold.scope k;
-          expired = λ r. same_scope (λ (z : Scope). z.expired ≡ (scope_at w r).expired) r (old_expired r) (old_expired r);
+          timely = λ r k. same_scope (λ (z : Scope). IsTimely z) r (old_timely r k) (old_timely r k);
           scopes = λ r. by r (nat_eq r s) refl;
         }
       where
@@ -239,11 +239,13 @@ module _ (p : Program) (t : Table) (root : Row) (is : IsTable p t root) (w v : W
 
       counts : (q : Knowledge) → IsRight q (scope_at w s) → MayCount q x.phase x.joiner (triggers x.joiner (ends (scope_at w s))) → MayCount q x.phase x.joiner (triggers x.joiner (ends (scope_at v s)))
       counts Unseen r m = counts_told x.phase x.joiner (triggers x.joiner (ends (scope_at w s))) (triggers x.joiner (ends (scope_at v s))) m few
+      counts Late r m = let gone : (scope_at w s).cancelled ≡ true = r.0 in absurd (no (sym gone ∙ told.free))
       counts ByJoiner r m = let gone : (scope_at w s).cancelled ≡ true = r in absurd (no (sym gone ∙ told.free))
       counts Heard r m = let dead = h.settled s u r.1 told.free told.inside in absurd (no (sym alive ∙ dead))
 
       known : (q : Knowledge) → IsRight q (scope_at w s) → IsRight q (scope_at v s)
       known Unseen r = tt
+      known Late r = let gone : (scope_at w s).cancelled ≡ true = r.0 in absurd (no (sym gone ∙ told.free))
       known ByJoiner r = let gone : (scope_at w s).cancelled ≡ true = r in absurd (no (sym gone ∙ told.free))
       known Heard r = let dead = h.settled s u r.1 told.free told.inside in absurd (no (sym alive ∙ dead))
 
@@ -290,7 +292,7 @@ module _ (p : Program) (t : Table) (root : Row) (is : IsTable p t root) (w v : W
           rows = c.rows;
           listed = c.listed;
           first = c.first;
-          calm = λ s. o.expired s ∙ c.calm s;
+          timely = λ s. o.timely s (c.timely s);
           tasks = covered;
           ended = λ e is2. root_ended e is2 (nat_eq 0 u) refl;
         }

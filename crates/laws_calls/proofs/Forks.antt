@@ -32,10 +32,10 @@ use Rattle.laws_runs.proofs.EventLemmas.{Right, Next}
 use Rattle.laws_runs.proofs.FrameLemmas.{own_slot, at_own-is}
 use Rattle.laws_runs.proofs.BirthLemmas.{born_alive}
 use Rattle.laws_calls.specs.Held as held
-use Rattle.laws_calls.specs.Tasks.{Among, AllTwo, Call, HasWay, Part, May, Seen, Own, bare, begin, births_in, Way, Knowledge, Unseen, ByJoiner, Heard, nothing}
+use Rattle.laws_calls.specs.Tasks.{Among, AllTwo, Call, HasWay, Part, May, Seen, Own, bare, begin, births_in, Way, Knowledge, Unseen, ByJoiner, Heard, nothing, Late}
 use Rattle.laws_calls.specs.Steps.{Row, Table, IsTable, IsRowOf, call_of, with_handle, forked, fork_step, Steps, is_cancelled, unstarted_step}
 use Rattle.laws_calls.specs.Covers.{subs, PartFits, ScopeFits, SeenFits, HeldFits, FrameFits, TaskFits}
-use Rattle.laws_calls.specs.Covers.{Watched, Covers, alive_in, IsRight}
+use Rattle.laws_calls.specs.Covers.{Watched, Covers, alive_in, IsRight, IsTimely}
 use Rattle.laws_calls.proofs.Lists.{all_map, all_set, all_length, all_append, all_put_place, Apart, filter_agree, range_last}
 use Rattle.laws_calls.proofs.Lists.{range_among, get_front, get_last, no}
 use Rattle.laws_calls.proofs.Turns.{Facts, FlagsByCancel, alive_later, watched_before, flag_stays, environment_stays}
@@ -254,6 +254,7 @@ not_asked a b e (inr same) (inr k) = absurd (no (sym (ap (λ z. not (is_opened z
 
 known_gone : (q : Knowledge) (scope : Scope) → is_cancelled q ≡ true → IsRight q scope → scope.cancelled ≡ true
 known_gone ByJoiner scope e r = r
+known_gone Late scope e r = r.0
 known_gone Unseen scope e r = cc
 known_gone Heard scope e r = cc
 
@@ -409,7 +410,7 @@ module _ (p : Program) (t : Table) (root : Row) (is : IsTable p t root) (w : Wor
           rows = later;
           listed = row_listed t c.rows m o.row c.listed o.listed;
           first = agree 0 (omega (arith, born)) ∙ c.first;
-          calm = λ r. ap (λ (z : Scope). z.expired) (scope_same p w h u x g q r) ∙ c.calm r;
+          timely = λ r. subst (λ (z : Scope). IsTimely z) (sym (scope_same p w h u x g q r)) (c.timely r);
           tasks = covered;
           ended = λ e is2.
               c.ended e (sym (of_old p w h u x g q (λ (y : Task). y.outcome ≡ (task_at w 0).outcome) 0 (omega (arith, born)) born refl refl) ∙ is2);

@@ -39,13 +39,13 @@ use Rattle.laws_runs.proofs.FrameLemmas.{own_slot, at_own-is, Leaves}
 use Rattle.laws_runs.proofs.StayLemmas.{ended_is_dead}
 use Rattle.laws_runs.proofs.BirthLemmas.{born_alive}
 use Rattle.laws_calls.specs.Tasks.{Among, AllTwo, May, Part, Seen, Own, bare, births_in, ByJoiner, Heard, nothing}
-use Rattle.laws_calls.specs.Steps.{Row, Table, IsTable, Steps, MayEnd, with_seen, answered, joined, decided, only, ended, after_cancel, after_all}
+use Rattle.laws_calls.specs.Steps.{Row, Table, IsTable, Steps, MayEnd, with_seen, answered, joined, decided, only, ended, after_cancel, after_all, timed_out, after_expiry, timeout_step}
 use Rattle.laws_calls.specs.Steps.{by_one_step, by_count_step, heard_step, none_step, is_by_one, is_until, is_any}
 use Rattle.laws_calls.specs.Covers.{subs, PartFits, ScopeFits, SeenFits, HeldFits, FrameFits, TaskFits, IsRight}
 use Rattle.laws_calls.specs.Covers.{Covers, alive_in}
 use Rattle.laws_calls.specs.Triggers.{is_trigger, triggers}
 use Rattle.laws_calls.specs.Fitting.{MayCount, Answers}
-use Rattle.laws_calls.proofs.Possible.{are_possible, counts_most, enough, few_free, unknown, unheard}
+use Rattle.laws_calls.proofs.Possible.{are_possible, counts_most, enough, few_free, unknown, unheard, undecided}
 use Rattle.laws_calls.proofs.Lists.{all_map, all_at, all_put, all_right, all_length, all_put_place, Apart, among_get, no}
 use Rattle.laws_calls.proofs.Turns.{Facts, FlagsByCancel, part_same, seen_same, held_same, apart_births, sub_born, sub_listed, listed_inside}
 use Rattle.laws_calls.proofs.Moves.{GoesOn, covers_turned, subs_same, OwnScope, own_scope}
@@ -242,9 +242,9 @@ module _ (p : Program) (t : Table) (root : Row) (is : IsTable p t root) (w : Wor
       counts_most o.seen.knowledge o.seen.phase o.seen.joiner (triggers o.seen.joiner (ends scope)) o.fits.counts,
     )
 
-    by_one : scope.cancelled ≡ true → is_asked scope ≡ true → (test : End → Bool) (j : Joiner) → scope.joiner ≡ j → is_by_one j ≡ true → ((e : End) → test e ≡ true → is_trigger j e ≡ true)
+    by_one : scope.cancelled ≡ true → scope.expired ≡ false → is_asked scope ≡ true → (test : End → Bool) (j : Joiner) → scope.joiner ≡ j → is_by_one j ≡ true → ((e : End) → test e ≡ true → is_trigger j e ≡ true)
         → (b : First test (ends scope)) → result_of j (ends scope) (subtask_count w s) ≡ result_of j (b.end ∷ []) (length parts) → Outcome rows own o
-    by_one gone asked test j is_j one triggers b same =
+    by_one gone on_time asked test j is_j one triggers b same =
         let e : End = b.end in
         let c : EndedBy e = ended_by e b.there in
         let seen_j : o.seen.joiner ≡ j = o.fits.joiner ∙ is_j in
@@ -252,35 +252,35 @@ module _ (p : Program) (t : Table) (root : Row) (is : IsTable p t root) (w : Wor
           answer = result_of o.seen.joiner (e ∷ []) (length parts);
           seen = decided (after_cancel o.seen) c.i e;
           same = ap (λ k. result_of k (ends scope) (subtask_count w s)) is_j ∙ same ∙ ap (λ k. result_of k (e ∷ []) (length parts)) (sym seen_j);
-          step = by_one_step o.place o.seen c.i e o.owns (unheard o.seen.knowledge scope o.fits.known gone) (subst (λ k. is_by_one k ≡ true) (sym seen_j) one) c.may
+          step = by_one_step o.place o.seen c.i e o.owns (undecided o.seen.knowledge scope o.fits.known gone on_time) (subst (λ k. is_by_one k ≡ true) (sym seen_j) one) c.may
               (subst (λ k. is_trigger k e ≡ true) (sym seen_j) (triggers e b.passes));
           fits = fits_with (decided (after_cancel o.seen) c.i e) refl refl refl refl gone (gone_counts asked) (parts_decided o.seen e c o.fits.parts);
         }
 
-    by_count : scope.cancelled ≡ true → is_asked scope ≡ true → (j : Joiner) → scope.joiner ≡ j → is_until j ≡ true → ((n : ℕ) (es : List End) → result_of j es n ≡ result_of j [] n) → Outcome rows own o
-    by_count gone asked j is_j until none =
+    by_count : scope.cancelled ≡ true → scope.expired ≡ false → is_asked scope ≡ true → (j : Joiner) → scope.joiner ≡ j → is_until j ≡ true → ((n : ℕ) (es : List End) → result_of j es n ≡ result_of j [] n) → Outcome rows own o
+    by_count gone on_time asked j is_j until none =
         let seen_j : o.seen.joiner ≡ j = o.fits.joiner ∙ is_j in
         record {
           answer = result_of o.seen.joiner [] (length parts);
           seen = after_cancel o.seen;
           same = ap (λ k. result_of k (ends scope) (subtask_count w s)) is_j ∙ none (subtask_count w s) (ends scope) ∙ ap (λ n. result_of j [] n) count ∙ ap (λ k. result_of k [] (length parts)) (sym seen_j);
-          step = by_count_step o.place o.seen o.owns (unheard o.seen.knowledge scope o.fits.known gone) (subst (λ k. is_until k ≡ true) (sym seen_j) until);
+          step = by_count_step o.place o.seen o.owns (undecided o.seen.knowledge scope o.fits.known gone on_time) (subst (λ k. is_until k ≡ true) (sym seen_j) until);
           fits = fits_with (after_cancel o.seen) refl refl refl refl gone (gone_counts asked) o.fits.parts;
         }
 
-    cancelled_answers : scope.cancelled ≡ true → is_asked scope ≡ true → (j : Joiner) → scope.joiner ≡ j → cancels j (ends scope) ≡ true → Outcome rows own o
-    cancelled_answers gone told_asked AllSucceed is_j asked =
+    cancelled_answers : scope.cancelled ≡ true → scope.expired ≡ false → is_asked scope ≡ true → (j : Joiner) → scope.joiner ≡ j → cancels j (ends scope) ≡ true → Outcome rows own o
+    cancelled_answers gone on_time told_asked AllSucceed is_j asked =
         let b = first_end is_failure (ends scope) asked in
-        by_one gone told_asked is_failure AllSucceed is_j refl (λ e passes. passes) b (one_verdict is_failure (ends scope) b (verdict.Ok (Some (pos (subtask_count w s)))) (verdict.Ok (Some (pos (length parts)))))
-    cancelled_answers gone told_asked AwaitOk is_j asked =
+        by_one gone on_time told_asked is_failure AllSucceed is_j refl (λ e passes. passes) b (one_verdict is_failure (ends scope) b (verdict.Ok (Some (pos (subtask_count w s)))) (verdict.Ok (Some (pos (length parts)))))
+    cancelled_answers gone on_time told_asked AwaitOk is_j asked =
         let b = first_end is_failure (ends scope) asked in
-        by_one gone told_asked is_failure AwaitOk is_j refl (λ e passes. passes) b (one_verdict is_failure (ends scope) b (verdict.Ok None) (verdict.Ok None))
-    cancelled_answers gone told_asked AnySucceeds is_j asked =
+        by_one gone on_time told_asked is_failure AwaitOk is_j refl (λ e passes. passes) b (one_verdict is_failure (ends scope) b (verdict.Ok None) (verdict.Ok None))
+    cancelled_answers gone on_time told_asked AnySucceeds is_j asked =
         let b = first_end is_success (ends scope) asked in
-        by_one gone told_asked is_success AnySucceeds is_j refl (λ e passes. passes) b
+        by_one gone on_time told_asked is_success AnySucceeds is_j refl (λ e passes. passes) b
         (one_verdict is_success (ends scope) b (verdict_or (find is_failure (ends scope)) (verdict.Failed (negsuc 0))) (verdict_or (find is_failure (b.end ∷ [])) (verdict.Failed (negsuc 0))))
-    cancelled_answers gone told_asked AwaitAll is_j asked = cc
-    cancelled_answers gone told_asked (Until q) is_j asked = by_count gone told_asked (Until q) is_j refl (λ n es. refl)
+    cancelled_answers gone on_time told_asked AwaitAll is_j asked = cc
+    cancelled_answers gone on_time told_asked (Until q) is_j asked = by_count gone on_time told_asked (Until q) is_j refl (λ n es. refl)
 
     -- ---- all subtasks have ended
 
@@ -395,7 +395,7 @@ module _ (p : Program) (t : Table) (root : Row) (is : IsTable p t root) (w : Wor
     answers timely done = by scope.cancelled refl (any_lives w s) refl done
       where
         by : (a : Bool) → scope.cancelled ≡ a → (b : Bool) → any_lives w s ≡ b → (a || not b) ≡ true → Outcome rows own o
-        by true gone b e k = let asked = (h.caused s born_s).cause gone timely (staying scope.phase legal) in cancelled_answers gone asked scope.joiner refl asked
+        by true gone b e k = let asked = (h.caused s born_s).cause gone timely (staying scope.phase legal) in cancelled_answers gone timely asked scope.joiner refl asked
         by false free false none k = heard_answers free none scope.joiner refl
         by false free true some k = cc
 
@@ -422,42 +422,66 @@ module _ (p : Program) (t : Table) (root : Row) (is : IsTable p t root) (w : Wor
   unflagged false false true true e k1 k2 k3 = cc
   unflagged false false true false e k1 k2 k3 = cc
 
-  covers_attempted : (c : Covers p t root w) → Next w attempted → FlagsByCancel w attempted → (scope.cancelled || not (any_lives w s)) ≡ false → Covers p t root attempted
-  covers_attempted c nx flags waits =
+  covers_attempted : (c : Covers p t root w) → scope.expired ≡ false → Next w attempted → FlagsByCancel w attempted → (scope.cancelled || not (any_lives w s)) ≡ false → Covers p t root attempted
+  covers_attempted c on_time nx flags waits =
       let re = rescoped_flag w (with_phase w s Attempted) u s f (goes f to_i 0 []) (record scope { phase = Attempted }) false born (rescoped_phase w u s born_s owner Attempted) in
       covers_turned p t root w attempted h nx flags c u (goes f to_i 0 []) re.turned d.alive
-      (λ watched own k. absurd (unflagged scope.expired scope.cancelled (any_lives w s) (task_at w u).flag can_join_now (c.calm s) waits k.flag))
+      (λ watched own k. absurd (unflagged scope.expired scope.cancelled (any_lives w s) (task_at w u).flag can_join_now on_time waits k.flag))
 
   abbrev outcome : World
   outcome = effects.joined w u s g
 
-  covers_outcome : (c : Covers p t root w) → Next w outcome → FlagsByCancel w outcome → (scope.cancelled || not (any_lives w s)) ≡ true → Covers p t root outcome
-  covers_outcome c nx flags done =
+  covers_outcome : (c : Covers p t root w) → scope.expired ≡ false → Next w outcome → FlagsByCancel w outcome → (scope.cancelled || not (any_lives w s)) ≡ true → Covers p t root outcome
+  covers_outcome c on_time nx flags done =
       let re : Rescoped w outcome u s g after_join = rescoped_frame w (with_phase w s Joined) u s f g after_join born (rescoped_phase w u s born_s owner Joined) in
       covers_turned p t root w outcome h nx flags c u g re.turned d.alive
       (λ watched own k.
       let o = own_scope c.rows w f own x s k.fits mine in
-      goes_on c outcome nx re own k o (answers c.rows own o (c.calm s) done))
+      goes_on c outcome nx re own k o (answers c.rows own o on_time done))
 
   abbrev verdict_world : World
   verdict_world = join_verdict told w u s f (unwrap_or failed 0)
 
-  covers_verdict : (c : Covers p t root w) → Next w verdict_world → FlagsByCancel w verdict_world → (scope.cancelled || not (any_lives w s)) ≡ true → Covers p t root verdict_world
-  covers_verdict c nx flags done =
+  covers_verdict : (c : Covers p t root w) → scope.expired ≡ false → Next w verdict_world → FlagsByCancel w verdict_world → (scope.cancelled || not (any_lives w s)) ≡ true → Covers p t root verdict_world
+  covers_verdict c on_time nx flags done =
       let same : verdict_world ≡ outcome = verdict_frame told w u s f (unwrap_or failed 0) in
-      subst (λ (v : World). Covers p t root v) (sym same) (covers_outcome c (subst (λ (v : World). Next w v) same nx) (subst (λ (v : World). FlagsByCancel w v) same flags) done)
+      subst (λ (v : World). Covers p t root v) (sym same) (covers_outcome c on_time (subst (λ (v : World). Next w v) same nx) (subst (λ (v : World). FlagsByCancel w v) same flags) done)
 
   abbrev late : World
   late = effects.joined w u s (goes f (unwrap_or timeout 0) 0 [])
+
+  covers_late : (c : Covers p t root w) → scope.expired ≡ true → Next w late → FlagsByCancel w late → Covers p t root late
+  covers_late c expired nx flags =
+      let to_pc : ℕ = unwrap_or timeout 0 in
+      let re : Rescoped w late u s (goes f to_pc 0 []) after_join = rescoped_frame w (with_phase w s Joined) u s f (goes f to_pc 0 []) after_join born (rescoped_phase w u s born_s owner Joined) in
+      let gone : scope.cancelled ≡ true = (h.caused s born_s).expired expired in
+      covers_turned p t root w late h nx flags c u (goes f to_pc 0 []) re.turned d.alive
+      (λ watched own k.
+      let o = own_scope c.rows w f own x s k.fits mine in
+      let next : Own = timed_out own o.place o.seen to_pc in
+      let seen_late : ScopeFits c.rows (alive_in w) after_join (subs w s) (record (after_expiry o.seen) { phase = Joined }) =
+      fits_with c.rows own o (after_expiry o.seen) refl refl refl refl (gone, expired) (counts_most o.seen.knowledge o.seen.phase o.seen.joiner _ o.fits.counts) o.fits.parts
+      in
+      let fits : FrameFits c.rows late (goes f to_pc 0 []) next =
+      fits_joined (goes f to_pc 0 []) late nx re c.rows own k o (record (after_expiry o.seen) { phase = Joined }) (goes own.frame to_pc 0 []) (record { function = refl; entries = refl; slots = refl })
+      (ap (λ (z : Frame). goes z to_pc 0 []) k.fits.frame) seen_late
+      in
+      record {
+        own = next;
+        there = is.closed (c.rows u) own next (Join x failed timeout to_i) (c.listed u) k.there (instr_of p f own (Join x failed timeout to_i) k.fits.frame d.at)
+            (timeout_step o.place o.seen o.owns (unheard o.seen.knowledge scope o.fits.known gone) (o.fits.timed ∙ c.timely s expired))
+            (are_possible c.rows late nx.right (births_in f.entries) next.scopes fits.scopes);
+        fits = fits;
+      })
 
   abbrev after : World
   after = join_scope w u f s (unwrap_or failed 0) (unwrap_or timeout 0) to_i
 
   pub join_covered : (c : Covers p t root w) → Next w after → FlagsByCancel w after → Covers p t root after
   unfolding join_scope
-  join_covered c nx flags = by scope.expired (c.calm s) (scope.cancelled || not (any_lives w s)) refl nx flags
+  join_covered c nx flags = by scope.expired refl (scope.cancelled || not (any_lives w s)) refl nx flags
     where
-      by : (a : Bool) → a ≡ false → (b : Bool) → (scope.cancelled || not (any_lives w s)) ≡ b → Next w (cond a late (cond b verdict_world attempted)) → FlagsByCancel w (cond a late (cond b verdict_world attempted)) → Covers p t root (cond a late (cond b verdict_world attempted))
-      by true e b e2 n2 flags2 = cc
-      by false e true e2 n2 flags2 = covers_verdict c n2 flags2 e2
-      by false e false e2 n2 flags2 = covers_attempted c n2 flags2 e2
+      by : (a : Bool) → scope.expired ≡ a → (b : Bool) → (scope.cancelled || not (any_lives w s)) ≡ b → Next w (cond a late (cond b verdict_world attempted)) → FlagsByCancel w (cond a late (cond b verdict_world attempted)) → Covers p t root (cond a late (cond b verdict_world attempted))
+      by true e b e2 n2 flags2 = covers_late c e n2 flags2
+      by false e true e2 n2 flags2 = covers_verdict c e n2 flags2 e2
+      by false e false e2 n2 flags2 = covers_attempted c e n2 flags2 e2

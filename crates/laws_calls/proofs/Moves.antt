@@ -21,7 +21,7 @@ use Rattle.laws_calls.specs.Held.{Held}
 use Rattle.laws_calls.specs.Held as held
 use Rattle.laws_calls.specs.Tasks.{Among, AllTwo, at_place, put_place, Part, Seen, Own, births_in, held_at}
 use Rattle.laws_calls.specs.Steps.{Row, Table, Owns, Knows}
-use Rattle.laws_calls.specs.Covers.{subs, PartFits, SeenFits, HeldFits, FrameFits, TaskFits}
+use Rattle.laws_calls.specs.Covers.{subs, PartFits, SeenFits, HeldFits, FrameFits, TaskFits, IsTimely}
 use Rattle.laws_calls.specs.Covers.{Watched, Covers, alive_in}
 use Rattle.laws_calls.proofs.Lists.{all_map, all_get, all_at, all_put, all_place, all_put_place}
 use Rattle.laws_calls.proofs.Lists.{filter_same, Apart, get_among}
@@ -35,7 +35,7 @@ pub record Turned (w v : World) (t : ℕ) (g : Frame) : Type 0 where
   pub scope : (u : ℕ) → (task_at v u).scope ≡ (task_at w u).scope
   pub scopes : (s : ℕ) → s < length w.scopes → ((scope_at w s).owner ≡ t → ⊥) → scope_at v s ≡ scope_at w s
   pub outcome : (u : ℕ) → (task_at v u).outcome ≡ (task_at w u).outcome
-  pub calm : ((s : ℕ) → (scope_at w s).expired ≡ false) → (s : ℕ) → (scope_at v s).expired ≡ false
+  pub timely : ((s : ℕ) → IsTimely (scope_at w s)) → (s : ℕ) → IsTimely (scope_at v s)
 
 pub subs_same : (w v : World) (s : ℕ) → length v.tasks ≡ length w.tasks → ((u : ℕ) → (task_at v u).scope ≡ (task_at w u).scope) → subs v s ≡ subs w s
 subs_same w v s count scope =
@@ -57,7 +57,7 @@ module _ (p : Program) (t : Table) (root : Row) (w v : World) (h : Facts w) (n :
         rows = c.rows;
         listed = c.listed;
         first = c.first;
-        calm = turned.calm c.calm;
+        timely = turned.timely c.timely;
         tasks = λ q lives_v watched. each q lives_v watched (nat_eq q u) refl;
         ended = λ e is. c.ended e (sym (turned.outcome 0) ∙ is);
       }
@@ -112,7 +112,7 @@ turned_flag w t g flag born =
       scope = λ u. at_set (λ (task : Task). task.scope ≡ (task_at w u).scope) w.tasks t u x no_task (λ e. rw e refl) refl;
       scopes = λ s less other. refl;
       outcome = λ u. at_set (λ (task : Task). task.outcome ≡ (task_at w u).outcome) w.tasks t u x no_task (λ e. rw e refl) refl;
-      calm = λ k s. k s;
+      timely = λ k s. k s;
     }
 
 pub turned_frame : (w : World) (t : ℕ) (g : Frame) → t < length w.tasks → Turned w (with_frame w t g) t g

@@ -30,7 +30,7 @@ use Rattle.laws_calls.specs.Held.{Held}
 use Rattle.laws_calls.specs.Held as held
 use Rattle.laws_calls.specs.Tasks.{AllTwo, at_place, Seen, Own, births_in, bindings, Unseen, nothing}
 use Rattle.laws_calls.specs.Steps.{Row, Table, IsTable, opened, open_step}
-use Rattle.laws_calls.specs.Covers.{subs, ScopeFits, SeenFits, HeldFits, TaskFits}
+use Rattle.laws_calls.specs.Covers.{subs, ScopeFits, SeenFits, HeldFits, TaskFits, IsTimely}
 use Rattle.laws_calls.specs.Covers.{Covers, alive_in}
 use Rattle.laws_calls.proofs.Lists.{all_map, all_set, all_length, at_first}
 use Rattle.laws_calls.proofs.Lists as lists
@@ -85,7 +85,7 @@ module _ (p : Program) (t : Table) (root : Row) (is : IsTable p t root) (w : Wor
         scope = λ q. ap (λ (xs : List Task). (get_or xs q no_task).scope) tasks_after ∙ at_set (λ (y : Task). y.scope ≡ (task_at w q).scope) w.tasks u q task no_task (λ e. rw e refl) refl;
         scopes = λ s less other. scope_old s less;
         outcome = λ q. ap (λ (xs : List Task). (get_or xs q no_task).outcome) tasks_after ∙ at_set (λ (y : Task). y.outcome ≡ (task_at w q).outcome) w.tasks u q task no_task (λ e. rw e refl) refl;
-        calm = λ k s. ap (λ (xs : List Scope). (get_or xs s no_scope).expired) scopes_after ∙ at_more (λ (scope : Scope). scope.expired ≡ false) w.scopes new s no_scope (λ e. refl) (k s);
+        timely = λ k s. subst (λ (xs : List Scope). IsTimely (get_or xs s no_scope)) (sym scopes_after) (at_more (λ (scope : Scope). IsTimely scope) w.scopes new s no_scope (λ e late. cc) (k s));
       }
 
   abbrev old : List ℕ

@@ -10,6 +10,7 @@ use Rattle.sts_model.specs.Effect.{with_phase}
 use Rattle.laws_runs.proofs.ListLemmas.{at_set}
 use Rattle.laws_runs.proofs.EffectLemmas.{frame-cancel}
 use Rattle.laws_runs.proofs.StillLemmas.{still-cancel}
+use Rattle.laws_calls.specs.Covers.{IsTimely}
 use Rattle.laws_calls.proofs.Moves.{Turned, turned_flag}
 
 -- ---- a cancel
@@ -57,7 +58,7 @@ rescoped_flag w v u s f g y flag born a =
         scope = λ k. b.scope k ∙ a.turned.scope k;
         scopes = λ r less other. a.turned.scopes r less other;
         outcome = λ k. b.outcome k ∙ a.turned.outcome k;
-        calm = λ calm r. a.turned.calm calm r;
+        timely = λ timely r. a.turned.timely timely r;
       };
       here = a.here;
       others = a.others;
@@ -82,7 +83,7 @@ module _ (w : World) (u s : ℕ) (born : s < length w.scopes) (owner : (scope_at
           scope = λ k. refl;
           scopes = λ r less other. get_or-set_other w.scopes s r y no_scope (not_mine r other);
           outcome = λ k. refl;
-          calm = λ calm r. at_set (λ (z : Scope). z.expired ≡ false) w.scopes s r y no_scope (λ e. calm s) (calm r);
+          timely = λ timely r. at_set (λ (z : Scope). IsTimely z) w.scopes s r y no_scope (λ e. timely s) (timely r);
         };
         here = get_or-set_same w.scopes s y no_scope born;
         others = λ r other. get_or-set_other w.scopes s r y no_scope other;
@@ -103,10 +104,10 @@ module _ (w : World) (u s : ℕ) (born : s < length w.scopes) (owner : (scope_at
           scope = λ i. (k.kept.task i).same.scope;
           scopes = λ r less other. get_or-set_other v.scopes s r y no_scope (not_mine r other) ∙ cancel_other w s r (not_mine r other);
           outcome = λ i. k.outcome i;
-          calm = λ calm r.
-              at_set (λ (z : Scope). z.expired ≡ false) v.scopes s r y no_scope
-              (λ e. at_cancelled (λ (z : Scope). z.expired ≡ false) w s s (calm s) (calm s))
-              (at_cancelled (λ (z : Scope). z.expired ≡ false) w s r (calm r) (calm r));
+          timely = λ timely r.
+              at_set (λ (z : Scope). IsTimely z) v.scopes s r y no_scope
+              (λ e. at_cancelled (λ (z : Scope). IsTimely z) w s s (timely s) (timely s))
+              (at_cancelled (λ (z : Scope). IsTimely z) w s r (timely r) (timely r));
         };
         here = get_or-set_same v.scopes s y no_scope (omega (arith, count, born)) ∙ ap (λ (z : Scope). record z { phase = phase }) (cancel_here w s born);
         others = λ r other. get_or-set_other v.scopes s r y no_scope other ∙ cancel_other w s r other;

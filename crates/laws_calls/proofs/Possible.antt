@@ -16,10 +16,10 @@ use Rattle.sts_model.specs.Living.{completion_of, ends, ends_of}
 use Rattle.sts_model.specs.declared.record.Scope.{Scope}
 use Rattle.sts_model.specs.Joining.{cancels}
 use Rattle.laws_runs.proofs.EventLemmas.{Right}
-use Rattle.laws_calls.specs.Tasks.{AllTwo, May, Part, Seen, Knowledge, Unseen, ByJoiner, Heard, Asked, nothing, Way, HasWay}
+use Rattle.laws_calls.specs.Tasks.{AllTwo, May, Part, Seen, Knowledge, Unseen, ByJoiner, Heard, Asked, nothing, Way, HasWay, Late}
 use Rattle.laws_calls.specs.Triggers.{is_trigger, limit, triggers}
 use Rattle.laws_calls.specs.Fitting.{heard_in, Answers, most, MayCount, Fits, ArePossible}
-use Rattle.laws_calls.specs.Steps.{Row, is_heard, is_cancelled, is_sure, settled, after_cancel}
+use Rattle.laws_calls.specs.Steps.{Row, is_heard, is_cancelled, is_sure, settled, after_cancel, may_decide, is_unseen}
 use Rattle.laws_calls.specs.Covers.{subs, PartFits, SeenFits, alive_in, IsRight}
 use Rattle.laws_calls.proofs.Counts.{states_in}
 use Rattle.laws_calls.proofs.Totals.{count_states}
@@ -31,13 +31,27 @@ use Rattle.laws_calls.proofs.TriggerLemmas.{cancels_by_count, going_on, stops_at
 pub unknown : (q : Knowledge) (scope : Scope) → IsRight q scope → scope.cancelled ≡ false → is_cancelled q ≡ false
 unknown Unseen scope r e = refl
 unknown Heard scope r e = refl
+unknown Late scope r e = let known : scope.cancelled ≡ true = r.0 in absurd (no (sym known ∙ e))
 unknown ByJoiner scope r e = let known : scope.cancelled ≡ true = r in absurd (no (sym known ∙ e))
 
 -- known to be cancelled
 pub unheard : (q : Knowledge) (scope : Scope) → IsRight q scope → scope.cancelled ≡ true → is_heard q ≡ false
 unheard Unseen scope r e = refl
 unheard ByJoiner scope r e = refl
+unheard Late scope r e = refl
 unheard Heard scope r e = let free : scope.cancelled ≡ false = r.0 in absurd (no (sym e ∙ free))
+
+pub undecided : (q : Knowledge) (scope : Scope) → IsRight q scope → scope.cancelled ≡ true → scope.expired ≡ false → may_decide q ≡ true
+undecided Unseen scope r e timely = refl
+undecided ByJoiner scope r e timely = refl
+undecided Late scope r e timely = let late : scope.expired ≡ true = r.1 in absurd (no (sym late ∙ timely))
+undecided Heard scope r e timely = let free : scope.cancelled ≡ false = r.0 in absurd (no (sym e ∙ free))
+
+unseen_decides : (q : Knowledge) → is_unseen q ≡ true → may_decide q ≡ true
+unseen_decides Unseen e = refl
+unseen_decides ByJoiner e = cc
+unseen_decides Late e = cc
+unseen_decides Heard e = cc
 
 -- ---- how many ends count
 
@@ -47,9 +61,10 @@ counts_most ByJoiner Joined j n m = m.1
 counts_most Heard phase j n m = omega (arith, m)
 counts_most q phase j n m = m
 
--- the owner has seen that the scope is cancelled
-pub counts_cancelled : (q : Knowledge) (phase : Phase) (j : Joiner) (n : ℕ) → is_heard q ≡ false → MayCount q phase j n → MayCount ByJoiner phase j n
+-- the owner has seen that the joiner has cancelled the scope
+pub counts_cancelled : (q : Knowledge) (phase : Phase) (j : Joiner) (n : ℕ) → may_decide q ≡ true → MayCount q phase j n → MayCount ByJoiner phase j n
 counts_cancelled Heard phase j n e m = cc
+counts_cancelled Late phase j n e m = cc
 counts_cancelled Unseen Joined j n e m = absurd m
 counts_cancelled q phase j n e m = m
 
@@ -143,7 +158,7 @@ sure_one true false h = let never = h refl in cc
 sure_one false true h = omega arith
 sure_one false false h = omega arith
 
--- so many ends count at least
+-- at least as many ends count as parts are sure
 sure_few : (j : Joiner) (parts : List Part) (pick : List (Option End)) → AllTwo May parts pick → count_by (is_sure j) parts ≤ triggers j (heard_in pick)
 sure_few j [] [] h = omega arith
 sure_few j (part ∷ parts) (None ∷ pick) h =
@@ -162,7 +177,7 @@ sure_few j (part ∷ parts) [] h = absurd h
 
 -- what a `case` told of a scope
 pub settled_fits : (rows : ℕ → Row) (w : World) → Facts w → (s : ℕ) → s < length w.scopes → (x : Seen) → SeenFits rows w s x → SeenFits rows w s (settled x)
-settled_fits rows w h s born x k = by (nat_le (most x.joiner) (count_by (is_sure x.joiner) x.parts)) refl
+settled_fits rows w h s born x k = by (is_unseen x.knowledge && nat_le (most x.joiner) (count_by (is_sure x.joiner) x.parts)) refl
   where
     gone : most x.joiner ≤ count_by (is_sure x.joiner) x.parts → (b : Bool) → (scope_at w s).cancelled ≡ b → b ≡ true
     gone many true e = refl
@@ -172,10 +187,11 @@ settled_fits rows w h s born x k = by (nat_le (most x.joiner) (count_by (is_sure
         let sure = sure_few x.joiner x.parts (states_in w s) (pick_of rows w s (subs w s) x.parts k.parts) in
         absurd (omega (arith, many, few, same, sure))
 
-    by : (b : Bool) → nat_le (most x.joiner) (count_by (is_sure x.joiner) x.parts) ≡ b → SeenFits rows w s (cond b (after_cancel x) x)
+    by : (b : Bool) → (is_unseen x.knowledge && nat_le (most x.joiner) (count_by (is_sure x.joiner) x.parts)) ≡ b → SeenFits rows w s (cond b (after_cancel x) x)
     by false e = k
     by true e =
-        let cancelled : (scope_at w s).cancelled ≡ true = gone (leb-true (most x.joiner) (count_by (is_sure x.joiner) x.parts) e) (scope_at w s).cancelled refl in
+        let both = and_parts (is_unseen x.knowledge) _ e in
+        let cancelled : (scope_at w s).cancelled ≡ true = gone (leb-true (most x.joiner) (count_by (is_sure x.joiner) x.parts) both.1) (scope_at w s).cancelled refl in
         record {
           joiner = k.joiner;
           timed = k.timed;
@@ -183,7 +199,7 @@ settled_fits rows w h s born x k = by (nat_le (most x.joiner) (count_by (is_sure
           phase = k.phase;
           known = cancelled;
           parts = k.parts;
-          counts = counts_cancelled x.knowledge x.phase x.joiner _ (unheard x.knowledge (scope_at w s) k.known cancelled) k.counts;
+          counts = counts_cancelled x.knowledge x.phase x.joiner _ (unseen_decides x.knowledge both.0) k.counts;
           asked = k.asked;
         }
 

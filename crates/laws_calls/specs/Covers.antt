@@ -6,6 +6,7 @@ use Rattle.std.specs.List.{filter}
 use Rattle.sts_code.specs.Program.{Program}
 use Rattle.sts_model.specs.declared.event.End.{End}
 use Rattle.sts_model.specs.declared.event.Event.{Event}
+use Rattle.sts_model.specs.declared.event.Event.TheVariants as event
 use Rattle.sts_model.specs.declared.event.Phase.TheVariants.{Closing}
 use Rattle.sts_model.specs.declared.record.Slot.{Slot}
 use Rattle.sts_model.specs.declared.record.Slot.TheVariants as slots
@@ -14,12 +15,11 @@ use Rattle.sts_model.specs.declared.record.Scope.{Scope}
 use Rattle.sts_model.specs.World.{World, task_at, scope_at}
 use Rattle.sts_model.specs.Living.{lives, is_subtask, completion_of, scope_of, ends}
 use Rattle.sts_model.specs.Misuse.{is_joined}
-use Rattle.sts_model.specs.Run.{is_step}
 use Rattle.laws_runs.specs.Tallies.{births}
 use Rattle.laws_calls.specs.Held.{Held}
 use Rattle.laws_calls.specs.Held as held
 use Rattle.laws_calls.specs.Tasks.{Among, AllTwo, at_place, HasWay, Part, Knowledge, Unseen}
-use Rattle.laws_calls.specs.Tasks.{ByJoiner, nothing}
+use Rattle.laws_calls.specs.Tasks.{ByJoiner, Late, nothing}
 use Rattle.laws_calls.specs.Tasks.{Heard, Seen, May, Own, bare, births_in}
 use Rattle.laws_calls.specs.Fitting.{MayCount, Answers}
 use Rattle.laws_calls.specs.Triggers.{triggers}
@@ -43,9 +43,10 @@ pub record PartFits (rows : ℕ → Row) (alive : ℕ → Bool) (scope : Scope) 
 abbrev pub IsRight : Knowledge → Scope → Type 0
 IsRight Unseen scope = Unit {0}
 IsRight ByJoiner scope = scope.cancelled ≡ true
+IsRight Late scope = (scope.cancelled ≡ true) × (scope.expired ≡ true)
 IsRight Heard scope = (scope.cancelled ≡ false) × (is_joined scope.phase ≡ true)
 
--- what its owner was told of its subtasks, after a `join`
+-- after a `join`: the answers that its owner got to questions on its subtasks
 abbrev pub IsAsked : Seen → List (Option End) → Type 0
 IsAsked x states =
     (x.asked ≡ nothing) ⊎ ((is_joined x.phase ≡ true) × Answers x.asked states)
@@ -100,19 +101,26 @@ pub data Watched (w : World) : ℕ → Type 0 where
   watched_sub : {u : ℕ} (s : ℕ) → (task_at w u).scope ≡ Some s → (scope_at w s).cancelled ≡ false
       → Watched w (scope_at w s).owner → Watched w u
 
+-- only a timed scope expires
+abbrev pub IsTimely : Scope → Type 0
+IsTimely scope = scope.expired ≡ true → scope.timed ≡ true
+
 pub record Covers (p : Program) (t : Table) (root : Row) (w : World) : Type 0 where
   pub rows : ℕ → Row
   pub listed : (u : ℕ) → Among t (rows u)
   pub first : rows 0 ≡ root
-  -- no scope has expired
-  pub calm : (s : ℕ) → (scope_at w s).expired ≡ false
+  pub timely : (s : ℕ) → IsTimely (scope_at w s)
   -- each living task that is watched is in a state of its row
   pub tasks : (u : ℕ) → lives (task_at w u) ≡ true → Watched w u
       → (own : Own) × TaskFits rows w u own
   -- the root has ended by a way of its call
   pub ended : (e : End) → (task_at w 0).outcome ≡ Some e → HasWay root.ways e
 
--- only steps: no interrupts, no expiries
-abbrev pub AreSteps : List Event → Type 0
-AreSteps [] = Unit {0}
-AreSteps (e ∷ es) = (is_step e ≡ true) × AreSteps es
+abbrev pub is_interrupt : Event → Bool
+is_interrupt (event.Interrupt t) = true
+is_interrupt _ = false
+
+-- steps and expiries, and no interrupts
+abbrev pub NoInterrupts : List Event → Type 0
+NoInterrupts [] = Unit {0}
+NoInterrupts (e ∷ es) = (is_interrupt e ≡ false) × NoInterrupts es

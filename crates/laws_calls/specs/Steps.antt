@@ -1,5 +1,5 @@
 -- The steps of a task by itself, and the tables that are closed under them (this project's own).
--- No interrupt and no expiry comes. A step may lead to more states than a run does.
+-- No interrupt comes. A step may lead to more states than a run does.
 use Rattle.std.specs.Prelude.{◌≡◌, ℕ, ◌+◌, ◌-◌, ℤ, pos, List, [], ◌∷◌, ◌++◌, length, take, drop}
 use Rattle.std.specs.Prelude.{reverse, nat_le, not, ◌&&◌, ◌<◌}
 use Rattle.std.specs.Prelude.{map, count_by, Bool, true, false, Option, Some, None, is_some}
@@ -32,8 +32,8 @@ use Rattle.laws_runs.specs.Tallies.{is_kind}
 use Rattle.laws_calls.specs.Held.{Held, is_at}
 use Rattle.laws_calls.specs.Held as held
 use Rattle.laws_calls.specs.Tasks.{Among, at_place, put_place, Call, Way, HasWay, Part, Knowledge}
-use Rattle.laws_calls.specs.Tasks.{nothing, Unseen, ByJoiner, Heard, Seen, Own, begin, bindings}
-use Rattle.laws_calls.specs.Tasks.{held_at}
+use Rattle.laws_calls.specs.Tasks.{nothing, Unseen, ByJoiner, Late, Heard, Seen, Own, begin}
+use Rattle.laws_calls.specs.Tasks.{bindings, held_at}
 use Rattle.laws_calls.specs.Fitting.{Fits, ArePossible, heard_in, most}
 use Rattle.laws_calls.specs.Triggers.{is_trigger, triggers}
 
@@ -177,15 +177,29 @@ is_any _ = false
 -- known to be cancelled; known not to be
 abbrev pub is_cancelled : Knowledge → Bool
 is_cancelled ByJoiner = true
+is_cancelled Late = true
 is_cancelled _ = false
 
 abbrev pub is_heard : Knowledge → Bool
 is_heard Heard = true
 is_heard _ = false
 
+-- its joiner may have cancelled it, and it may not have expired, for all that is known
+abbrev pub may_decide : Knowledge → Bool
+may_decide Unseen = true
+may_decide ByJoiner = true
+may_decide _ = false
+
+abbrev pub is_unseen : Knowledge → Bool
+is_unseen Unseen = true
+is_unseen _ = false
+
 -- the scope after a `join` of a cancelled scope, and of one whose subtasks have all ended
 abbrev pub after_cancel : Seen → Seen
 after_cancel x = record x { knowledge = ByJoiner }
+
+abbrev pub after_expiry : Seen → Seen
+after_expiry x = record x { knowledge = Late }
 
 abbrev pub after_all : Seen → Seen
 after_all x = record x { knowledge = Heard; parts = map ended x.parts }
@@ -194,6 +208,13 @@ after_all x = record x { knowledge = Heard; parts = map ended x.parts }
 abbrev pub decided : Seen → ℕ → End → Seen
 decided x i e = record x { parts = slice_set x.parts i (only e) }
 
+-- after a timeout
+abbrev pub timed_out : Own → ℕ → Seen → ℕ → Own
+timed_out own place x timeout =
+    record (with_seen own place (record (after_expiry x) { phase = Joined })) {
+      frame = goes own.frame timeout 0 [];
+    }
+
 -- ---- case
 
 -- has the part ended by an end that counts, whichever it was?
@@ -201,10 +222,11 @@ abbrev pub is_sure : Joiner → Part → Bool
 is_sure j part =
     not part.is_open && not (list_any (λ (way : Way). not (is_trigger j way.end)) part.ways)
 
--- known to be cancelled if so many of the parts have ended by ends that count
+-- known to be cancelled, if as many parts as cancel it have ended by ends that count
 abbrev pub settled : Seen → Seen
 settled x =
-    if nat_le (most x.joiner) (count_by (is_sure x.joiner) x.parts) then after_cancel x else x
+    if is_unseen x.knowledge && nat_le (most x.joiner) (count_by (is_sure x.joiner) x.parts)
+    then after_cancel x else x
 
 -- after the owner saw that a part has ended by an end of this kind
 abbrev pub told : Seen → ℕ → Part → Bool → (End → Bool) → Seen
@@ -277,9 +299,13 @@ pub data Steps (p : Program) (t : Table) (c : Call) (own : Own) : Instr → Own 
       → triggers seen.joiner (heard_in pick) < most seen.joiner
       → Steps p t c own (Cancelled x) (pushes own 0 (truth false))
   cancelled_step : {x : ℕ} (place : ℕ) (seen : Seen) → Owns own x place seen
-      → is_heard seen.knowledge ≡ false
+      → may_decide seen.knowledge ≡ true
       → Steps p t c own (Cancelled x)
       (pushes (with_seen own place (after_cancel seen)) 0 (truth true))
+  expired_step : {x : ℕ} (place : ℕ) (seen : Seen) → Owns own x place seen
+      → is_heard seen.knowledge ≡ false → seen.timed ≡ true
+      → Steps p t c own (Cancelled x)
+      (pushes (with_seen own place (after_expiry seen)) 0 (truth true))
   -- scopes
   open_step : {x : ℕ} {joiner : Joiner} {timed : Bool}
       → Steps p t c own (Open x joiner timed) (opened c own x joiner timed)
@@ -292,15 +318,20 @@ pub data Steps (p : Program) (t : Table) (c : Call) (own : Own) : Instr → Own 
       → Owns own x place seen → is_cancelled seen.knowledge ≡ true
       → Steps p t c own (Fork x g h) (forked p own place seen [] g h)
   close_step : {x : ℕ} → Steps p t c own (Close x) (closed own)
+  -- `join` of a scope that has expired
+  timeout_step : {x to_i : ℕ} {failed timeout : Option ℕ} (place : ℕ) (seen : Seen)
+      → Owns own x place seen → is_heard seen.knowledge ≡ false → seen.timed ≡ true
+      → Steps p t c own (Join x failed timeout to_i)
+      (timed_out own place seen (unwrap_or timeout 0))
   -- `join` of a cancelled scope: one end decided, or as many as the joiner waits for
   by_one_step : {x to_i : ℕ} {failed timeout : Option ℕ} (place : ℕ) (seen : Seen) (i : ℕ) (e : End)
-      → Owns own x place seen → is_heard seen.knowledge ≡ false → is_by_one seen.joiner ≡ true
+      → Owns own x place seen → may_decide seen.knowledge ≡ true → is_by_one seen.joiner ≡ true
       → MayEnd seen i e → is_trigger seen.joiner e ≡ true
       → Steps p t c own (Join x failed timeout to_i)
       (joined own place (decided (after_cancel seen) i e)
       (result_of seen.joiner (e ∷ []) (length seen.parts)) (unwrap_or failed 0))
   by_count_step : {x to_i : ℕ} {failed timeout : Option ℕ} (place : ℕ) (seen : Seen)
-      → Owns own x place seen → is_heard seen.knowledge ≡ false → is_until seen.joiner ≡ true
+      → Owns own x place seen → may_decide seen.knowledge ≡ true → is_until seen.joiner ≡ true
       → Steps p t c own (Join x failed timeout to_i)
       (joined own place (after_cancel seen) (result_of seen.joiner [] (length seen.parts))
       (unwrap_or failed 0))

@@ -66,11 +66,12 @@ pub record Part : Type 0 where
   pub ways : List Way
   pub is_open : Bool
 
--- What an owner knows of a cancel of its scope: nothing; that the scope is cancelled; or that all
--- its subtasks have ended, and it is not cancelled.
+-- What an owner knows of a cancel of its scope. It knows nothing. Or its joiner has cancelled the
+-- scope. Or the scope has expired. Or all subtasks have ended, and the scope is not cancelled.
 pub data Knowledge : Type 0 where
   Unseen : Knowledge
   ByJoiner : Knowledge
+  Late : Knowledge
   Heard : Knowledge
 
 -- The answers that an owner got to `tally` and `total`: how many succeeded, failed and are

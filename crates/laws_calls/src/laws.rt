@@ -1,6 +1,6 @@
-//! The laws of the count, and of what a table covers of a run.
+//! Laws on the count, and on the states that a table covers.
 
-ghost use Rattle.laws_calls.specs.Covered.{EndsAreWays, RunsAreCovered, StepsAreCovered};
+ghost use Rattle.laws_calls.specs.Covered.{EndsAreWays, EventsAreCovered, RunsAreCovered};
 ghost use Rattle.laws_calls.specs.Triggers.{CancelsByCount, LastCounts, LastIsFound, StopsAtLimit};
 ghost use Rattle.laws_calls.specs.Watching.{WatchedIsNotCancelled, WatchedWasWatched};
 
@@ -34,17 +34,17 @@ pub fn watched_is_not_cancelled()
     ensures { WatchedIsNotCancelled }
 {}
 
-/// If a table covers a state of a run, it covers the next one after any step.
-pub fn steps_are_covered()
-    ensures { StepsAreCovered }
+/// If a table covers a state of a run, it covers the next one after a step or an expiry.
+pub fn events_are_covered()
+    ensures { EventsAreCovered }
 {}
 
-/// A table covers each state that a run comes to by steps alone.
+/// A table covers each state that a run comes to without interrupts.
 pub fn runs_are_covered()
     ensures { RunsAreCovered }
 {}
 
-/// Each end that the root task comes to by steps alone is a way of the root's row.
+/// Each end that the root task comes to without interrupts is a way of the root's row.
 pub fn ends_are_ways()
     ensures { EndsAreWays }
 {}

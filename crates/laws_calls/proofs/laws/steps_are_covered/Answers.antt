@@ -1,5 +1,0 @@
-use Rattle.laws_calls.proofs.CoverLemmas as laws
-use Rattle.laws_calls.proofs.laws.steps_are_covered.Goals as goal
-
-pub returns : goal.returns
-returns c = laws.steps_are_covered
