@@ -85,9 +85,14 @@ def module_of(file):
 
 
 def functions_in(file, text):
-    """Yields the functions of a source file: the end of each name, as the prover has it, with the first and the last of its lines."""
-    lines, owner, begun = text.split("\n"), [], None
+    """Yields the functions of a source file: the end of each name, as the prover has it, with the first and the last of its lines.
+    The attributes above a function are its first lines."""
+    lines, owner, begun, attributes = text.split("\n"), [], None, None
     for at, line in enumerate(lines, 1):
+        if line.lstrip().startswith("#["):
+            attributes = attributes or at
+        elif not line or line.lstrip().startswith(("//", "}")):
+            attributes = None
         if line and line[0] not in " }":
             found = IMPL.match(line)
             # (the prover's names of functions in an impl of a trait, or in a trait, aren't guessed)
@@ -95,7 +100,7 @@ def functions_in(file, text):
         found = FUNCTION.match(line)
         if found and begun is None and len(found[1]) == (4 if owner else 0):
             # (an impl may be in another module than its type, so a method's name begins with the type)
-            begun = at, found[1], "::".join([*(owner or module_of(file)), found[2]])
+            begun = attributes or at, found[1], "::".join([*(owner or module_of(file)), found[2]])
         if begun and re.match(rf"{begun[1]}\}}|{begun[1]}\S.*\}}$", line) and not line.startswith(f"{begun[1]}{{"):
             if "" not in owner:
                 yield begun[2], begun[0], at
