@@ -1,0 +1,3 @@
+pub mod Marks
+pub mod Faults
+pub mod Reports

@@ -1,0 +1,217 @@
+//! Reports what is wrong with a text, if anything is, by its lines.
+
+ghost use Rattle.std.specs.Prelude.{◌≡◌, ◌≢◌, IfOk, Result, Err};
+ghost use Rattle.sts_asm.specs.Fault.{FailsAt};
+ghost use Rattle.sts_asm.specs.Text.{judged};
+ghost use Rattle.sts_asm.specs.declared.fault.AsmError.{AsmError};
+ghost use Rattle.sts_code.specs.Program.{Program as AnyProgram};
+ghost use Rattle.sts_output.specs.Output as cli;
+ghost use Rattle.sts_rules.specs.Refusal.{IsAccepted, IsRefusal};
+ghost use Rattle.sts_text.specs.Words.{lines};
+ghost use Rattle.look_refusal.specs.Output.{IsExplanation};
+ghost use Rattle.look_places.specs.Marks.{line_of};
+ghost use Rattle.look_places.specs.Reports as def;
+
+use crate::faults::{fault_code, fault_line};
+use crate::marks::Source;
+use crate::reporting::say_reported;
+use crate::rules::{outline_of, say_rules};
+use crate::ways::say_ways;
+use look_accepted::{Note, all_notes};
+use look_names::Names;
+use look_refusal::{Explanation, explain};
+use look_text::fault_lines;
+use std::alloc::{AllocError, Global};
+use std::io::Write;
+use sts_asm::{AsmError, AsmKind, assemble};
+use sts_code::Program;
+use sts_output::{STATUS_OUTSIDE, TakeError, WriteFailed, failed, written};
+use sts_rules::Cause;
+use sts_verify::{VerifyError, verify};
+
+/// The report of a fault of a text. Running out of memory is no fault of it.
+fn faulty(
+    alloc: Global,
+    source: &Source<'_, '_>,
+    error: AsmError,
+) -> Result<Explanation, AllocError>
+    ensures { (read : Result AnyProgram AsmError) → FailsAt error error.kind read
+        → IfOk result (λ o. (read ≡ Err error) × (o ≡ def.fault_report source.now error)) }
+{
+    if matches!(error.kind, AsmKind::Memory) {
+        return Err(AllocError);
+    }
+    let line = fault_line(alloc, source, error)?;
+    let code = fault_code(alloc, error.kind)?;
+    let mut explained = Vec::new(alloc);
+    fault_lines(alloc, &mut explained, error, source.text())?;
+    let mut bytes = Vec::new(alloc);
+    say_reported(
+        alloc,
+        &mut bytes,
+        source,
+        line,
+        code.as_slice(),
+        explained.as_slice(),
+    )?;
+    Ok(Explanation { bytes, status: 3 })
+}
+
+/// What `explain` prints of a text.
+fn explained(alloc: Global, source: &Source<'_, '_>) -> Result<Explanation, AllocError>
+    ensures { IfOk result (λ o. IsExplanation source.now.text o) }
+{
+    let mut bytes = Vec::new(alloc);
+    match explain(alloc, source.text(), &mut bytes) {
+        Ok(status) => Ok(Explanation { bytes, status }),
+        Err(_) => Err(AllocError),
+    }
+}
+
+/// The explanation, unless it says that memory ran out.
+fn whole(told: Explanation) -> Result<Explanation, AllocError>
+    ensures same { IfOk result (λ o. o ≡ told) }
+    ensures whole { IfOk result (λ o. o.status ≢ 6) }
+{
+    if told.status == STATUS_OUTSIDE {
+        Err(AllocError)
+    } else {
+        Ok(told)
+    }
+}
+
+/// The lines of an explanation of a refusal.
+fn refusal_lines(
+    alloc: Global,
+    source: &Source<'_, '_>,
+    function: u32,
+    pc: u32,
+    cause: Cause,
+    told: &Explanation,
+) -> Result<Vec<u8>, AllocError>
+    ensures { IfOk result (λ b. b.items ≡ def.reported source.now
+        (line_of source.now function pc) (def.refusal_code cause) (lines told.now.bytes)) }
+{
+    let number = cause.number();
+    let code = format!(in alloc; "V{number}")?;
+    let line = source.line_of(function, pc);
+    let mut bytes = Vec::new(alloc);
+    say_reported(
+        alloc,
+        &mut bytes,
+        source,
+        line,
+        code.as_bytes(),
+        told.bytes.as_slice(),
+    )?;
+    Ok(bytes)
+}
+
+/// The report of a refusal.
+fn refused(
+    alloc: Global,
+    source: &Source<'_, '_>,
+    program: &Program,
+    function: u32,
+    pc: u32,
+    cause: Cause,
+) -> Result<Explanation, AllocError>
+    requires { IsRefusal program.now function pc cause }
+    ensures { IfOk result (λ o. def.IsRefused source.now program.now o) }
+{
+    let printed = explained(alloc, source)?;
+    let told = whole(printed)?;
+    let mut bytes = refusal_lines(alloc, source, function, pc, cause, &told)?;
+    say_ways(alloc, &mut bytes, source, program, function, pc, cause)?;
+    Ok(Explanation { bytes, status: 4 })
+}
+
+/// The report of these notes on an accepted program.
+fn rules_report(
+    alloc: Global,
+    source: &Source<'_, '_>,
+    program: &Program,
+    notes: &[Note],
+) -> Result<Explanation, AllocError>
+    ensures { IfOk result (λ o. o ≡ def.accepted_report source.now program.now notes.now) }
+{
+    let outline = outline_of(alloc, source.text())?;
+    let mut bytes = Vec::new(alloc);
+    say_rules(alloc, &mut bytes, source, &outline, program, notes)?;
+    Ok(Explanation { bytes, status: 0 })
+}
+
+/// The report on an accepted program.
+fn accepted(
+    alloc: Global,
+    source: &Source<'_, '_>,
+    program: &Program,
+) -> Result<Explanation, AllocError>
+    requires { IsAccepted program.now }
+    ensures { IfOk result (λ o. def.IsVerdict source.now program.now o) }
+{
+    let notes = all_notes(alloc, program)?;
+    rules_report(alloc, source, program, notes.as_slice())
+}
+
+fn verdict(
+    alloc: Global,
+    source: &Source<'_, '_>,
+    program: Program,
+) -> Result<Explanation, AllocError>
+    ensures { IfOk result (λ o. def.IsVerdict source.now program o) }
+{
+    match verify(alloc, program) {
+        Ok(verified) => accepted(alloc, source, verified.program()),
+        Err(VerifyError::Memory(_)) => Err(AllocError),
+        Err(
+            VerifyError::Refused {
+                program,
+                function,
+                pc,
+                cause,
+            },
+        ) => refused(alloc, source, &program, function, pc, cause),
+    }
+}
+
+fn reported(alloc: Global, source: &Source<'_, '_>) -> Result<Explanation, AllocError>
+    ensures { IfOk result (λ o. def.Reports source.now (judged source.now.text) o) }
+{
+    match assemble(alloc, source.text()) {
+        Ok(program) => verdict(alloc, source, program),
+        Err(error) => faulty(alloc, source, error),
+    }
+}
+
+fn report(alloc: Global, file: &str, text: &[u8]) -> Result<Explanation, AllocError>
+    ensures { IfOk result (λ o. def.Reports (record { file = file.now; text = text.now })
+        (judged text.now) o) }
+{
+    let names = Names::read(alloc, text)?;
+    reported(alloc, &Source::new(file, text, &names))
+}
+
+/// Writes what is wrong with the text of a file, if anything is, in lines that editors jump by, and
+/// gives the status that `sts verify` gives.
+///
+/// It takes all its memory before the first byte is written.
+///
+/// # Errors
+///
+/// A write failed.
+pub fn write_places<W: Write>(
+    alloc: Global,
+    file: &str,
+    text: &[u8],
+    out: &mut W,
+) -> Result<u8, WriteFailed>
+    ensures { IfOk result (λ s. (o : cli.Output)
+        × def.IsReport (record { file = file.now; text = text.now }) o
+        × cli.Writes (W.contents out.old) (W.contents out.new) s o) }
+{
+    match report(alloc, file, text) {
+        Ok(output) => written(out, output.bytes.as_slice(), output.status),
+        Err(_) => failed(TakeError::Memory, out),
+    }
+}
