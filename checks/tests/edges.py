@@ -328,6 +328,11 @@ EXPLAINED = [
 ]
 
 
+def idle(begin, trace):
+    """Returns what standard error says of the one of these traces with an event that did nothing."""
+    return f'{begin} 5: "interrupt 1" did nothing, since task 1 has ended then\n' if trace == ENDED else ""
+
+
 def outputs_of_look(look):
     """Tries the output of the commands of `look`, and each status."""
     for text, trace, printed, status in VIEWS:
@@ -352,13 +357,14 @@ def outputs_of_sts(sts):
     for text, trace, printed, status in VIEWS:
         sts.has(text=text, trace=trace)
         plain = "".join(without_lines(printed).splitlines(True)[:2])
-        yield f"plain of {text!r} {trace!r}", sts.says("plain", "text", "trace"), (status, plain, "")
-        yield f"the input {text!r} {trace!r}", sts.says(given=f"{text}%\n{trace}"), (status, plain, "")
+        yield f"plain of {text!r} {trace!r}", sts.says("plain", "text", "trace"), (status, plain, idle("sts: trace, line", trace))
+        yield f"the input {text!r} {trace!r}", sts.says(given=f"{text}%\n{trace}"), (status, plain, idle("sts: the trace, line", trace))
 
 
-# Why a line of an outside text has no effect.
+# Why a line of an outside text has no effect, or comes late.
 NOT_ALIVE, NO_EXPIRY = "did nothing, since task {} did not live then", "did nothing, since scope {} could not expire then"
 NOT_DUE, HELD = "was never due, since the journal ended with {} events", "never came, since line {} comes first and was never due"
+LATER = "waited for line {}, which comes first and is due at {}"
 
 # An outside text, the value of DIGITS with it, its journal in short (`s` is a step, and a number an interrupt of it), and why
 # lines of it have no effect.
@@ -378,10 +384,14 @@ DUES = [
     ("at 0 interrupt 0 / at 3 interrupt 0", 110, "0 s s 0 s s s s s s s s", {}),
     ("at 0 interrupt 0 / at 0 interrupt 0 / at 7 interrupt 0", 101, "0 0 s s s s s 0 s s s s s", {}),
     # a line that isn't due holds back those after it, and then they come at once
-    ("at 4 interrupt 5 / at 0 interrupt 0", 1, "s s s s 5 0 s s s s s s", {1: NOT_ALIVE.format(5)}),
+    ("at 4 interrupt 5 / at 0 interrupt 0", 1, "s s s s 5 0 s s s s s s", {1: NOT_ALIVE.format(5), 2: LATER.format(1, 4)}),
     (
         "at 4 interrupt 5 / at 0 interrupt 6 / at 6 interrupt 0", 1, "s s s s 5 6 0 s s s s s s",
         {1: NOT_ALIVE.format(5), 2: NOT_ALIVE.format(6)},
+    ),
+    (
+        "at 2 interrupt 0 / at 4 interrupt 0 / at 4 interrupt 0 / at 3 interrupt 0", 10, "s s 0 s 0 0 0 s s s s s s s",
+        {4: LATER.format(2, 4)},
     ),
     ("at 11 interrupt 5 / at 0 interrupt 0", 0, "s s s s s s s s s s", {1: NOT_DUE.format(10), 2: HELD.format(1)}),
     # the line behind it is held back also if it is due just at the end

@@ -38,7 +38,7 @@ import tempfile
 import termios
 import time
 
-from checks import programs, tally
+from checks import notation, programs, tally
 from checks.programs import ROOT
 
 SUM, TRACE, DEADLINE, DUE = (
@@ -272,12 +272,56 @@ def overwriting(program, look, folder):
     yield "a journal at a device", answer(program, [*words, "/dev/null"])[1], 0
 
 
-def told(program, words, given=subprocess.DEVNULL):
+def told(program, words, given=subprocess.DEVNULL, **around):
     """What is written to standard error."""
     # (root may read all files, but for this)
     plainly = ["setpriv", "--bounding-set=-dac_override,-dac_read_search"] if os.getuid() == 0 else []
-    ran = subprocess.run([*plainly, program, *words], stdin=given, capture_output=True, timeout=SECONDS)
+    around = {"stdout": subprocess.DEVNULL, **around}
+    ran = subprocess.run([*plainly, program, *words], stdin=given, stderr=subprocess.PIPE, timeout=SECONDS, **around)
     return ran.stderr.decode(errors="replace")
+
+
+# Runs that have no end. For each the text, the trace in short, the number of the first event that did nothing, and why.
+FAULTS = "func main 0\npop\nret\nend\n"
+LATE_FORK = "func kid 0\npush 1\nret\nend\nfunc main 0\nopen s0 any\nfork s0 kid _\nfork s0 kid _\njoin s0 x - x\nx:\nclose s0\nret\nend\n"
+IDLE = [
+    (None, "99*1", 1, '"step 99" did nothing, since there is no task 99 then'),
+    (None, "0*2 1*1 0*1 1*1", 3, '"step 1" did nothing, since there is no task 1 then'),
+    (None, "0*8 0*1", 8, '"step 0" did nothing, since task 0 waits then'),
+    (None, "0*7 2*5", 12, '"step 2" did nothing, since task 2 has ended then'),
+    (None, "0*7 2*4 i2", 12, '"interrupt 2" did nothing, since task 2 has ended then'),
+    (None, "0*1 i0 i1", 3, '"interrupt 1" did nothing, since there is no task 1 then'),
+    (None, "x0 0*1", 1, '"expire 0" did nothing, since there is no scope 0 then'),
+    (None, "0*1 x0", 2, '"expire 0" did nothing, since scope 0 can\'t expire then'),
+    (LATE_FORK, "0*2 1*2 0*1 2*1", 6, '"step 2" did nothing, since task 2 never starts then'),
+    (FAULTS, "1*1 0*1 2*1", 1, '"step 1" did nothing, since there is no task 1 then'),
+    # no event after a fault is told, and none of a run that counts all events
+    (FAULTS, "0*1 2*1", None, ""),
+    (None, "0*7 1*1", None, ""),
+]
+
+
+def idle(program, folder):
+    """Yields the same for the first event of a trace that did nothing."""
+    text, full = (os.path.join(folder, name) for name in ("idle.sts", "idle.trace"))
+    for content, events, number, why in IDLE:
+        for path, written in (text, content), (full, notation.events(events)):
+            if written is not None:
+                with open(path, "w") as file:
+                    file.write(written)
+        given, line = SUM if content is None else text, f"sts: {full}, line {number}: {why}\n" if number else ""
+        for words in ["plain", given, full], ["replay", given, full]:
+            if words[0] == "plain" or content is None:  # (`replay` refuses the other texts)
+                yield f"idle {words} {events}", told(program, words), line
+
+
+def unwritten_reasons(program):
+    """Yields the same for the line that says why standard output can't be written."""
+    why = {"full": "no space is left", "closed": "the system reports an error", "read by nobody": None}
+    for what, around in broken("stdout"):
+        line = why[what] and f"cannot write standard output: {why[what]}\n"
+        for words in (["list", SUM], ["plain", SUM, TRACE], ["run", SUM, "--workers", "2"]):
+            yield f"why {words}, output {what}", told(program, words, **around), line and f"sts: {line}" or ""
 
 
 def reasons(program, look, folder):
@@ -332,6 +376,8 @@ def reasons(program, look, folder):
         yield f"why by look {words}", told(look, words), f"look: {line}\n"
     yield from shown(program, look, os.path.join(folder, "shown"))
     yield from joined(program, os.path.join(folder, "joined"))
+    yield from idle(program, folder)
+    yield from unwritten_reasons(program)
     for words in (["verify", SUM], ["plain", SUM, TRACE]):
         yield f"nothing of {words}", told(program, words), ""
     for words in (["explain", "-"], ["view", "-", TRACE], ["draw", "-", TRACE], ["explain", "-", TRACE]):

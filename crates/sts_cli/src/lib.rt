@@ -10,7 +10,7 @@ mod remarks;
 
 pub use playing::{play, play_joined, play_run};
 pub use program::{run, run_words, start};
-pub use remarks::Remarks;
 pub use sts_args::asked::Line;
 pub use sts_args::{LineError, line};
 pub use sts_output::{Mode, TakeError, WriteFailed, take};
+pub use sts_remarks::Remarks;

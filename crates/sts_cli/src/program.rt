@@ -9,7 +9,7 @@ ghost use Rattle.sts_output.specs.Output.{Output, Writes};
 ghost use Rattle.sts_output.specs.Streams.{events_of, same_file};
 
 use crate::playing::{Aside, play, play_joined, play_traced, play_untraced};
-use crate::remarks::Remarks;
+use crate::remarks::remark_outside;
 use std::alloc::{AllocError, Global};
 use std::io::{Input, Write};
 use std::rt::{Env, Files};
@@ -21,6 +21,7 @@ use sts_output::{
     WordsError, WriteFailed, borrowed, failed, file_failed, made, placeholder, read_input,
     read_text, read_texts, split, words, written,
 };
+use sts_remarks::{Remarks, Watched};
 
 /// The name that the program goes by.
 const NAME: &str = "sts";
@@ -48,6 +49,12 @@ fn on_text<S: Sources, W: Write>(
     }
 }
 
+/// Adds the lines about a trace that was played: why it failed, and which event did nothing.
+fn remark_trace(status: u8, text: Named<'_>, trace: Named<'_>, remarks: &mut Remarks) {
+    remarks.notes.status(status, text, Events::Trace(trace));
+    remarks.idle(status, "line", text.text, trace);
+}
+
 /// A mode that looks at a text and a trace.
 fn on_text_and_trace<S: Sources, W: Write>(
     alloc: Global,
@@ -56,7 +63,7 @@ fn on_text_and_trace<S: Sources, W: Write>(
     path: &str,
     trace: &str,
     out: &mut W,
-    notes: &mut Notes,
+    remarks: &mut Remarks,
 ) -> Result<u8, WriteFailed>
     ensures { IfOk result (λ s. (o : Output)
         × def.IsOfTextAndTrace mode (S.held sources.now path.now) (S.held sources.now trace.now) o
@@ -66,11 +73,15 @@ fn on_text_and_trace<S: Sources, W: Write>(
         Ok(texts) => {
             let (text, events) = (texts.program.as_slice(), texts.events.as_slice());
             let status = play(alloc, mode, text, events, out)?;
-            let events = Events::Trace(Named::new(trace, events));
-            notes.status(status, Named::new(path, text), events);
+            remark_trace(
+                status,
+                Named::new(path, text),
+                Named::new(trace, events),
+                remarks,
+            );
             Ok(status)
         }
-        Err(error) => file_failed(error, out, notes),
+        Err(error) => file_failed(error, out, &mut remarks.notes),
     }
 }
 
@@ -79,7 +90,7 @@ fn on_input<S: Sources, W: Write>(
     alloc: Global,
     sources: &S,
     out: &mut W,
-    notes: &mut Notes,
+    remarks: &mut Remarks,
 ) -> Result<u8, WriteFailed>
     ensures { IfOk result (λ s. (o : Output)
         × def.IsOfInput (S.offered sources.now) o
@@ -89,11 +100,15 @@ fn on_input<S: Sources, W: Write>(
         Ok(input) => {
             let status = play_joined(alloc, input.as_slice(), out)?;
             let (text, trace) = split(input.as_slice());
-            let events = Events::Trace(Named::new("the trace", trace));
-            notes.status(status, Named::new("the text", text), events);
+            remark_trace(
+                status,
+                Named::new("the text", text),
+                Named::new("the trace", trace),
+                remarks,
+            );
             Ok(status)
         }
-        Err(error) => file_failed(error, out, notes),
+        Err(error) => file_failed(error, out, &mut remarks.notes),
     }
 }
 
@@ -157,7 +172,7 @@ fn remark(wanted: RunRequest<'_>, texts: &Texts, status: u8, aside: Aside, remar
     remarks.notes.status(status, text, events);
     if let Events::Outside(named) = events {
         if let Some(came) = came {
-            remarks.outside(named, &came);
+            remark_outside(remarks, named, &came);
         }
     }
 }
@@ -211,14 +226,14 @@ fn on_line<R: Threads + Wait + Sync, S: Sources + Sinks, W: Write>(
 {
     let notes = &mut remarks.notes;
     match wanted {
-        asked::Line::Joined => on_input(alloc, &*sources, out, notes),
+        asked::Line::Joined => on_input(alloc, &*sources, out, remarks),
         asked::Line::Verify { file } => on_text(alloc, &*sources, Mode::Verify, file, out, notes),
         asked::Line::List { file } => on_text(alloc, &*sources, Mode::List, file, out, notes),
         asked::Line::Plain { file, trace } => {
-            on_text_and_trace(alloc, &*sources, Mode::Plain, file, trace, out, notes)
+            on_text_and_trace(alloc, &*sources, Mode::Plain, file, trace, out, remarks)
         }
         asked::Line::Replay { file, trace } => {
-            on_text_and_trace(alloc, &*sources, Mode::Replay, file, trace, out, notes)
+            on_text_and_trace(alloc, &*sources, Mode::Replay, file, trace, out, remarks)
         }
         asked::Line::Run {
             file,
@@ -245,8 +260,8 @@ fn on_line<R: Threads + Wait + Sync, S: Sources + Sinks, W: Write>(
 /// failed.
 ///
 /// Help and usage faults are written to `err`, everything else to `out`. `remarks` gets the lines
-/// that say why a file, a text or its events failed, and which outside events had no effect; the
-/// function doesn't write them.
+/// that say why a file, a text or its events failed, and which events had no effect; the function
+/// doesn't write them.
 ///
 /// # Errors
 ///
@@ -335,20 +350,13 @@ pub fn start<R: Env + Files + Input + Threads + Wait + Sync, W: Write, E: Write>
     if at_terminal && words.as_ref().is_ok_and(|words| words.len() == 1) {
         let _told = err.write_all(WAITS);
     }
-    match run_words(
-        rt,
-        alloc,
-        &mut Host::new(rt),
-        &words,
-        out,
-        err,
-        &mut remarks,
-    ) {
-        Ok(status) => {
-            let _told = err.write_all(remarks.notes.lines());
-            let _told = err.write_all(remarks.lines());
-            status
-        }
-        Err(WriteFailed) => STATUS_OUTSIDE,
+    let mut out = Watched::new(out);
+    let mut files = Host::new(rt);
+    let status = run_words(rt, alloc, &mut files, &words, &mut out, err, &mut remarks);
+    if status.is_err() {
+        remarks.unwritten(out.failure());
     }
+    let _told = err.write_all(remarks.notes.lines());
+    let _told = err.write_all(remarks.lines());
+    status.unwrap_or(STATUS_OUTSIDE)
 }

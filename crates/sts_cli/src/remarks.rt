@@ -1,8 +1,9 @@
-//! The lines on standard error: why something failed, and which outside events had no effect.
+//! The lines on standard error about outside events that had no effect, or came late.
 
 use std::alloc::{AllocError, Global};
 use sts_model::Event;
-use sts_output::{Named, Notes};
+use sts_output::Named;
+use sts_remarks::Remarks;
 use sts_trace::{Due, read_outside};
 
 /// What came of the outside events of a run: whether each that came counted, and how many entries
@@ -31,7 +32,7 @@ impl Came {
     }
 }
 
-/// Why an outside event had no effect.
+/// Why an outside event had no effect, or came late.
 #[derive(Clone, Copy)]
 enum Lost {
     /// It changed nothing when it came.
@@ -40,6 +41,35 @@ enum Lost {
     Undue(u64),
     /// The event of this line, counted from 0, came before it and was not due at the end.
     Held(u64),
+    /// It came, but the event of this line comes before it, and was due later.
+    Late(Latest),
+}
+
+/// The event, of those so far, that is due last: its line, counted from 0, and when it is due.
+#[derive(Clone, Copy)]
+struct Latest {
+    index: usize,
+    at: u32,
+}
+
+impl Latest {
+    /// Returns why an event that comes after it is late, if it is.
+    fn holds(self, due: Due) -> Option<Lost> {
+        if due.at < self.at {
+            Some(Lost::Late(self))
+        } else {
+            None
+        }
+    }
+
+    /// Returns the one of both that is due last.
+    fn or(self, index: usize, due: Due) -> Latest {
+        if due.at > self.at {
+            Latest { index, at: due.at }
+        } else {
+            self
+        }
+    }
 }
 
 /// Returns an outside event as its line has it, without `at N`.
@@ -61,6 +91,10 @@ fn reason(alloc: Global, event: Event, lost: Lost) -> Result<String, AllocError>
             let number = index.saturating_add(1);
             format!(in alloc; "never came, since line {number} comes first and was never due")
         }
+        (Lost::Late(Latest { index, at }), _) => {
+            let number = (index as u64).saturating_add(1);
+            format!(in alloc; "waited for line {number}, which comes first and is due at {at}")
+        }
         (Lost::Idle, Event::Expire(scope)) => {
             format!(in alloc; "did nothing, since scope {scope} could not expire then")
         }
@@ -73,61 +107,34 @@ fn reason(alloc: Global, event: Event, lost: Lost) -> Result<String, AllocError>
     }
 }
 
-/// Lines for standard error. A line for which there is no memory is left out.
-#[derive(Drop)]
-pub struct Remarks {
-    alloc: Global,
-    program: &'static str,
-    /// Why something failed.
-    pub(crate) notes: Notes,
-    lines: Vec<u8>,
+/// Returns the line about the event of line `index`, counted from 0.
+fn line(
+    remarks: &Remarks,
+    name: &str,
+    index: usize,
+    due: Due,
+    lost: Lost,
+) -> Result<String, AllocError> {
+    let (alloc, program) = (remarks.alloc, remarks.program);
+    let number = (index as u64).saturating_add(1);
+    let at = due.at;
+    let event = event_text(alloc, due.event)?;
+    let reason = reason(alloc, due.event, lost)?;
+    format!(in alloc; "{program}: {name}, line {number}: \"at {at} {event}\" {reason}\n")
 }
 
-impl Remarks {
-    /// Returns no lines, of a program of this name.
-    pub fn new(alloc: Global, program: &'static str) -> Remarks {
-        Remarks {
-            alloc,
-            program,
-            notes: Notes::new(alloc, program),
-            lines: Vec::new(alloc),
-        }
-    }
-
-    /// Returns the lines about outside events.
-    pub fn lines(&self) -> &[u8] {
-        self.lines.as_slice()
-    }
-
-    /// Returns the line about the event of line `index`, counted from 0.
-    fn line(&self, name: &str, index: usize, due: Due, lost: Lost) -> Result<String, AllocError> {
-        let (alloc, program) = (self.alloc, self.program);
-        let number = (index as u64).saturating_add(1);
-        let at = due.at;
-        let event = event_text(alloc, due.event)?;
-        let reason = reason(alloc, due.event, lost)?;
-        format!(in alloc; "{program}: {name}, line {number}: \"at {at} {event}\" {reason}\n")
-    }
-
-    fn add(&mut self, line: &str) {
-        let known = self.lines.len();
-        if self.lines.extend_from_slice(line.as_bytes()).is_err() {
-            self.lines.truncate(known);
-        }
-    }
-
-    /// Adds a line for each event of an outside text that had no effect in a run.
-    pub(crate) fn outside(&mut self, named: Named<'_>, came: &Came) {
-        let Ok(dues) = read_outside(self.alloc, named.text) else {
-            return;
-        };
-        for (index, due) in dues.iter().enumerate() {
-            let Some(lost) = came.lost(index, *due) else {
-                continue;
-            };
-            if let Ok(line) = self.line(named.name, index, *due, lost) {
-                self.add(line.as_str());
+/// Adds a line for each event of an outside text that had no effect in a run, or came late.
+pub(crate) fn remark_outside(remarks: &mut Remarks, named: Named<'_>, came: &Came) {
+    let Ok(dues) = read_outside(remarks.alloc, named.text) else {
+        return;
+    };
+    let mut latest = Latest { index: 0, at: 0 };
+    for (index, due) in dues.iter().enumerate() {
+        if let Some(lost) = came.lost(index, *due).or(latest.holds(*due)) {
+            if let Ok(line) = line(remarks, named.name, index, *due, lost) {
+                remarks.add(line.as_bytes());
             }
         }
+        latest = latest.or(index, *due);
     }
 }

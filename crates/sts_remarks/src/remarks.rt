@@ -1,0 +1,95 @@
+//! The lines for standard error of one call.
+
+use crate::idle::idle_line;
+use crate::watched::unwritten_line;
+use std::alloc::Global;
+use std::io::ErrorKind;
+use sts_asm::assemble;
+use sts_output::{Named, Notes};
+use sts_trace::read_trace;
+
+/// The status of a run that faulted, or that goes on.
+const STATUS_NO_END: u8 = 5;
+
+/// The bytes of a trace in which an event that did nothing is looked for.
+const LOOKED_AT: usize = 64 * 1024;
+
+/// Returns the whole lines among the bytes that are looked at.
+fn beginning(trace: &[u8]) -> &[u8] {
+    let first = &trace[..LOOKED_AT.min(trace.len())];
+    match first.iter().rposition(|b| *b == b'\n') {
+        Some(last) => &first[..last + 1],
+        None => &[],
+    }
+}
+
+/// Lines for standard error. A line for which there is no memory is left out.
+#[derive(Drop)]
+pub struct Remarks {
+    pub alloc: Global,
+    /// The name of the program.
+    pub program: &'static str,
+    /// Why something failed.
+    pub notes: Notes,
+    lines: Vec<u8>,
+}
+
+impl Remarks {
+    /// Returns no lines, of a program of this name.
+    pub fn new(alloc: Global, program: &'static str) -> Remarks {
+        Remarks {
+            alloc,
+            program,
+            notes: Notes::new(alloc, program),
+            lines: Vec::new(alloc),
+        }
+    }
+
+    /// Returns the lines that are about no failure.
+    pub fn lines(&self) -> &[u8] {
+        self.lines.as_slice()
+    }
+
+    /// Adds a line.
+    pub fn add(&mut self, line: &[u8]) {
+        let known = self.lines.len();
+        if self.lines.extend_from_slice(line).is_err() {
+            self.lines.truncate(known);
+        }
+    }
+
+    /// Adds which event of a trace is the first that did nothing, if the run has no end, and if that
+    /// event is among the first 64 KiB. Events count from 1, and `unit` is the word before the number.
+    pub fn idle(&mut self, status: u8, unit: &str, text: &[u8], trace: Named<'_>) {
+        if status != STATUS_NO_END {
+            return;
+        }
+        let Ok(program) = assemble(self.alloc, text) else {
+            return;
+        };
+        let Ok(events) = read_trace(self.alloc, beginning(trace.text)) else {
+            return;
+        };
+        let line = idle_line(
+            self.alloc,
+            self.program,
+            trace.name,
+            unit,
+            &program,
+            events.as_slice(),
+        );
+        if let Ok(Some(line)) = line {
+            self.add(line.as_slice());
+        }
+    }
+
+    /// Adds why standard output was not written, if a write failed.
+    pub fn unwritten(&mut self, failure: Option<ErrorKind>) {
+        let Some(kind) = failure else {
+            return;
+        };
+        if let Ok(Some(line)) = unwritten_line(self.alloc, self.program, kind) {
+            self.add(line.as_slice());
+        }
+    }
+}
