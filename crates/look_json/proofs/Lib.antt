@@ -1,0 +1,3 @@
+mod AnswerFloats
+pub mod Plain
+mod WrittenLemmas

@@ -1,0 +1,9 @@
+//! What `look explain` and `look tell` print, as lines of JSON.
+#![tactic(auto)]
+
+mod explained;
+mod lines;
+mod stories;
+
+pub use explained::write_explained;
+pub use stories::write_stories;

@@ -1,0 +1,125 @@
+//! The story of a text's run of a trace as lines of JSON, or the line of a fault.
+
+ghost use Rattle.std.specs.Prelude.{◌≡◌, IfOk};
+ghost use Rattle.std.specs.String.{string_bytes};
+ghost use Rattle.sts_text.specs.Words.{lines};
+ghost use Rattle.sts_asm.specs.Text.{judged};
+ghost use Rattle.sts_trace.specs.Reading.{trace_read};
+ghost use Rattle.sts_output.specs.Output as cli;
+ghost use Rattle.look_tell.specs.Telling.{IsStoryOf};
+ghost use Rattle.look_json.specs.Stories as def;
+
+use crate::explained::{whole, with_status};
+use crate::lines::say_lines;
+use look_lines::{Form, ViewOptions};
+use look_refusal::Explanation;
+use look_tell::{TellOptions, tell};
+use look_views::JsonViews;
+use std::alloc::{AllocError, Global};
+use std::io::Write;
+use sts_asm::assemble;
+use sts_model::Event;
+use sts_output::{Output, TakeError, WriteFailed, failed, written};
+use sts_trace::read_trace;
+
+/// The form of a fault.
+const FAULTS: JsonViews = JsonViews {
+    wanted: ViewOptions {
+        each: false,
+        full: false,
+        living: false,
+    },
+};
+
+/// What `tell` prints.
+fn story_of(
+    alloc: Global,
+    options: TellOptions,
+    text: &[u8],
+    trace: &[u8],
+) -> Result<Explanation, AllocError>
+    ensures { IfOk result (λ o. IsStoryOf options text.now trace.now o) }
+{
+    let mut bytes = Vec::new(alloc);
+    match tell(alloc, options, text, trace, &mut bytes) {
+        Ok(status) => Ok(Explanation { bytes, status }),
+        Err(_) => Err(AllocError),
+    }
+}
+
+fn said(alloc: Global, events: &[Event], story: &Explanation) -> Result<String, AllocError>
+    ensures { IfOk result (λ s. string_bytes s ≡ def.story_lines events.now (lines story.now.bytes)) }
+{
+    let mut out = String::new(alloc);
+    say_lines(alloc, &mut out, events, story.bytes.as_slice())?;
+    Ok(out)
+}
+
+/// The story of these events, which the trace spells.
+fn of_events(
+    alloc: Global,
+    options: TellOptions,
+    text: &[u8],
+    trace: &[u8],
+    events: &[Event],
+) -> Result<Output, AllocError>
+    ensures { IfOk result (λ o. def.IsStory options text.now trace.now events.now o) }
+{
+    let printed = story_of(alloc, options, text, trace)?;
+    let story = whole(printed)?;
+    let said = said(alloc, events, &story)?;
+    Ok(with_status(said, &story))
+}
+
+fn of_trace(
+    alloc: Global,
+    options: TellOptions,
+    text: &[u8],
+    trace: &[u8],
+) -> Result<Output, AllocError>
+    ensures { IfOk result (λ o. def.TellsTrace options text.now trace.now
+        (trace_read trace.now) o) }
+{
+    match read_trace(alloc, trace) {
+        Ok(events) => of_events(alloc, options, text, trace, events.as_slice()),
+        Err(error) => FAULTS.of_trace_fault(alloc, error),
+    }
+}
+
+fn told(
+    alloc: Global,
+    options: TellOptions,
+    text: &[u8],
+    trace: &[u8],
+) -> Result<Output, AllocError>
+    ensures { IfOk result (λ o. def.Tells options (judged text.now) text.now trace.now o) }
+{
+    match assemble(alloc, text) {
+        Ok(_) => of_trace(alloc, options, text, trace),
+        Err(error) => FAULTS.of_text_fault(alloc, error),
+    }
+}
+
+/// Writes the story of a text's run of a trace as lines of JSON, and gives the status that `tell`
+/// gives.
+///
+/// It takes all its memory before the first byte is written.
+///
+/// # Errors
+///
+/// A write failed.
+pub fn write_stories<W: Write>(
+    alloc: Global,
+    options: TellOptions,
+    text: &[u8],
+    trace: &[u8],
+    out: &mut W,
+) -> Result<u8, WriteFailed>
+    ensures { IfOk result (λ s. (o : cli.Output) × def.AreStoriesOf options text.now trace.now o
+        × cli.Writes (W.contents out.old) (W.contents out.new) s o) }
+{
+    match told(alloc, options, text, trace) {
+        Ok(output) => written(out, output.text.as_bytes(), output.status),
+        Err(_) => failed(TakeError::Memory, out),
+    }
+}
