@@ -2,7 +2,7 @@
 use Rattle.std.proofs.Common.{◌≡◌, ℕ, ◌+◌, inl, List, [], ◌∷◌, ◌++◌, ◌⊎◌, inr, cond, ◌<◌}
 use Rattle.std.proofs.Common.{Bool, true, false, Option, Some, None, refl, sym, ◌∙◌, ap, subst, drop}
 use Rattle.std.proofs.Common.{set, not, ◌||◌, ◌&&◌}
-use Rattle.std.specs.Prelude.{count_by, filter_map, unwrap_or, pos, is_some}
+use Rattle.std.specs.Prelude.{slice_get, count_by, filter_map, unwrap_or, pos, is_some}
 use Rattle.sts_code.specs.Program.{Program}
 use Rattle.sts_code.specs.declared.instr.Instr.{Instr}
 use Rattle.sts_code.specs.declared.instr.Instr.TheVariants.{Cancelled, Case, Get, Except, Tally, Total, Forget}
@@ -39,11 +39,11 @@ use Rattle.laws_calls.specs.Fitting.{Answers, heard_in, most, MayCount}
 use Rattle.laws_calls.specs.Held as held
 use Rattle.laws_calls.specs.Tasks.{AllTwo, at_place, HasWay, Part, Seen, Own, bare, births_in, held_at}
 use Rattle.laws_calls.specs.Tasks.{Knowledge, Unseen, ByJoiner, Heard, bindings, May, Asked, Late}
-use Rattle.laws_calls.specs.Steps.{Row, Table, Steps, IsTable, to, pushes, after_cancel, counted, summed, parts_with, split, told, after_expiry, expired_step}
+use Rattle.laws_calls.specs.Steps.{Row, Table, Steps, IsTable, to, pushes, after_cancel, counted, summed, parts_with, split, told, after_expiry, expired_step, saw_failure, may_decide, may_be_late, is_heard}
 use Rattle.laws_calls.specs.Steps.{local_step, read_step, bound_step, or_else_step, bind_step, unbind_step, forget_step}
 use Rattle.laws_calls.specs.Steps.{interrupted_step, lent_step, going_step, cancelled_step, success_step, failure_step}
 use Rattle.laws_calls.specs.Steps.{missed_step, get_step, except_step, tally_step, total_step, only, kept, missed, with_part, with_seen}
-use Rattle.laws_calls.specs.Covers.{PartFits, SeenFits, HeldFits, FrameFits, TaskFits, IsRight, IsTimely}
+use Rattle.laws_calls.specs.Covers.{PartFits, SeenFits, HeldFits, FrameFits, TaskFits, IsRight, IsTimely, InOrder, subs}
 use Rattle.laws_calls.specs.Covers.{Watched, Covers, alive_in}
 use Rattle.laws_calls.proofs.Lists.{all_set, Apart, kept_way, no, at_among}
 use Rattle.laws_calls.proofs.Turns.{Facts, FlagsByCancel, apart_births, free_around, births_has}
@@ -51,6 +51,7 @@ use Rattle.laws_calls.proofs.Moves.{Turned, covers_turned, turned_frame, turned_
 use Rattle.laws_calls.proofs.Moves.{OwnScope, own_scope, OwnSub, own_sub, held_lent, held_slot, put_seen, put_part}
 use Rattle.laws_calls.proofs.Counts.{states_in, tally_states}
 use Rattle.laws_calls.proofs.Totals.{total_states, count_states}
+use Rattle.laws_calls.proofs.Early.{order_saw, order_put, order_missed}
 use Rattle.laws_calls.proofs.Possible.{are_possible, counts_cancelled, pick_fits, unknown, unheard, few_free, settled_fits, counts_most, undecided}
 use Rattle.laws_calls.specs.Triggers.{is_trigger, triggers}
 use Rattle.laws_calls.proofs.Frames.{bare_local, blank_bounds, blank_drop}
@@ -269,15 +270,26 @@ module _ (p : Program) (t : Table) (root : Row) (is : IsTable p t root) (w : Wor
 
         known_as : (s : ℕ) (y : Seen) (q : Knowledge) → SeenFits rows w s y → IsRight q (scope_at w s) → MayCount q y.phase y.joiner (triggers y.joiner (ends (scope_at w s))) → SeenFits rows w s (record y { knowledge = q })
         known_as s y q k2 right counts =
-            record { joiner = k2.joiner; timed = k2.timed; environment = k2.environment; phase = k2.phase; known = right; parts = k2.parts; counts = counts; asked = k2.asked }
+            record { joiner = k2.joiner; timed = k2.timed; environment = k2.environment; phase = k2.phase; known = right; parts = k2.parts; counts = counts; asked = k2.asked; order = k2.order }
+
+        by_joiner : (s : ℕ) (o : OwnScope rows w f own x s) → (scope_at w s).cancelled ≡ true → may_decide o.seen.knowledge ≡ true → StepsTo p t rows w u own (Cancelled x) (steps f 0 (truth true ∷ []))
+        by_joiner s o e may = pushed s o (after_cancel o.seen) (known_as s o.seen ByJoiner o.fits e (counts_cancelled o.seen.knowledge o.seen.phase o.seen.joiner _ may o.fits.counts)) (cancelled_step o.place o.seen o.owns may)
+
+        by_expiry : (s : ℕ) (o : OwnScope rows w f own x s) → (scope_at w s).cancelled ≡ true → (scope_at w s).expired ≡ true → may_be_late o.seen.knowledge ≡ true → StepsTo p t rows w u own (Cancelled x) (steps f 0 (truth true ∷ []))
+        by_expiry s o e late may =
+            pushed s o (after_expiry o.seen) (known_as s o.seen Late o.fits (e, late) (counts_most o.seen.knowledge o.seen.phase o.seen.joiner _ o.fits.counts))
+            (expired_step o.place o.seen o.owns may (o.fits.timed ∙ timely s late))
+
+        -- what was known of a scope that has expired
+        gone_late : (s : ℕ) (o : OwnScope rows w f own x s) → (scope_at w s).cancelled ≡ true → (scope_at w s).expired ≡ true → (q : Knowledge) → o.seen.knowledge ≡ q → StepsTo p t rows w u own (Cancelled x) (steps f 0 (truth true ∷ []))
+        gone_late s o e late Unseen is = by_expiry s o e late (ap may_be_late is)
+        gone_late s o e late Late is = by_expiry s o e late (ap may_be_late is)
+        gone_late s o e late ByJoiner is = by_joiner s o e (ap may_decide is)
+        gone_late s o e late Heard is = absurd (no (sym (ap is_heard is) ∙ unheard o.seen.knowledge (scope_at w s) o.fits.known e))
 
         gone : (s : ℕ) (o : OwnScope rows w f own x s) → (scope_at w s).cancelled ≡ true → (b : Bool) → (scope_at w s).expired ≡ b → StepsTo p t rows w u own (Cancelled x) (steps f 0 (truth true ∷ []))
-        gone s o e false on_time =
-            let may = undecided o.seen.knowledge (scope_at w s) o.fits.known e on_time in
-            pushed s o (after_cancel o.seen) (known_as s o.seen ByJoiner o.fits e (counts_cancelled o.seen.knowledge o.seen.phase o.seen.joiner _ may o.fits.counts)) (cancelled_step o.place o.seen o.owns may)
-        gone s o e true late =
-            pushed s o (after_expiry o.seen) (known_as s o.seen Late o.fits (e, late) (counts_most o.seen.knowledge o.seen.phase o.seen.joiner _ o.fits.counts))
-            (expired_step o.place o.seen o.owns (unheard o.seen.knowledge (scope_at w s) o.fits.known e) (o.fits.timed ∙ timely s late))
+        gone s o e false on_time = by_joiner s o e (undecided o.seen.knowledge (scope_at w s) o.fits.known e on_time)
+        gone s o e true late = gone_late s o e late o.seen.knowledge refl
 
         by_own : (s : ℕ) → slot f x ≡ slots.Own s → OwnScope rows w f own x s → (b : Bool) → (scope_at w s).cancelled ≡ b → StepsTo p t rows w u own (Cancelled x) (steps f 0 (truth b ∷ []))
         by_own s mine o false e =
@@ -307,14 +319,14 @@ module _ (p : Program) (t : Table) (root : Row) (is : IsTable p t root) (w : Wor
     state_of x o = ap (λ q. completion_of (parent w q).completions (named (slot f x))) o.inside
 
     -- the same, with another part
-    to_part : lives (task_at w u) ≡ true → (i : Instr) (x : ℕ) (o : OwnSub rows w f own x (named (slot f x))) (part : Part) (g next : Frame) → Leaves f g → bare g ≡ next
+    to_part : lives (task_at w u) ≡ true → (i : Instr) (x : ℕ) (o : OwnSub rows w f own x (named (slot f x))) (part : Part) (g next : Frame) → (is_joined o.seen.phase ≡ false → InOrder o.seen.has_failure (scope_at w o.scope) (subs w o.scope) (set o.seen.parts o.i part)) → Leaves f g → bare g ≡ next
         → PartFits rows (alive_in w) (scope_at w o.scope) (named (slot f x)) part
         → Steps p t (rows u).call own i (to (with_part own o.place o.seen o.i part) next) → StepsTo p t rows w u own i g
-    to_part alive i x o part g next same e new step =
+    to_part alive i x o part g next order same e new step =
         record {
           next = to (with_part own o.place o.seen o.i part) next;
           step = step;
-          fits = fits_seen alive o.place o.scope _ g next same e o.at (put_part rows w o.scope o.seen o.i (named (slot f x)) part o.fits o.sub new);
+          fits = fits_seen alive o.place o.scope _ g next same e o.at (put_part rows w o.scope o.seen o.i (named (slot f x)) part order o.fits o.sub new);
         }
 
     -- a subtask that has ended heard doesn't live any more
@@ -339,16 +351,24 @@ module _ (p : Program) (t : Table) (root : Row) (is : IsTable p t root) (w : Wor
       open_of : state ≡ None → o.part.is_open ≡ true
       open_of is2 = subst (λ q. May o.part q) is2 o.may.may
 
-      missed_part : state ≡ None → PartFits rows (alive_in w) (scope_at w o.scope) c (missed o.seen.knowledge o.part)
-      missed_part is2 = by o.seen.knowledge o.fits.known
+      -- the part keeps its mark
+      keeps_order : (y : Seen) (part : Part) → SeenFits rows w o.scope y → slice_get y.parts o.i ≡ Some o.part → part.is_early ≡ o.part.is_early → is_joined y.phase ≡ false → InOrder y.has_failure (scope_at w o.scope) (subs w o.scope) (set y.parts o.i part)
+      keeps_order y part seen known early q = order_put y.has_failure (scope_at w o.scope) (subs w o.scope) y.parts o.i o.part part known early (seen.order q)
+
+      missed_part : state ≡ None → PartFits rows (alive_in w) (scope_at w o.scope) c (missed o.seen.knowledge o.seen.has_failure o.part)
+      missed_part is2 = by o.seen.knowledge o.seen.has_failure o.fits.known
         where
-          by : (q : Knowledge) → IsRight q (scope_at w o.scope) → PartFits rows (alive_in w) (scope_at w o.scope) c (missed q o.part)
-          by Unseen r = o.may
-          by Late r = record { may = subst (λ q. May (record { ways = []; is_open = true }) q) (sym is2) refl; whole = λ a free e way. absurd (no (sym r.0 ∙ free)) }
-          by ByJoiner r = record { may = subst (λ q. May (record { ways = []; is_open = true }) q) (sym is2) refl; whole = λ a free e way. cc }
-          by Heard r =
+          gone : (scope_at w o.scope).cancelled ≡ true → PartFits rows (alive_in w) (scope_at w o.scope) c (record o.part { ways = []; is_open = true })
+          gone cancelled = record { may = subst (λ q. May (record o.part { ways = []; is_open = true }) q) (sym is2) refl; whole = λ a free e way. absurd (no (sym cancelled ∙ free)) }
+
+          by : (q : Knowledge) (b : Bool) → IsRight q (scope_at w o.scope) → PartFits rows (alive_in w) (scope_at w o.scope) c (missed q b o.part)
+          by Unseen false r = o.may
+          by Unseen true r = record { may = o.may.may; whole = o.may.whole }
+          by Late b r = gone r.0
+          by ByJoiner b r = gone r
+          by Heard b r =
               record {
-                may = subst (λ q. May (record { ways = []; is_open = true }) q) (sym is2) refl;
+                may = subst (λ q. May (record o.part { ways = []; is_open = true }) q) (sym is2) refl;
                 whole = λ a free e way. (let dead = h.settled o.scope c r.1 r.0 o.inside in absurd (no (sym a ∙ dead)));
               }
 
@@ -356,32 +376,46 @@ module _ (p : Program) (t : Table) (root : Row) (is : IsTable p t root) (w : Wor
       to_case success failed = by state refl
         where
           -- the part has ended by an end that counts, or by another
-          to_told : (to_pc : ℕ) (test : End → Bool) (end : End) → state ≡ Some end → test end ≡ true
-              → Steps p t (rows u).call own (Case x success failed) (to (with_seen own o.place (told o.seen o.i o.part (is_trigger o.seen.joiner end) test)) (goes own.frame to_pc 0 []))
+          to_told : (to_pc : ℕ) (test : End → Bool) (end : End) (y : Seen) → SeenFits rows w o.scope y → slice_get y.parts o.i ≡ Some o.part → state ≡ Some end → test end ≡ true
+              → Steps p t (rows u).call own (Case x success failed) (to (with_seen own o.place (told y o.i o.part (is_trigger y.joiner end) test)) (goes own.frame to_pc 0 []))
               → StepsTo p t rows w u own (Case x success failed) (goes f to_pc 0 [])
-          to_told to_pc test end e passes step =
-              let counting : Bool = is_trigger o.seen.joiner end in
-              let part : Part = kept (split o.seen.joiner counting test) o.part in
+          to_told to_pc test end y seen known e passes step =
+              let counting : Bool = is_trigger y.joiner end in
+              let part : Part = kept (split y.joiner counting test) o.part in
               let fits : PartFits rows (alive_in w) (scope_at w o.scope) c part =
-              ended_part part end e (kept_way (split o.seen.joiner counting test) o.part.ways end (split_self (test end) counting passes) (way_of end e))
+              ended_part part end e (kept_way (split y.joiner counting test) o.part.ways end (split_self (test end) counting passes) (way_of end e))
               in
               let born = (h.entered u o.scope alive (births_has f.entries o.scope (at_among (births_in f.entries) o.place o.scope o.at))).born in
               record {
-                next = to (with_seen own o.place (told o.seen o.i o.part counting test)) (goes own.frame to_pc 0 []);
+                next = to (with_seen own o.place (told y o.i o.part counting test)) (goes own.frame to_pc 0 []);
                 step = step;
-                fits = fits_seen alive o.place o.scope (told o.seen o.i o.part counting test) (goes f to_pc 0 []) (goes own.frame to_pc 0 []) (leaves_refl f to_pc 0 [])
+                fits = fits_seen alive o.place o.scope (told y o.i o.part counting test) (goes f to_pc 0 []) (goes own.frame to_pc 0 []) (leaves_refl f to_pc 0 [])
                     (ap (λ (z : Frame). goes z to_pc 0 []) k.fits.frame) o.at
-                    (settled_fits rows w h o.scope born (parts_with o.seen o.i part) (put_part rows w o.scope o.seen o.i c part o.fits o.sub fits));
+                    (settled_fits rows w h o.scope born (parts_with y o.i part) (put_part rows w o.scope y o.i c part (keeps_order y part seen known refl) seen o.sub fits));
+              }
+
+          saw_fits : (v : _) → state ≡ Some (Failed v) → SeenFits rows w o.scope (saw_failure o.seen)
+          saw_fits v e =
+              record {
+                joiner = o.fits.joiner;
+                timed = o.fits.timed;
+                environment = o.fits.environment;
+                phase = o.fits.phase;
+                known = o.fits.known;
+                parts = o.fits.parts;
+                counts = o.fits.counts;
+                asked = o.fits.asked;
+                order = λ q. order_saw w h.right o.scope (PartFits rows (alive_in w) (scope_at w o.scope)) o.seen.parts o.fits.parts o.seen.has_failure (o.fits.order q) c v e;
               }
 
           by : (q : Option End) → state ≡ q → StepsTo p t rows w u own (Case x success failed) (goes f (case_target q success failed (f.pc + 1)) 0 [])
           by None e =
-              to_part alive (Case x success failed) x o (missed o.seen.knowledge o.part) (goes f (f.pc + 1) 0 []) (goes own.frame (own.frame.pc + 1) 0 []) (leaves_refl f (f.pc + 1) 0 [])
+              to_part alive (Case x success failed) x o (missed o.seen.knowledge o.seen.has_failure o.part) (goes f (f.pc + 1) 0 []) (goes own.frame (own.frame.pc + 1) 0 []) (λ q. order_missed o.seen.has_failure (scope_at w o.scope) (subs w o.scope) o.seen.parts o.i c o.part o.sub e o.knows.known o.seen.knowledge (o.fits.order q)) (leaves_refl f (f.pc + 1) 0 [])
               (ap (λ (z : Frame). goes z (z.pc + 1) 0 []) k.fits.frame) (missed_part e) (missed_step o.place o.seen o.i o.part o.knows (open_of e))
           by (Some (Success v)) e =
-              to_told success is_success (Success v) e refl (success_step o.place o.seen o.i o.part (is_trigger o.seen.joiner (Success v)) o.knows)
+              to_told success is_success (Success v) o.seen o.fits o.knows.known e refl (success_step o.place o.seen o.i o.part (is_trigger o.seen.joiner (Success v)) o.knows)
           by (Some (Failed v)) e =
-              to_told failed is_failure (Failed v) e refl (failure_step o.place o.seen o.i o.part (is_trigger o.seen.joiner (Failed v)) o.knows)
+              to_told failed is_failure (Failed v) (saw_failure o.seen) (saw_fits v e) o.knows.known e refl (failure_step o.place o.seen o.i o.part (is_trigger o.seen.joiner (Failed v)) o.knows)
 
       to_get : has_succeeded state ≡ true → StepsTo p t rows w u own (Get x) (steps f 0 (value_or_zero state ∷ []))
       to_get = by state refl
@@ -390,9 +424,9 @@ module _ (p : Program) (t : Table) (root : Row) (is : IsTable p t root) (w : Wor
           by None e legal = cc
           by (Some (Failed v)) e legal = cc
           by (Some (Success v)) e legal =
-              to_part alive (Get x) x o (only (Success v)) (steps f 0 (v ∷ [])) (steps own.frame 0 (v ∷ [])) (leaves_refl f (f.pc + 1) 0 (v ∷ []))
+              to_part alive (Get x) x o (only (Success v) o.part) (steps f 0 (v ∷ [])) (steps own.frame 0 (v ∷ [])) (keeps_order o.seen (only (Success v) o.part) o.fits o.knows.known refl) (leaves_refl f (f.pc + 1) 0 (v ∷ []))
               (ap (λ (z : Frame). steps z 0 (v ∷ [])) k.fits.frame)
-              (ended_part (only (Success v)) (Success v) e (inl refl))
+              (ended_part (only (Success v) o.part) (Success v) e (inl refl))
               (get_step o.place o.seen o.i o.part v o.knows (way_of (Success v) e))
 
       to_except : has_failed state ≡ true → StepsTo p t rows w u own (Except x) (steps f 0 (value_or_zero state ∷ []))
@@ -402,9 +436,9 @@ module _ (p : Program) (t : Table) (root : Row) (is : IsTable p t root) (w : Wor
           by None e legal = cc
           by (Some (Success v)) e legal = cc
           by (Some (Failed v)) e legal =
-              to_part alive (Except x) x o (only (Failed v)) (steps f 0 (v ∷ [])) (steps own.frame 0 (v ∷ [])) (leaves_refl f (f.pc + 1) 0 (v ∷ []))
+              to_part alive (Except x) x o (only (Failed v) o.part) (steps f 0 (v ∷ [])) (steps own.frame 0 (v ∷ [])) (keeps_order o.seen (only (Failed v) o.part) o.fits o.knows.known refl) (leaves_refl f (f.pc + 1) 0 (v ∷ []))
               (ap (λ (z : Frame). steps z 0 (v ∷ [])) k.fits.frame)
-              (ended_part (only (Failed v)) (Failed v) e (inl refl))
+              (ended_part (only (Failed v) o.part) (Failed v) e (inl refl))
               (except_step o.place o.seen o.i o.part v o.knows (way_of (Failed v) e))
 
     -- ---- counts
@@ -421,6 +455,7 @@ module _ (p : Program) (t : Table) (root : Row) (is : IsTable p t root) (w : Wor
           parts = k2.parts;
           counts = k2.counts;
           asked = inr (now k2.phase, answers);
+          order = k2.order;
         }
       where
         now : ((scope_at w s).phase ≡ x.phase) ⊎ ((scope_at w s).phase ≡ Closing) → is_joined x.phase ≡ true

@@ -39,6 +39,7 @@ use Rattle.laws_calls.proofs.Turns.{Facts, FlagsByCancel, seen_same, held_same, 
 use Rattle.laws_calls.proofs.Moves.{GoesOn, covers_turned, subs_same}
 use Rattle.laws_calls.proofs.Phases.{Rescoped, rescoped_close, rescoped_frame}
 use Rattle.laws_calls.proofs.Frames.{blank_drop}
+use Rattle.laws_calls.proofs.Early.{order_same}
 use Rattle.laws_calls.proofs.Possible.{are_possible}
 use Rattle.laws_calls.proofs.Alone.{instr_of}
 
@@ -122,6 +123,7 @@ module _ (p : Program) (t : Table) (root : Row) (is : IsTable p t root) (w : Wor
         known = still_right some y.knowledge k.known;
         counts = k.counts;
         asked = k.asked;
+        order = λ e. order_same y.has_failure (scope_at w s) leaving (subs w s) y.parts refl (k.order e);
         parts = all_map (PartFits rows (alive_in w) (scope_at w s)) (PartFits rows (alive_in waits) leaving) (subs w s) y.parts
             (λ i part at e. record { may = e.may; whole = λ alive free. absurd (no free) }) k.parts;
       }))

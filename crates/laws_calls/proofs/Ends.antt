@@ -38,6 +38,7 @@ use Rattle.laws_calls.proofs.Moves.{subs_same}
 use Rattle.laws_calls.proofs.Phases.{at_cancelled, cancel_other}
 use Rattle.laws_calls.specs.Triggers.{triggers}
 use Rattle.laws_calls.specs.Fitting.{most, MayCount, Answers}
+use Rattle.laws_calls.proofs.Early.{order_told}
 use Rattle.laws_calls.proofs.Possible.{counts_told, few_told}
 use Rattle.laws_calls.proofs.Alone.{instr_of}
 
@@ -219,6 +220,7 @@ module _ (p : Program) (t : Table) (root : Row) (is : IsTable p t root) (w v : W
         known = known x.knowledge k.known;
         counts = counts x.knowledge k.known k.counts;
         asked = inl (unasked k.phase k.asked);
+        order = λ e. order_told x.has_failure (scope_at w s) (scope_at v s) (subs w s) x.parts (record { task = u; end = end } ∷ []) told.completions (k.order e);
         parts = all_map (PartFits rows (alive_in w) (scope_at w s)) (PartFits rows (alive_in v) (scope_at v s)) (subs w s) x.parts (λ i part at e. part_told rows way s told i part (sub_born w s i at) e) k.parts;
       })
     where

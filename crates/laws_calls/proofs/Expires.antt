@@ -24,6 +24,7 @@ use Rattle.laws_calls.specs.Covers.{subs, PartFits, ScopeFits, SeenFits, TaskFit
 use Rattle.laws_calls.proofs.Lists.{all_map, no}
 use Rattle.laws_calls.proofs.Turns.{Facts, FlagsByCancel, alive_later, watched_before, seen_same, task_same}
 use Rattle.laws_calls.proofs.Moves.{subs_same}
+use Rattle.laws_calls.proofs.Early.{order_same}
 use Rattle.laws_calls.proofs.Phases.{cancel_here, cancel_other}
 
 joined_stays : (phase : Phase) → is_joined phase ≡ true → can_join phase ≡ true → ⊥
@@ -83,6 +84,7 @@ module _ (p : Program) (t : Table) (root : Row) (w : World) (h : Facts w) (s : �
           known = right z.knowledge k.known;
           counts = k.counts;
           asked = k.asked;
+          order = λ e. order_same z.has_failure scope y (subs w s) z.parts refl (k.order e);
           parts = all_map (PartFits rows (alive_in w) scope) (PartFits rows (alive_in v) y) (subs w s) z.parts
               (λ i part at e. record { may = e.may; whole = λ alive free. absurd (no free) }) k.parts;
         }))

@@ -33,7 +33,7 @@ use Rattle.laws_runs.proofs.FrameLemmas.{own_slot, at_own-is}
 use Rattle.laws_runs.proofs.BirthLemmas.{born_alive}
 use Rattle.laws_calls.specs.Held as held
 use Rattle.laws_calls.specs.Tasks.{Among, AllTwo, Call, HasWay, Part, May, Seen, Own, bare, begin, births_in, Way, Knowledge, Unseen, ByJoiner, Heard, nothing, Late}
-use Rattle.laws_calls.specs.Steps.{Row, Table, IsTable, IsRowOf, call_of, with_handle, forked, fork_step, Steps, is_cancelled, unstarted_step}
+use Rattle.laws_calls.specs.Steps.{Row, Table, IsTable, IsRowOf, call_of, with_handle, forked, fork_step, Steps, is_cancelled, unstarted_step, new_part}
 use Rattle.laws_calls.specs.Covers.{subs, PartFits, ScopeFits, SeenFits, HeldFits, FrameFits, TaskFits}
 use Rattle.laws_calls.specs.Covers.{Watched, Covers, alive_in, IsRight, IsTimely}
 use Rattle.laws_calls.proofs.Lists.{all_map, all_set, all_length, all_append, all_put_place, Apart, filter_agree, range_last}
@@ -41,6 +41,7 @@ use Rattle.laws_calls.proofs.Lists.{range_among, get_front, get_last, no}
 use Rattle.laws_calls.proofs.Turns.{Facts, FlagsByCancel, alive_later, watched_before, flag_stays, environment_stays}
 use Rattle.laws_calls.proofs.Turns.{part_same, seen_same, held_same, task_same, apart_births, sub_born, owner_watched, watched_or_not, free_around}
 use Rattle.laws_calls.proofs.Moves.{OwnScope, own_scope}
+use Rattle.laws_calls.proofs.Early.{order_more}
 use Rattle.laws_calls.proofs.Possible.{are_possible}
 use Rattle.laws_calls.proofs.Alone.{instr_of}
 
@@ -185,7 +186,7 @@ module _ (p : Program) (w : World) (h : Facts w) (u x g : ℕ) (q : Option ℕ) 
         }
 
     abbrev part : Part
-    part = record { ways = k.ways; is_open = true }
+    part = new_part k.ways k.scope.seen
 
     part_fits : PartFits later (alive_in after) (scope_at w s) n part
     part_fits =
@@ -209,6 +210,7 @@ module _ (p : Program) (w : World) (h : Facts w) (u x g : ℕ) (q : Option ℕ) 
           known = k.scope.fits.known;
           counts = k.scope.fits.counts;
           asked = inl k.unasked;
+          order = λ e. order_more k.scope.seen.has_failure (scope_at w s) (subs w s) k.scope.seen.parts n part refl (k.scope.fits.order e);
           parts = all_append (PartFits later (alive_in after) (scope_at w s)) (subs w s) k.scope.seen.parts (n ∷ []) (part ∷ [])
               (all_map (PartFits rows (alive_in w) (scope_at w s)) (PartFits later (alive_in after) (scope_at w s)) (subs w s) k.scope.seen.parts
               (λ i y at e. part_same w after h nx rows later (scope_at w s) i y (sub_born w s i at) (agree i (sub_born w s i at)) e) k.scope.fits.parts)

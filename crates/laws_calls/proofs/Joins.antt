@@ -18,7 +18,7 @@ use Rattle.sts_model.specs.declared.event.Stand.TheVariants.{AtJoin}
 use Rattle.sts_model.specs.declared.event.Verdict.{Verdict}
 use Rattle.sts_model.specs.declared.event.Verdict.TheVariants as verdict
 use Rattle.sts_model.specs.declared.event.Phase.{Phase}
-use Rattle.sts_model.specs.declared.event.Phase.TheVariants.{Opened, Attempted, Joined}
+use Rattle.sts_model.specs.declared.event.Phase.TheVariants.{Opened, Attempted, Joined, Closing}
 use Rattle.sts_model.specs.declared.record.Frame.{Frame}
 use Rattle.sts_model.specs.declared.record.Scope.{Scope}
 use Rattle.sts_model.specs.declared.record.Slot.{Slot}
@@ -45,6 +45,8 @@ use Rattle.laws_calls.specs.Covers.{subs, PartFits, ScopeFits, SeenFits, HeldFit
 use Rattle.laws_calls.specs.Covers.{Covers, alive_in}
 use Rattle.laws_calls.specs.Triggers.{is_trigger, triggers}
 use Rattle.laws_calls.specs.Fitting.{MayCount, Answers}
+use Rattle.laws_calls.specs.Covers.{first_failed}
+use Rattle.laws_calls.proofs.Early.{first_of, early_place}
 use Rattle.laws_calls.proofs.Possible.{are_possible, counts_most, enough, few_free, unknown, unheard, undecided}
 use Rattle.laws_calls.proofs.Lists.{all_map, all_at, all_put, all_right, all_length, all_put_place, Apart, among_get, no}
 use Rattle.laws_calls.proofs.Turns.{Facts, FlagsByCancel, part_same, seen_same, held_same, apart_births, sub_born, sub_listed, listed_inside}
@@ -62,6 +64,14 @@ staying : (phase : Phase) → not (can_join phase) ≡ false → is_leaving phas
 staying Opened e = refl
 staying Attempted e = refl
 staying _ e = cc
+
+not_joined : (a b : Phase) → not (can_join a) ≡ false → (a ≡ b) ⊎ (a ≡ Closing) → is_joined b ≡ false
+not_joined a b e (inl same) = subst (λ z. is_joined z ≡ false) same (early a e)
+  where
+    early : (z : Phase) → not (can_join z) ≡ false → is_joined z ≡ false
+    early Joined k = cc
+    early _ k = refl
+not_joined a b e (inr same) = absurd (no (sym (ap (λ z. not (can_join z)) same) ∙ e))
 
 leaves_answered : (a : Verdict) (f : Frame) (failed : ℕ) → Leaves f (answered a f failed)
 leaves_answered (verdict.Ok None) f failed = record { function = refl; entries = refl; slots = refl }
@@ -138,6 +148,7 @@ module _ (p : Program) (t : Table) (root : Row) (is : IsTable p t root) (w : Wor
           known = k.known;
           counts = k.counts;
           asked = k.asked;
+          order = k.order;
           parts = all_map (PartFits rows (alive_in w) after_join) (PartFits rows (alive_in v) after_join) (subs w s) y.parts
               (λ i part at e. part_same w v h nx rows rows after_join i part (sub_born w s i at) refl e) k.parts;
         }))
@@ -187,21 +198,31 @@ module _ (p : Program) (t : Table) (root : Row) (is : IsTable p t root) (w : Wor
       pub i : ℕ
       pub sub : slice_get (subs w s) i ≡ Some task
       pub state : completion_of scope.completions task ≡ Some e
-      pub may : MayEnd o.seen i e
+      pub part : Part
+      pub may : MayEnd o.seen i part e
+
+    ended_at : (e : End) (c i : ℕ) → completion_of scope.completions c ≡ Some e → slice_get (subs w s) i ≡ Some c → EndedBy e
+    ended_at e c i state sub =
+        let q : (part : Part) × ((slice_get parts i ≡ Some part) × PartFits rows (alive_in w) scope c part) = all_at (PartFits rows (alive_in w) scope) (subs w s) parts i c o.fits.parts sub in
+        record { task = c; i = i; sub = sub; state = state; part = q.0; may = record { known = q.1.0; way = subst (λ y. May q.0 y) state q.1.1.may } }
 
     ended_by : (e : End) → Among (ends scope) e → EndedBy e
     ended_by e at =
         let c : (c : ℕ) × (completion_of scope.completions c ≡ Some e) = who scope.completions (λ i. (h.right.told s).once i) e at in
-        let among : Among (subs w s) c.0 = sub_listed w s c.0 ((h.right.told s).subtask c.0 e c.1) in
-        let i : (i : ℕ) × (slice_get (subs w s) i ≡ Some c.0) = among_get (subs w s) c.0 among in
-        let q : (part : Part) × ((slice_get parts i.0 ≡ Some part) × PartFits rows (alive_in w) scope c.0 part) = all_at (PartFits rows (alive_in w) scope) (subs w s) parts i.0 c.0 o.fits.parts i.1 in
-        record {
-          task = c.0;
-          i = i.0;
-          sub = i.1;
-          state = c.1;
-          may = record { part = q.0; known = q.1.0; way = subst (λ y. May q.0 y) c.1 q.1.1.may };
-        }
+        let i : (i : ℕ) × (slice_get (subs w s) i ≡ Some c.0) = among_get (subs w s) c.0 (sub_listed w s c.0 ((h.right.told s).subtask c.0 e c.1)) in
+        ended_at e c.0 i.0 c.1 i.1
+
+    unjoined : is_joined o.seen.phase ≡ false
+    unjoined = not_joined scope.phase o.seen.phase legal o.fits.phase
+
+    -- the part of the subtask that failed first
+    failed_by : (e : End) → find is_failure (ends scope) ≡ Some e → (b : EndedBy e) × (b.part.is_early ≡ true)
+    unfolding ended_at
+    failed_by e failed =
+        let d : (d : ℕ) × ((first_failed scope.completions ≡ Some d) × (completion_of scope.completions d ≡ Some e)) = first_of scope.completions (λ i. (h.right.told s).once i) e failed in
+        let at = early_place w h.right s (PartFits rows (alive_in w) scope) parts o.fits.parts o.seen.has_failure (o.fits.order unjoined) d.0 d.1.0 in
+        let b : EndedBy e = ended_at e d.0 at.i d.1.1 at.sub in
+        (b, at.is_early b.part b.may.known)
 
     -- what is known of the parts with another phase
     parts_joined : (z : Seen) → AllTwo (PartFits rows (alive_in w) scope) (subs w s) z.parts → AllTwo (PartFits rows (alive_in w) after_join) (subs w s) z.parts
@@ -222,15 +243,16 @@ module _ (p : Program) (t : Table) (root : Row) (is : IsTable p t root) (w : Wor
           known = known;
           counts = counts;
           asked = asked_joined z asked o.fits.asked;
+          order = λ e. cc;
           parts = parts_joined z k;
         }
 
     -- one part has ended by the end that decided
-    parts_decided : (z : Seen) (e : End) (b : EndedBy e) → AllTwo (PartFits rows (alive_in w) scope) (subs w s) z.parts → AllTwo (PartFits rows (alive_in w) scope) (subs w s) (set z.parts b.i (only e))
+    parts_decided : (z : Seen) (e : End) (b : EndedBy e) → AllTwo (PartFits rows (alive_in w) scope) (subs w s) z.parts → AllTwo (PartFits rows (alive_in w) scope) (subs w s) (set z.parts b.i (only e b.part))
     parts_decided z e b k =
-        all_put (PartFits rows (alive_in w) scope) (subs w s) z.parts b.i b.task (only e) k b.sub
+        all_put (PartFits rows (alive_in w) scope) (subs w s) z.parts b.i b.task (only e b.part) k b.sub
         (record {
-          may = subst (λ y. May (only e) y) (sym b.state) (inl refl);
+          may = subst (λ y. May (only e b.part) y) (sym b.state) (inl refl);
           whole = λ alive free e2 way. (let dead = ended_is_dead (task_at w b.task) e ((h.right.told s).ended b.task e b.state) in absurd (no (sym alive ∙ dead)));
         })
 
@@ -250,11 +272,11 @@ module _ (p : Program) (t : Table) (root : Row) (is : IsTable p t root) (w : Wor
         let seen_j : o.seen.joiner ≡ j = o.fits.joiner ∙ is_j in
         record {
           answer = result_of o.seen.joiner (e ∷ []) (length parts);
-          seen = decided (after_cancel o.seen) c.i e;
+          seen = decided (after_cancel o.seen) c.i e c.part;
           same = ap (λ k. result_of k (ends scope) (subtask_count w s)) is_j ∙ same ∙ ap (λ k. result_of k (e ∷ []) (length parts)) (sym seen_j);
-          step = by_one_step o.place o.seen c.i e o.owns (undecided o.seen.knowledge scope o.fits.known gone on_time) (subst (λ k. is_by_one k ≡ true) (sym seen_j) one) c.may
+          step = by_one_step o.place o.seen c.i c.part e o.owns (undecided o.seen.knowledge scope o.fits.known gone on_time) (subst (λ k. is_by_one k ≡ true) (sym seen_j) one) c.may
               (subst (λ k. is_trigger k e ≡ true) (sym seen_j) (triggers e b.passes));
-          fits = fits_with (decided (after_cancel o.seen) c.i e) refl refl refl refl gone (gone_counts asked) (parts_decided o.seen e c o.fits.parts);
+          fits = fits_with (decided (after_cancel o.seen) c.i e c.part) refl refl refl refl gone (gone_counts asked) (parts_decided o.seen e c o.fits.parts);
         }
 
     by_count : scope.cancelled ≡ true → scope.expired ≡ false → is_asked scope ≡ true → (j : Joiner) → scope.joiner ≡ j → is_until j ≡ true → ((n : ℕ) (es : List End) → result_of j es n ≡ result_of j [] n) → Outcome rows own o
@@ -353,19 +375,20 @@ module _ (p : Program) (t : Table) (root : Row) (is : IsTable p t root) (w : Wor
       by_none : scope.joiner ≡ AnySucceeds → list_any is_success (ends scope) ≡ false → First is_failure (ends scope) → Outcome rows own o
       by_none is_j no_success b =
           let e : End = b.end in
-          let c : EndedBy e = ended_by e b.there in
+          let r : (b : EndedBy e) × (b.part.is_early ≡ true) = failed_by e b.first in
+          let c : EndedBy e = r.0 in
           let seen_j : o.seen.joiner ≡ AnySucceeds = o.fits.joiner ∙ is_j in
           record {
             answer = result_of o.seen.joiner (e ∷ []) (length parts);
-            seen = decided (after_all o.seen) c.i e;
+            seen = decided (after_all o.seen) c.i e c.part;
             same =
                 ap (λ k. result_of k (ends scope) (subtask_count w s)) is_j
                 ∙ ap (λ q. verdict_or q (verdict_or (find is_failure (ends scope)) (verdict.Failed (negsuc 0)))) (find_none is_success (ends scope) no_success)
                 ∙ ap (λ q. verdict_or q (verdict.Failed (negsuc 0))) b.first
                 ∙ any_verdict e b.passes
                 ∙ ap (λ k. result_of k (e ∷ []) (length parts)) (sym seen_j);
-            step = none_step o.place o.seen c.i e o.owns (unknown o.seen.knowledge scope o.fits.known free) (ap is_any seen_j) c.may b.passes;
-            fits = fits_with (decided (after_all o.seen) c.i e) refl refl refl refl (free, refl) heard_counts (parts_decided (after_all o.seen) e c heard_parts);
+            step = none_step o.place o.seen c.i c.part e o.owns (unknown o.seen.knowledge scope o.fits.known free) (ap is_any seen_j) c.may b.passes r.1;
+            fits = fits_with (decided (after_all o.seen) c.i e c.part) refl refl refl refl (free, refl) heard_counts (parts_decided (after_all o.seen) e c heard_parts);
           }
 
       any_answers : scope.joiner ≡ AnySucceeds → list_any is_success (ends scope) ≡ false → (b : Bool) → list_any is_failure (ends scope) ≡ b → Outcome rows own o

@@ -12,7 +12,7 @@ use Rattle.sts_model.specs.declared.record.Slot.TheVariants as slots
 use Rattle.sts_model.specs.declared.record.Task.{Task}
 use Rattle.sts_model.specs.World.{World, task_at, scope_at, no_task, with_frame, with_task}
 use Rattle.sts_model.specs.Living.{lives, is_in, is_subtask}
-use Rattle.sts_model.specs.Misuse.{slot}
+use Rattle.sts_model.specs.Misuse.{slot, is_joined}
 use Rattle.laws_runs.specs.Tallies.{births}
 use Rattle.laws_runs.proofs.ListLemmas.{at_set}
 use Rattle.laws_runs.proofs.EventLemmas.{Next}
@@ -21,7 +21,7 @@ use Rattle.laws_calls.specs.Held.{Held}
 use Rattle.laws_calls.specs.Held as held
 use Rattle.laws_calls.specs.Tasks.{Among, AllTwo, at_place, put_place, Part, Seen, Own, births_in, held_at}
 use Rattle.laws_calls.specs.Steps.{Row, Table, Owns, Knows}
-use Rattle.laws_calls.specs.Covers.{subs, PartFits, SeenFits, HeldFits, FrameFits, TaskFits, IsTimely}
+use Rattle.laws_calls.specs.Covers.{subs, PartFits, SeenFits, HeldFits, FrameFits, TaskFits, IsTimely, InOrder}
 use Rattle.laws_calls.specs.Covers.{Watched, Covers, alive_in}
 use Rattle.laws_calls.proofs.Lists.{all_map, all_get, all_at, all_put, all_place, all_put_place}
 use Rattle.laws_calls.proofs.Lists.{filter_same, Apart, get_among}
@@ -201,8 +201,8 @@ own_sub rows w f own x u k is =
 pub put_seen : (rows : ℕ → Row) (w : World) (opened : List ℕ) (scopes : List Seen) (place s : ℕ) (x : Seen) → AllTwo (SeenFits rows w) opened scopes → Apart opened → at_place opened place ≡ Some s → SeenFits rows w s x → AllTwo (SeenFits rows w) opened (put_place scopes place x)
 put_seen rows w opened scopes place s x k apart at new = all_put_place (SeenFits rows w) (SeenFits rows w) opened scopes place s x k apart at new (λ z b among other f. f)
 
-pub put_part : (rows : ℕ → Row) (w : World) (s : ℕ) (x : Seen) (i u : ℕ) (part : Part) → SeenFits rows w s x → slice_get (subs w s) i ≡ Some u → PartFits rows (alive_in w) (scope_at w s) u part → SeenFits rows w s (record x { parts = set x.parts i part })
-put_part rows w s x i u part f at new =
+pub put_part : (rows : ℕ → Row) (w : World) (s : ℕ) (x : Seen) (i u : ℕ) (part : Part) → (is_joined x.phase ≡ false → InOrder x.has_failure (scope_at w s) (subs w s) (set x.parts i part)) → SeenFits rows w s x → slice_get (subs w s) i ≡ Some u → PartFits rows (alive_in w) (scope_at w s) u part → SeenFits rows w s (record x { parts = set x.parts i part })
+put_part rows w s x i u part order f at new =
     record {
       joiner = f.joiner;
       timed = f.timed;
@@ -211,5 +211,6 @@ put_part rows w s x i u part f at new =
       known = f.known;
       counts = f.counts;
       asked = f.asked;
+      order = order;
       parts = all_put (PartFits rows (alive_in w) (scope_at w s)) (subs w s) x.parts i u part f.parts at new;
     }

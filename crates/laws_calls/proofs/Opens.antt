@@ -112,9 +112,9 @@ module _ (p : Program) (t : Table) (root : Row) (is : IsTable p t root) (w : Wor
   held_more born (slots.Sub q) (held.Sub place i) e = (e.0, (lists.at_more n old place e.0 e.1.0, subst (λ us. slice_get us i ≡ Some q) (sym (same_subs born e.0)) e.1.1))
   held_more born a b e = absurd e
 
-  fresh : (rows : ℕ → Row) (own : Own) → u < length w.tasks → TaskFits rows w u own → SeenFits rows after n (record { joiner = joiner; timed = timed; environment = bindings (rows u).call own; phase = Opened; knowledge = Unseen; asked = nothing; parts = [] })
+  fresh : (rows : ℕ → Row) (own : Own) → u < length w.tasks → TaskFits rows w u own → SeenFits rows after n (record { joiner = joiner; timed = timed; environment = bindings (rows u).call own; phase = Opened; knowledge = Unseen; asked = nothing; has_failure = false; parts = [] })
   fresh rows own born k =
-      let y : Seen = record { joiner = joiner; timed = timed; environment = bindings (rows u).call own; phase = Opened; knowledge = Unseen; asked = nothing; parts = [] } in
+      let y : Seen = record { joiner = joiner; timed = timed; environment = bindings (rows u).call own; phase = Opened; knowledge = Unseen; asked = nothing; has_failure = false; parts = [] } in
       subst (λ (scope : Scope). ScopeFits rows (alive_in after) scope (subs after n) y) (sym scope_new)
       (subst (λ us. ScopeFits rows (alive_in after) new us y) (sym (none_inside born))
       (record {
@@ -125,6 +125,7 @@ module _ (p : Program) (t : Table) (root : Row) (is : IsTable p t root) (w : Wor
         known = tt;
         counts = no_trigger joiner;
         asked = inl refl;
+        order = λ e. tt;
         parts = tt;
       }))
 

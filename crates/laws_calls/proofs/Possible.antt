@@ -201,6 +201,7 @@ settled_fits rows w h s born x k = by (is_unseen x.knowledge && nat_le (most x.j
           parts = k.parts;
           counts = counts_cancelled x.knowledge x.phase x.joiner _ (unseen_decides x.knowledge both.0) k.counts;
           asked = k.asked;
+          order = k.order;
         }
 
 pub are_possible : (rows : ℕ → Row) (w : World) → Right w → (opened : List ℕ) (scopes : List Seen) → AllTwo (SeenFits rows w) opened scopes → ArePossible scopes

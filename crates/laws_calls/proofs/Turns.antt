@@ -239,6 +239,7 @@ module _ (w v : World) (h : Facts w) (n : Next w v) where
         known = k.known;
         counts = k.counts;
         asked = k.asked;
+        order = k.order;
         parts = all_map (PartFits rows (alive_in w) (scope_at w s)) (PartFits later (alive_in v) (scope_at w s)) (subs w s) x.parts
             (λ u part at f. part_same rows later (scope_at w s) u part (sub_born w s u at) (agree u (sub_born w s u at)) f) k.parts;
       }))

@@ -1,19 +1,21 @@
 -- What a table covers of a run: the tasks that its owner still looks at, each by a state of its
 -- call (this project's own).
 use Rattle.std.specs.Prelude.{◌≡◌, ℕ, ◌⊎◌, List, [], ◌∷◌, Bool, true, false, Option, Some}
-use Rattle.std.specs.Prelude.{slice_get, map}
+use Rattle.std.specs.Prelude.{slice_get, map, find, option_map}
 use Rattle.std.specs.List.{filter}
 use Rattle.sts_code.specs.Program.{Program}
 use Rattle.sts_model.specs.declared.event.End.{End}
 use Rattle.sts_model.specs.declared.event.Event.{Event}
 use Rattle.sts_model.specs.declared.event.Event.TheVariants as event
 use Rattle.sts_model.specs.declared.event.Phase.TheVariants.{Closing}
+use Rattle.sts_model.specs.declared.record.Completion.{Completion}
 use Rattle.sts_model.specs.declared.record.Slot.{Slot}
 use Rattle.sts_model.specs.declared.record.Slot.TheVariants as slots
 use Rattle.sts_model.specs.declared.record.Frame.{Frame}
 use Rattle.sts_model.specs.declared.record.Scope.{Scope}
 use Rattle.sts_model.specs.World.{World, task_at, scope_at}
 use Rattle.sts_model.specs.Living.{lives, is_subtask, completion_of, scope_of, ends}
+use Rattle.sts_model.specs.Joining.{is_failure}
 use Rattle.sts_model.specs.Misuse.{is_joined}
 use Rattle.laws_runs.specs.Tallies.{births}
 use Rattle.laws_calls.specs.Held.{Held}
@@ -51,6 +53,31 @@ abbrev pub IsAsked : Seen → List (Option End) → Type 0
 IsAsked x states =
     (x.asked ≡ nothing) ⊎ ((is_joined x.phase ≡ true) × Answers x.asked states)
 
+abbrev pub AllEarly : List Part → Type 0
+AllEarly [] = Unit {0}
+AllEarly (part ∷ parts) = (part.is_early ≡ true) × AllEarly parts
+
+-- the task that failed first
+abbrev pub first_failed : List Completion → Option ℕ
+first_failed completions =
+    option_map (λ (c : Completion). c.task)
+    (find (λ (c : Completion). is_failure c.end) completions)
+
+-- its part is early
+pub record FailedFirst (scope : Scope) (subtasks : List ℕ) (parts : List Part) : Type 0 where
+  pub task : ℕ
+  pub i : ℕ
+  pub part : Part
+  pub failed : first_failed scope.completions ≡ Some task
+  pub sub : slice_get subtasks i ≡ Some task
+  pub known : slice_get parts i ≡ Some part
+  pub is_early : part.is_early ≡ true
+
+-- all parts are early until a failure is seen; then at least that which failed first is
+abbrev pub InOrder : Bool → Scope → List ℕ → List Part → Type 0
+InOrder false scope subtasks parts = AllEarly parts
+InOrder true scope subtasks parts = FailedFirst scope subtasks parts
+
 pub record ScopeFits (rows : ℕ → Row) (alive : ℕ → Bool) (scope : Scope) (subtasks : List ℕ)
     (x : Seen) : Type 0 where
   pub joiner : x.joiner ≡ scope.joiner
@@ -60,6 +87,7 @@ pub record ScopeFits (rows : ℕ → Row) (alive : ℕ → Bool) (scope : Scope)
   pub known : IsRight x.knowledge scope
   pub parts : AllTwo (PartFits rows alive scope) subtasks x.parts
   pub counts : MayCount x.knowledge x.phase x.joiner (triggers x.joiner (ends scope))
+  pub order : is_joined x.phase ≡ false → InOrder x.has_failure scope subtasks x.parts
   pub asked : IsAsked x (map (completion_of scope.completions) subtasks)
 
 -- ---- tasks

@@ -72,12 +72,13 @@ with_part own place x i part = with_seen own place (parts_with x i part)
 -- ---- parts
 
 -- the part has ended by this end
-abbrev pub only : End → Part
-only e = record { ways = record { end = e } ∷ []; is_open = false }
+abbrev pub only : End → Part → Part
+only e part = record part { ways = record { end = e } ∷ []; is_open = false }
 
 -- the part has ended by one of its ways that pass the test
 abbrev pub kept : (End → Bool) → Part → Part
-kept test part = record { ways = filter (λ (way : Way). test way.end) part.ways; is_open = false }
+kept test part =
+    record part { ways = filter (λ (way : Way). test way.end) part.ways; is_open = false }
 
 -- the ends that pass the test and count towards a cancel, or those that don't count
 abbrev pub split : Joiner → Bool → (End → Bool) → End → Bool
@@ -87,11 +88,12 @@ split j counting test e = test e && (if counting then is_trigger j e else not (i
 abbrev pub ended : Part → Part
 ended part = record part { is_open = false }
 
--- the part had not ended when the owner looked; after that it may end only if nothing is known of a
--- cancel
-abbrev pub missed : Knowledge → Part → Part
-missed Unseen part = part
-missed _ part = record { ways = []; is_open = true }
+-- The part had not ended when the owner looked. After that it may end only if nothing is known of a
+-- cancel. If the owner has seen a failure, another subtask failed before it.
+abbrev pub missed : Knowledge → Bool → Part → Part
+missed Unseen false part = part
+missed Unseen true part = record part { is_early = false }
+missed _ has_failure part = record part { ways = []; is_open = true }
 
 -- ---- open, fork, close
 
@@ -107,6 +109,7 @@ opened c own x joiner timed =
         phase = Opened;
         knowledge = Unseen;
         asked = nothing;
+        has_failure = false;
         parts = [];
       } ∷ own.scopes;
     }
@@ -124,14 +127,17 @@ abbrev pub with_handle : List Held → Option ℕ → Held → List Held
 with_handle slots None x = slots
 with_handle slots (Some h) x = slice_set slots h x
 
--- a new part, with these ways
+-- a new part, with these ways; it is not early if a failure was seen before
+abbrev pub new_part : List Way → Seen → Part
+new_part ways x = record { ways = ways; is_open = true; is_early = not x.has_failure }
+
 abbrev pub forked : Program → Own → ℕ → Seen → List Way → ℕ → Option ℕ → Own
 forked p own place x ways g h =
     record {
       frame = steps own.frame (routine p g).args [];
       held = with_handle own.held h (held.Sub place (length x.parts));
       scopes = put_place own.scopes place
-          (record x { parts = x.parts ++ record { ways = ways; is_open = true } ∷ [] });
+          (record x { parts = x.parts ++ new_part ways x ∷ [] });
     }
 
 abbrev pub clear : ℕ → Held → Held
@@ -190,6 +196,12 @@ may_decide Unseen = true
 may_decide ByJoiner = true
 may_decide _ = false
 
+-- it may have expired before its joiner has cancelled it, for all that is known
+abbrev pub may_be_late : Knowledge → Bool
+may_be_late Unseen = true
+may_be_late Late = true
+may_be_late _ = false
+
 abbrev pub is_unseen : Knowledge → Bool
 is_unseen Unseen = true
 is_unseen _ = false
@@ -205,8 +217,8 @@ abbrev pub after_all : Seen → Seen
 after_all x = record x { knowledge = Heard; parts = map ended x.parts }
 
 -- with one part that has ended by this end
-abbrev pub decided : Seen → ℕ → End → Seen
-decided x i e = record x { parts = slice_set x.parts i (only e) }
+abbrev pub decided : Seen → ℕ → End → Part → Seen
+decided x i e part = parts_with x i (only e part)
 
 -- after a timeout
 abbrev pub timed_out : Own → ℕ → Seen → ℕ → Own
@@ -231,6 +243,9 @@ settled x =
 -- after the owner saw that a part has ended by an end of this kind
 abbrev pub told : Seen → ℕ → Part → Bool → (End → Bool) → Seen
 told x i part counting test = settled (parts_with x i (kept (split x.joiner counting test) part))
+
+abbrev pub saw_failure : Seen → Seen
+saw_failure x = record x { has_failure = true }
 
 -- ---- answers
 
@@ -258,8 +273,7 @@ pub record Knows (own : Own) (h place : ℕ) (seen : Seen) (i : ℕ) (part : Par
   pub known : slice_get seen.parts i ≡ Some part
 
 -- the part may have ended by this end
-pub record MayEnd (seen : Seen) (i : ℕ) (e : End) : Type 0 where
-  pub part : Part
+pub record MayEnd (seen : Seen) (i : ℕ) (part : Part) (e : End) : Type 0 where
   pub known : slice_get seen.parts i ≡ Some part
   pub way : HasWay part.ways e
 
@@ -303,7 +317,7 @@ pub data Steps (p : Program) (t : Table) (c : Call) (own : Own) : Instr → Own 
       → Steps p t c own (Cancelled x)
       (pushes (with_seen own place (after_cancel seen)) 0 (truth true))
   expired_step : {x : ℕ} (place : ℕ) (seen : Seen) → Owns own x place seen
-      → is_heard seen.knowledge ≡ false → seen.timed ≡ true
+      → may_be_late seen.knowledge ≡ true → seen.timed ≡ true
       → Steps p t c own (Cancelled x)
       (pushes (with_seen own place (after_expiry seen)) 0 (truth true))
   -- scopes
@@ -324,11 +338,12 @@ pub data Steps (p : Program) (t : Table) (c : Call) (own : Own) : Instr → Own 
       → Steps p t c own (Join x failed timeout to_i)
       (timed_out own place seen (unwrap_or timeout 0))
   -- `join` of a cancelled scope: one end decided, or as many as the joiner waits for
-  by_one_step : {x to_i : ℕ} {failed timeout : Option ℕ} (place : ℕ) (seen : Seen) (i : ℕ) (e : End)
+  by_one_step : {x to_i : ℕ} {failed timeout : Option ℕ} (place : ℕ) (seen : Seen) (i : ℕ)
+      (part : Part) (e : End)
       → Owns own x place seen → may_decide seen.knowledge ≡ true → is_by_one seen.joiner ≡ true
-      → MayEnd seen i e → is_trigger seen.joiner e ≡ true
+      → MayEnd seen i part e → is_trigger seen.joiner e ≡ true
       → Steps p t c own (Join x failed timeout to_i)
-      (joined own place (decided (after_cancel seen) i e)
+      (joined own place (decided (after_cancel seen) i e part)
       (result_of seen.joiner (e ∷ []) (length seen.parts)) (unwrap_or failed 0))
   by_count_step : {x to_i : ℕ} {failed timeout : Option ℕ} (place : ℕ) (seen : Seen)
       → Owns own x place seen → may_decide seen.knowledge ≡ true → is_until seen.joiner ≡ true
@@ -342,11 +357,12 @@ pub data Steps (p : Program) (t : Table) (c : Call) (own : Own) : Instr → Own 
       → Steps p t c own (Join x failed timeout to_i)
       (joined own place (after_all seen) (result_of seen.joiner [] (length seen.parts))
       (unwrap_or failed 0))
-  none_step : {x to_i : ℕ} {failed timeout : Option ℕ} (place : ℕ) (seen : Seen) (i : ℕ) (e : End)
+  none_step : {x to_i : ℕ} {failed timeout : Option ℕ} (place : ℕ) (seen : Seen) (i : ℕ)
+      (part : Part) (e : End)
       → Owns own x place seen → is_cancelled seen.knowledge ≡ false → is_any seen.joiner ≡ true
-      → MayEnd seen i e → is_failure e ≡ true
+      → MayEnd seen i part e → is_failure e ≡ true → part.is_early ≡ true
       → Steps p t c own (Join x failed timeout to_i)
-      (joined own place (decided (after_all seen) i e)
+      (joined own place (decided (after_all seen) i e part)
       (result_of seen.joiner (e ∷ []) (length seen.parts)) (unwrap_or failed 0))
   -- a subtask
   success_step : {h succeeded failed : ℕ} (place : ℕ) (seen : Seen) (i : ℕ) (part : Part)
@@ -357,18 +373,19 @@ pub data Steps (p : Program) (t : Table) (c : Call) (own : Own) : Instr → Own 
   failure_step : {h succeeded failed : ℕ} (place : ℕ) (seen : Seen) (i : ℕ) (part : Part)
       (counting : Bool) → Knows own h place seen i part
       → Steps p t c own (Case h succeeded failed)
-      (to (with_seen own place (told seen i part counting is_failure)) (goes own.frame failed 0 []))
+      (to (with_seen own place (told (saw_failure seen) i part counting is_failure))
+      (goes own.frame failed 0 []))
   missed_step : {h succeeded failed : ℕ} (place : ℕ) (seen : Seen) (i : ℕ) (part : Part)
       → Knows own h place seen i part → part.is_open ≡ true
       → Steps p t c own (Case h succeeded failed)
-      (to (with_part own place seen i (missed seen.knowledge part))
+      (to (with_part own place seen i (missed seen.knowledge seen.has_failure part))
       (goes own.frame (own.frame.pc + 1) 0 []))
   get_step : {h : ℕ} (place : ℕ) (seen : Seen) (i : ℕ) (part : Part) (v : ℤ)
       → Knows own h place seen i part → HasWay part.ways (Success v)
-      → Steps p t c own (Get h) (pushes (with_part own place seen i (only (Success v))) 0 v)
+      → Steps p t c own (Get h) (pushes (with_part own place seen i (only (Success v) part)) 0 v)
   except_step : {h : ℕ} (place : ℕ) (seen : Seen) (i : ℕ) (part : Part) (v : ℤ)
       → Knows own h place seen i part → HasWay part.ways (Failed v)
-      → Steps p t c own (Except h) (pushes (with_part own place seen i (only (Failed v))) 0 v)
+      → Steps p t c own (Except h) (pushes (with_part own place seen i (only (Failed v) part)) 0 v)
   -- a count, a sum: of some pick
   tally_step : {x : ℕ} {kind : Kind} (place : ℕ) (seen : Seen) (pick : List (Option End))
       → Owns own x place seen → Fits seen pick

@@ -60,11 +60,12 @@ HasWay (way ∷ ways) e = (way.end ≡ e) ⊎ HasWay ways e
 
 -- ---- scopes
 
--- A subtask, as the owner of its scope knows it: the ways that are still possible, and whether it
--- may be unavailable.
+-- A subtask, as the owner of its scope knows it: the ways that are still possible, whether it may
+-- be unavailable, and whether it may have failed before all others.
 pub record Part : Type 0 where
   pub ways : List Way
   pub is_open : Bool
+  pub is_early : Bool
 
 -- What an owner knows of a cancel of its scope. It knows nothing. Or its joiner has cancelled the
 -- scope. Or the scope has expired. Or all subtasks have ended, and the scope is not cancelled.
@@ -93,6 +94,8 @@ pub record Seen : Type 0 where
   pub phase : Phase
   pub knowledge : Knowledge
   pub asked : Asked
+  -- has its owner seen a failure?
+  pub has_failure : Bool
   -- its subtasks, in fork order
   pub parts : List Part
 
