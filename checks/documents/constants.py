@@ -18,7 +18,8 @@ def versions():
 def states_of_searches():
     """Fails if help, docs/LOOK.md or docs/PAGE.md name another number of states for a search of ends than `look` and the page have."""
     for path, constant, shown in (
-        ("crates/look_args/src/asked.rt", r"MOST_STATES: u32", (("crates/look_args/src/command.rt", "stops when it has N states ({})"), ("docs/LOOK.md", "(default {})"))),
+        ("crates/look_ends/src/by_calls.rt", r"MOST_STATES: u32", (("crates/look_args/src/command.rt", "stops when it has N states ({},"), ("docs/LOOK.md", "(default {},"))),
+        ("crates/look_ends/src/by_calls.rt", r"STATES_TIMES_EVENTS: usize", (("docs/LOOK.md", "{} divided by"),)),
         ("page/page.js", "STATES_AT_ONCE", (("docs/PAGE.md", "with `--most {}`"),)),
         ("page/page.js", "STATES_ON_REQUEST", (("docs/PAGE.md", "with `--most {}`"),)),
     ):

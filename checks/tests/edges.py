@@ -175,7 +175,8 @@ def words_of_look(look):
         status, printed, told = look.says(*words, "x1", *["x"] * 290)
         yield f"300 words: {words}", (status, printed, "x1" in told), (2, "", True)
     yield from mistaken(look, [[], ["view", "text"], ["explain"], ["draw", "text"], ["view", "text", "trace", "--eech"], ["verify", "text"], [""]])
-    ends = (["--most"], ["--most", "x"], ["--interrupts", "4294967296"], ["--trace", "1"], ["--trace", "x", "made"], ["trace"])
+    ends = (["--most"], ["--most", "x"], ["--seconds", "1s"], ["--interrupts", "4294967296"], ["--trace", "1"], ["--trace", "x", "made"], ["trace"])
+    yield "explain --lines with a trace", look.names_all(["explain", "text", "trace", "--lines"], ["`explain` takes one of TRACE, `--lines` and `--json`"]), (2, "", [])
     yield from mistaken(look, [["ends"], ["cases"], *(["ends", "text", *it] for it in ends)])
     yield from windows(look)
     yield from stories(look)
@@ -294,6 +295,7 @@ def names_of_look(look):
     for name in NAMES:
         look.has(text=POPS, trace="", **{name: SEVEN})
         yield f"explain {name!r}", look.says("explain", name), (0, "accepted\n", "")
+        yield f"explain --lines {name!r}", look.says("explain", "--lines", name), (0, "", "")
         look.add({"seven": SEVEN, name: TWICE})
         ended = "success 7\nsteps 2\ntask 0 under - in main at 2, after line 3 success 7\n"
         yield f"view with {name!r}", look.says("view", "seven", name), (0, ended, "")
@@ -337,10 +339,11 @@ def outputs_of_look(look):
     """Tries the output of the commands of `look`, and each status."""
     for text, trace, printed, status in VIEWS:
         look.has(text=text, trace=trace)
-        yield f"view of {text!r} {trace!r}", look.says("view", "text", "trace"), (status, printed, "")
+        why = idle("look: trace, event", trace)
+        yield f"view of {text!r} {trace!r}", look.says("view", "text", "trace"), (status, printed, why)
         for words in (["view", "text", "trace", "--each"], ["explain", "text", "trace"], ["draw", "text", "trace"]):
             ended, _, told = look.says(*words)
-            yield f"the status of {words}, {text!r} {trace!r}", (ended, told), (status, "")
+            yield f"the status of {words}, {text!r} {trace!r}", (ended, told), (status, why if words[0] == "explain" else "")
     look.has(text=OWNER, trace=ENDED)
     status, printed, _ = look.says("view", "text", "trace", "--each")
     yield "an interrupt of a task that has ended", "after 5 interrupt 1 idle\n" in printed, True

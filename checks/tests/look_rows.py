@@ -1,8 +1,9 @@
 """Asks `look` for the answers of the rows in checks/look_rows, which were worked out by hand.  [LOOK|--unproved]
 
 The files `.rows` have the notation of the tables in crates/tests_rows/data, with these questions:
-- `? explain` asks for the explanation of the text above; `? explain TRACE` for that of its run;
-- `? tell [FROM..TO] [--each] [--strict] TRACE` asks for the story of its run;
+- `? explain [--lines] [--json]` asks for the explanation of the text above, whose file is named `text` in the answer;
+  `? explain TRACE` for that of its run;
+- `? tell [FROM..TO] [--each] [--strict] [--json] TRACE` asks for the story of its run;
 - `? view [--each] [--full] [--living] [--json] TRACE` and `? draw [--events A..B] TRACE` ask for what these commands print, and
   `? ends OPTIONS` for the ends.
 A TRACE is short (`0*5`), or `trace LINES`. A remark `# ---- GROUP` begins a group, and one above a text is the row's name.
@@ -11,8 +12,8 @@ pictures.json has runs, and the picture of each. `sizes` are the width and the h
 `foot` is where the legend begins. An element is `CLASS X Y WORDS` for a mark, `fork X FROM TO`, `number X N EVENT`,
 `idle X N EVENT`, or `value X Y WORDS` and other texts. An element with `of each` stands for these elements of each event from
 `first` to `last`: N is its number, and X its column, of which the first is at `at`. `events` is a window, if one is asked for, and
-`left_out` says in the heading which events aren't drawn. The style and the legend are texts that were chosen; they are not
-compared. In a text, a trace, `stands` and `left_out`, ` / ` is between two lines.
+`left_out` says in the heading which events aren't drawn. The legend has the marks that the elements have. The style is a text
+that was chosen; it isn't compared. In a text, a trace, `stands` and `left_out`, ` / ` is between two lines.
 The last line is `N passed, M failed`, of rows.
 """
 import glob
@@ -25,21 +26,25 @@ import tempfile
 from checks import notation, programs, tally
 
 HERE = f"{programs.CHECKS}/look_rows"
-SHAPES = {
-    "ready": "h24",
-    "waits": "h24",
-    "bracket": "h24",
-    "closing": "h24",
-    "step": "m-4 0a4 4 0 1 0 8 0a4 4 0 1 0-8 0",
-    "success": "m7 0l4 5l8-10",
-    "failed": "m8-5l10 10m0-10l-10 10",
-    "unheard": "m8 0a5 5 0 1 0 10 0a5 5 0 1 0-10 0",
-    "never-started": "m8-5h10v10h-10z",
-    "interrupted": "m2-21l-6 8h5l-3 7l8-9h-5l4-6z",
-    "edge": "m0-4v8",
-    "expired": "m4-4h7l-7 8h7z",
-    "cancelled": "m13 0a4 4 0 1 0 8 0a4 4 0 1 0-8 0m1.2 2.8l5.6-5.6",
-    "fault": "m14-9v10m0 4v3",
+# Of each mark its shape and its meaning, in the order of the legend.
+MARKS = {
+    "ready": ("h24", "can take a step"),
+    "waits": ("h24", "waits in join or close"),
+    "step": ("m-4 0a4 4 0 1 0 8 0a4 4 0 1 0-8 0", "a step"),
+    "fork": ("m12-8v16", "starts a subtask"),
+    "success": ("m7 0l4 5l8-10", "succeeded"),
+    "failed": ("m8-5l10 10m0-10l-10 10", "failed"),
+    "unheard": ("m8 0a5 5 0 1 0 10 0a5 5 0 1 0-10 0", "ended after the cancel, not told"),
+    "never-started": ("m8-5h10v10h-10z", "forked after the cancel, never runs"),
+    "interrupted": ("m2-8l-6 8h5l-3 7l8-9h-5l4-6z", "interrupted"),
+    "bracket": ("h24", "an open scope"),
+    "edge": ("m0-4v8", "opened, joined or closed"),
+    "closing": ("h24", "its close waits for subtasks"),
+    "expired": ("m4-4h7l-7 8h7z", "time is up"),
+    "cancelled": ("m13 0a4 4 0 1 0 8 0a4 4 0 1 0-8 0m1.2 2.8l5.6-5.6", "cancelled"),
+    "quiet": ("m13 0a3 3 0 1 0 6 0a3 3 0 1 0-6 0", "closed, with nothing to cancel"),
+    "fault": ("m14-9v10m0 4v3", "a forbidden step: the run stops"),
+    "idle": ("m-7 0h14", "the event changed nothing"),
 }
 
 
@@ -59,11 +64,16 @@ def asks(look, words, text, trace):
     """Returns the status and what `look` prints."""
     with tempfile.TemporaryDirectory() as folder:
         files = [programs.kept(folder, name, it) for name, it in (("text", text), ("trace", trace)) if it is not None]
-        return programs.says(look, words[0], *files, *words[1:], seconds=60, is_text=False)
+        status, printed = programs.says(look, words[0], *files, *words[1:], seconds=60, is_text=False)
+        return status, printed.replace(f"{folder}/".encode(), b"")
 
 
 def lines(short):
     return "".join(f"{it}\n" for it in short.split(" / ")) if short else ""
+
+
+def mark(kind, x, y, words):
+    return f"<path class='{kind}' d='M{x} {y}{MARKS[kind][0]}'><title>{words}</title></path>\n"
 
 
 def element(short):
@@ -71,12 +81,13 @@ def element(short):
     kind, x, y, words = (short.split(" ", 3) + [""])[:4]
     if kind in ("number", "idle"):
         idle = " idle" if kind == "idle" else ""
-        return f"<text class='number{idle}' x='{x}' y='44'><title>{words}{idle}</title>{y}</text>\n"
+        number = f"<text class='number' x='{x}' y='44'><title>{words}{idle}</title>{y}</text>\n"
+        return number + (mark(kind, x, 40, f"{words} idle") if idle else "")
     if kind == "fork":
         return f"<path class='fork' d='M{x} {y}V{words}'/>\n"
-    if kind in ("value", "label", "name", "code"):
+    if kind in ("value", "label", "name", "code", "word"):
         return f"<text class='{kind}' x='{x}' y='{y}'>{words}</text>\n"
-    return f"<path class='{kind}' d='M{x} {y}{SHAPES[kind]}'><title>{words}</title></path>\n"
+    return mark(kind, x, y, words)
 
 
 def elements(row):
@@ -90,8 +101,17 @@ def elements(row):
             yield from (" ".join(at.get(word, word) for word in short.split(" ")) for short in it["of each"])
 
 
+def legend(row):
+    """Returns the legend of a row: the marks that it has, two in a line."""
+    has = {short.split(" ")[0] for short in elements(row)}
+    kinds = [kind for kind in MARKS if kind in has]
+    for n, kind in enumerate(kinds):
+        x, y, words = 232 * (n % 2), 20 * (n // 2), MARKS[kind][1]
+        yield f"{mark(kind, x, y, words)}<text class='key' x='{x + 32}' y='{y + 4}'>{words}</text>\n"
+
+
 def picture(row):
-    """Returns the picture of a row, without its style and its legend."""
+    """Returns the picture of a row, without its style."""
     wide, high, grid_wide, grid_high = row["sizes"]
     state = f"{row['state']}\n steps {row['steps']}\n{lines(row.get('left_out', ''))}"
     described = f"{row['state']}\nsteps {row['steps']}\n{lines(row['stands'])}"
@@ -100,14 +120,13 @@ def picture(row):
         f"<title>{state}</title>\n<desc>{described}</desc>\n"
         f"<rect fill='url(#sts-grid)' x='208' y='46' width='{grid_wide}' height='{grid_high}'/>\n"
         f"<text class='heading' x='12' y='22'>{state}</text>\n{''.join(map(element, elements(row)))}"
-        f"<g transform='translate(12 {row['foot']})'>\n</g>\n</svg>\n"
+        f"<g transform='translate(12 {row['foot']})'>\n{''.join(legend(row))}</g>\n</svg>\n"
     )
 
 
 def without_style(printed):
-    """Returns what is printed without the style, which is before the grid, and the legend, which is the last group."""
-    unstyled = re.sub(r"(?s)(</desc>\n).+?(<rect fill='url\(#sts-grid\)')", r"\1\2", printed, count=1)
-    return re.sub(r"(?s)(<g transform='translate\(12 \d+\)'>\n).+(</g>\n</svg>\n)\Z", r"\1\2", unstyled)
+    """Returns what is printed without the style, which is before the grid."""
+    return re.sub(r"(?s)(</desc>\n).+?(<rect fill='url\(#sts-grid\)')", r"\1\2", printed, count=1)
 
 
 def tried(look):

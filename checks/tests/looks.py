@@ -137,8 +137,7 @@ def drawing(look, sts, folder, text):
     yield f"{name} drawn, description", described == without_lines(last)
     yield f"{name} drawn, lanes", len(of_class(picture, "name")) == len(re.findall("^task ", last, flags=re.M))
     yield f"{name} drawn, columns", len(of_class(picture, "number")) == len(heads)
-    idle = [it for it in of_class(picture, "number") if "idle" in it.get("class")]
-    yield f"{name} drawn, idle", len(idle) == sum(it.endswith(" idle\n") for it in heads)
+    yield f"{name} drawn, idle", len(of_class(picture, "idle")) == sum(it.endswith(" idle\n") for it in heads)
     yield f"{name} drawn, steps", len(of_class(picture, "step")) == int(plain.split()[-1])
     yield f"{name} drawn twice", says(look, "draw", text, trace) == (status, printed)
     yield from halves(look, folder, text, picture)

@@ -233,6 +233,10 @@ def looks(look):
         yield Case(" ".join(["view", *words]), ["view", "text", "trace", *words], text, trace, lines(answer), 5)
     for name, of_text, answer, status in EXPLAINED:
         yield Case(f"explain: {name}", ["explain", "text"], lines(of_text), None, lines(answer), status)
+    ways, answer = "func main 0 / push 1 / jz x / push 2 / x: / push 3 / ret / end", "text:6:1: V7: two ways meet here, or a loop turns, and differ: \
+make alike what is listed, or end one way by ret / text:6:1: note: operands: 0 on the way from line 3 (jumps: it was 0); 1 on the \
+way from line 4 / text:3:1: note: one way comes from here / text:4:1: note: one way comes from here"
+    yield Case("explain --lines", ["explain", "text", "--lines"], lines(ways), None, lines(answer), 4)
     yield Case("explain: a run", ["explain", "text", "trace"], text, trace, lines(TOLD), 5)
     for more in ([], ["--events", "2..3"]):
         yield Case(" ".join(["draw", *more]), ["draw", "text", "trace", *more], text, trace, picture(look, more, text, trace), 5)

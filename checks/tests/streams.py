@@ -17,9 +17,10 @@ empty, except if a file that is read first can't be read. A journal that is a fi
 or a link, is refused in the same way, and all files stay as they were. If standard error can't be written, the output and
 the status of a failure are the same. Standard input is `-` for `look`. For `sts` at a terminal it says that it waits.
 
-A search by `look ends` that takes longer than a second says on a terminal how many states it has, at most once a second. At
-its end it empties that line. It says nothing if standard error is no terminal. At Ctrl-C it ends within a
-second, by that signal. It has then printed nothing, and the file of its trace is empty.
+A search by `look ends` that takes longer than a second says on a terminal which ends it found by calls, and then how many states
+it has, at most once a second. At its end it empties that line. It says nothing if standard error is no terminal. At Ctrl-C it ends
+within a second, by that signal. It has then printed nothing, and there is no file of a trace. After `--seconds N` it prints what it
+has.
 The last line is `N passed, M failed`, of runs.
 """
 import contextlib
@@ -45,6 +46,11 @@ SUM, TRACE, DEADLINE, DUE = (
     os.path.join(ROOT, "examples", name) for name in ("sum.sts", "sum.trace", "deadline.sts", "deadline.outside")
 )
 ADDRESSES, ALLOCATED, SECONDS = 64 << 20, 16, 60  # bytes, MiB, seconds
+ENDS_SO_FAR = r"(?:\d+ after \d+ events: [^\r\n]*\r\n)+"  # at a terminal
+TIMELY = (
+    "N after N events: success N\na search by calls of N states found no other end; that there is none is not proved\n"
+    "stopped at N states, not all schedules\n"
+)
 LONG = 3.5  # the seconds of a search that says more than once how far it is
 TOO_LONG, NO_MEMORY, NO_FILE = ("error A8 line 0\n", 3), ("error memory\n", 6), ("error file\n", 6)
 EXPLAINED_TOO_LONG = ("error A8\nthe text has more than 1048576 bytes\n", 3)
@@ -301,27 +307,34 @@ IDLE = [
 ]
 
 
-def idle(program, folder):
+def idle(program, look, folder):
     """Yields the same for the first event of a trace that did nothing."""
-    text, full = (os.path.join(folder, name) for name in ("idle.sts", "idle.trace"))
+    text, short, full = (os.path.join(folder, name) for name in ("idle.sts", "idle.short", "idle.trace"))
     for content, events, number, why in IDLE:
-        for path, written in (text, content), (full, notation.events(events)):
+        for path, written in (text, content), (short, events), (full, notation.events(events)):
             if written is not None:
                 with open(path, "w") as file:
                     file.write(written)
-        given, line = SUM if content is None else text, f"sts: {full}, line {number}: {why}\n" if number else ""
+        given, line = SUM if content is None else text, f"{{}}, {{}} {number}: {why}\n" if number else ""
         for words in ["plain", given, full], ["replay", given, full]:
             if words[0] == "plain" or content is None:  # (`replay` refuses the other texts)
-                yield f"idle {words} {events}", told(program, words), line
+                yield f"idle {words} {events}", told(program, words), line and "sts: " + line.format(full, "line")
+        for trace in short, full:
+            for words in ["view", given, trace], ["explain", given, trace]:
+                yield f"idle {words} {events}", told(look, words), line and "look: " + line.format(trace, "event")
+            for words in ["view", given, trace, "--each"], ["tell", given, trace], ["draw", given, trace]:
+                yield f"idle {words} {events}", told(look, words), ""
 
 
-def unwritten_reasons(program):
+def unwritten_reasons(program, look):
     """Yields the same for the line that says why standard output can't be written."""
     why = {"full": "no space is left", "closed": "the system reports an error", "read by nobody": None}
     for what, around in broken("stdout"):
         line = why[what] and f"cannot write standard output: {why[what]}\n"
         for words in (["list", SUM], ["plain", SUM, TRACE], ["run", SUM, "--workers", "2"]):
             yield f"why {words}, output {what}", told(program, words, **around), line and f"sts: {line}" or ""
+        for words in (["view", SUM, TRACE], ["ends", SUM], ["help"]):
+            yield f"why {words}, output {what}", told(look, words, **around), line and f"look: {line}" or ""
 
 
 def reasons(program, look, folder):
@@ -376,8 +389,8 @@ def reasons(program, look, folder):
         yield f"why by look {words}", told(look, words), f"look: {line}\n"
     yield from shown(program, look, os.path.join(folder, "shown"))
     yield from joined(program, os.path.join(folder, "joined"))
-    yield from idle(program, folder)
-    yield from unwritten_reasons(program)
+    yield from idle(program, look, folder)
+    yield from unwritten_reasons(program, look)
     for words in (["verify", SUM], ["plain", SUM, TRACE]):
         yield f"nothing of {words}", told(program, words), ""
     for words in (["explain", "-"], ["view", "-", TRACE], ["draw", "-", TRACE], ["explain", "-", TRACE]):
@@ -473,7 +486,7 @@ def stopped(look, words):
         said, pressed = heard(ours, SECONDS), time.monotonic()
         os.write(ours, b"\x03")
         printed, _ = begun.communicate(timeout=SECONDS)
-        return bool(re.fullmatch(r"\r\d+ states", said)), (begun.returncode, printed), time.monotonic() - pressed < 1
+        return bool(re.fullmatch(f"{ENDS_SO_FAR}\r\\d+ states", said)), (begun.returncode, printed), time.monotonic() - pressed < 1
     except subprocess.TimeoutExpired:
         return said, "no end", False
     finally:
@@ -487,13 +500,26 @@ def searching(look, folder):
     text, trace = os.path.join(folder, "text"), os.path.join(folder, "trace")
     with open(text, "w") as file:
         file.write(MANY_STATES)
-    for words in (["ends", text], ["ends", text, "--trace", "1", trace]):
+    for more in ([], ["--trace", "1", trace]):
+        words = ["ends", text, "--most", "100000000", *more]
         yield f"Ctrl-C: {words}", stopped(look, words), (True, (-signal.SIGINT, b""), True)
-    yield "the trace after Ctrl-C", os.path.exists(trace) and os.path.getsize(trace) == 0, True
+    yield "the trace after Ctrl-C", os.path.exists(trace), False
+    yield from timely(look, text)
     said, answered, seconds = searched(look, ["ends", SUM])
     yield "a short search at a terminal", answered, answer(look, ["ends", SUM])
     yield "what it says", said, "" if seconds < 1 else said
     yield from progress(look, text, os.path.join(folder, "errors"))
+
+
+def timely(look, text):
+    """Yields the same for a search that stops after a second: it has the ends that it found by calls, and their traces."""
+    printed, status = answer(look, ["ends", text, "--most", "100000000", "--seconds", "1"], preexec_fn=None)
+    yield "the ends after a second", (re.sub(r"\d+", "N", printed), status), (TIMELY, 5)
+    traced = subprocess.run([look, "ends", text, "--seconds", "1", "--trace", "1", "-"], stdin=subprocess.DEVNULL, capture_output=True)
+    yield "the lines beside a trace", (re.sub(r"\d+", "N", traced.stderr.decode()), traced.returncode), (TIMELY, 5)
+    with open(f"{text}.trace", "wb") as file:
+        file.write(traced.stdout)
+    yield "the run of that trace", answer(look, ["explain", text, f"{text}.trace"])[1], 0
 
 
 def searched(look, words):
@@ -519,7 +545,7 @@ def progress(look, text, errors):
         words = ["ends", text, "--most", str(most)]
         said, (printed, status), seconds = searched(look, words)
         states = [int(it) for it in re.findall(r"\d+(?= states)", said)]
-    yield "a long search at a terminal", bool(re.fullmatch(r"(\r\d+ states)+\r\x1b\[K", said)) or said, True
+    yield "a long search at a terminal", bool(re.fullmatch(f"{ENDS_SO_FAR}(\r\\d+ states)+\r\x1b\\[K", said)) or said, True
     yield "its reports: from second to second there are more states", len(states) > 1 and states == sorted(set(states)) or states, True
     yield "its reports: at most one a second", len(states) <= seconds or (states, seconds), True
     end = re.fullmatch(r"(?:.*\n)*stopped at (\d+) states, not all schedules\n", printed)

@@ -6,11 +6,15 @@ use Rattle.sts_output.specs.declared.taking.TakeError.TheVariants.{Read}
 use Rattle.sts_output.specs.Streams.{Written, no_trace, whole}
 use Rattle.look_ends.specs.Listing.{IsListingOf, Listing, ListingWrites}
 use Rattle.look_args.specs.declared.asked.AskedEnds.{AskedEnds}
-use Rattle.look.specs.Ending.{IsPrinted, listed, without_file}
+use Rattle.look.specs.Ending.{IsPrinted, IsWritten, listed, printed, without_file}
 
 -- the stream gets the output of the listing, or that the file of the trace failed
-pub written_of : (ends : AskedEnds) (P : Type 0) (text : List ℕ) (w : Written) (s : ℕ) (r : Listing) → P
-    → IsListingOf ends.wanted (option_map (λ k. k.number) ends.kept) text r → ListingWrites w s r
-    → (o : Output) × IsPrinted ends P text o × Writes w.out_old w.out_new s o
-written_of ends P text w s r spares is (whole trace out) = (r.output, listed spares r is refl, out)
-written_of ends P text w s r spares is (no_trace out) = (file_output, without_file Read refl, out)
+pub written_of : (r : Listing) (P : Type 0) (w : Written) (s : ℕ) → P → ListingWrites w s r → (o : Output) × IsWritten r P o × Writes w.out_old w.out_new s o
+written_of r P w s spares (whole trace out) = (r.output, printed spares refl, out)
+written_of r P w s spares (no_trace out) = (file_output, without_file Read refl, out)
+
+-- what is written of a listing is printed of its text
+pub printed_of : (ends : AskedEnds) (P : Type 0) (text : List ℕ) (r : Listing) (o : Output) → IsListingOf ends.wanted (option_map (λ k. k.number) ends.kept) text r
+    → IsWritten r P o → IsPrinted ends P text o
+printed_of ends P text r o is (printed spares same) = listed spares r is same
+printed_of ends P text r o is (without_file e same) = without_file e same

@@ -15,9 +15,13 @@ use Rattle.sts_output.specs.declared.process_words.WordsError.{WordsError}
 use Rattle.sts_output.specs.declared.process_words.WordsError.TheVariants as words_error
 use Rattle.look_cases.specs.Lines.{IsRepliesTo}
 use Rattle.look_picture.specs.Picture.{IsPictureOf}
+use Rattle.look_places.specs.Reports.{IsReport}
 use Rattle.look_refusal.specs.Output.{IsExplanation}
 use Rattle.look_run.specs.Output.{IsRunExplanation}
+use Rattle.look_json.specs.Explained.{IsExplainedBy}
+use Rattle.look_json.specs.Stories.{AreStoriesOf}
 use Rattle.look_tell.specs.Telling.{IsStoryOf}
+use Rattle.look_tell.specs.declared.line.TellOptions.{TellOptions}
 use Rattle.look_traces.specs.Short.{full_trace}
 use Rattle.look_lines.specs.declared.view.ViewOptions.{ViewOptions}
 use Rattle.look_view.specs.View.{IsNamedViewOf}
@@ -27,7 +31,11 @@ use Rattle.look_args.specs.Asked.{Asks, AsksForWords, IsMistaken}
 use Rattle.look_args.specs.declared.asked.Asked.{Asked}
 use Rattle.look_args.specs.declared.asked.Asked.TheVariants as asked
 use Rattle.look_args.specs.declared.asked.AskedEnds.{AskedEnds}
+use Rattle.look_args.specs.declared.asked.ExplainForm.{ExplainForm}
+use Rattle.look_args.specs.declared.asked.ExplainForm.TheVariants.{Words, Places, Json}
 use Rattle.look_args.specs.declared.asked.Kept.{Kept}
+use Rattle.look.specs.Piping.{IsPiped, piped_of}
+use Rattle.look.specs.declared.piped.Piped.{Piped}
 use Rattle.look.specs.declared.program.Showing.{Showing}
 use Rattle.look.specs.declared.program.Showing.TheVariants as showing
 
@@ -53,11 +61,19 @@ pub data IsOfTexts (Shows : List ℕ → List ℕ → Output → Type 0) (file t
       → IsOfTexts Shows file trace_file o
   failed : (e : TakeError) → o ≡ failure_output e → IsOfTexts Shows file trace_file o
 
--- The file of a trace that is kept, if one is, isn't known to be the text's, and no answer was that
--- it is.
+-- the file of a trace isn't known to be the text's, and no answer was that it is
+abbrev pub SparesFile : SameFile → Text → Text → Type 0
+SparesFile same file trace = NoneIsYes same × Differ (same.known trace file)
+
+-- if a trace is kept, its file is no such file
 abbrev pub Spares : SameFile → Text → Option Kept → Type 0
 Spares same file None = ⊤
-Spares same file (Some kept) = NoneIsYes same × Differ (same.known kept.file.now file)
+Spares same file (Some kept) = SparesFile same file kept.file.now
+
+-- what is printed of a listing, or that memory or the trace's file failed
+pub data IsWritten (r : Listing) (spares : Type 0) (o : Output) : Type 0 where
+  printed : spares → o ≡ r.output → IsWritten r spares o
+  without_file : (e : TakeError) → o ≡ failure_output e → IsWritten r spares o
 
 -- what is printed of the ends of a text, or that memory or the trace's file failed
 pub data IsPrinted (ends : AskedEnds) (spares : Type 0) (text : List ℕ) (o : Output) : Type 0 where
@@ -75,28 +91,39 @@ abbrev pub IsViewed : Bool → ViewOptions → List ℕ → List ℕ → Output 
 IsViewed true = AreViewsOf
 IsViewed false = IsNamedViewOf
 
+-- the story of a run, as lines of JSON or not
+abbrev pub IsTold : Bool → TellOptions → List ℕ → List ℕ → Output → Type 0
+IsTold true = AreStoriesOf
+IsTold false = IsStoryOf
+
 -- what is shown of a text and a trace
 abbrev pub Shows : Showing → List ℕ → List ℕ → Output → Type 0
 Shows (showing.View view) = IsViewed view.json view.wanted
 Shows showing.Run = IsRunExplanation
 Shows (showing.Picture window) = IsPictureOf window
-Shows (showing.Story options) = IsStoryOf options
+Shows (showing.Story story) = IsTold story.json story.wanted
 
 -- what is shown of a text and a trace, which may be in the short form, or that memory ran out
 abbrev pub ShowsInFull : Showing → List ℕ → List ℕ → Output → Type 0
 ShowsInFull s text trace o = Shows s text (full_trace trace) o ⊎ (o ≡ memory_output)
 
+-- what is wrong with the text of a file
+abbrev pub IsExplainedIn : ExplainForm → Text → List ℕ → Output → Type 0
+IsExplainedIn Words file text o = IsExplanation text o
+IsExplainedIn Places file text o = IsReport (record { file = file; text = text }) o
+IsExplainedIn Json file text o = IsExplainedBy text o
+
 -- what is wrong with a file's text, or the state of its run after the trace, if one is named
-abbrev pub IsExplained : Files → Option (List ℕ) → Option (Bor Text) → Output → Type 0
-IsExplained files file None o = IsOfText IsExplanation file o
-IsExplained files file (Some trace) o =
-    IsOfTexts (ShowsInFull showing.Run) file (files trace.now) o
+abbrev pub IsExplained : Files → Text → Option (Bor Text) → ExplainForm → Output → Type 0
+IsExplained files file None form o = IsOfText (IsExplainedIn form file) (files file) o
+IsExplained files file (Some trace) form o =
+    IsOfTexts (ShowsInFull showing.Run) (files file) (files trace.now) o
 
 -- what is shown for a line
 abbrev pub IsShown : Asked → Files → SameFile → Output → Type 0
 IsShown (asked.View file trace view) files same o =
     IsOfTexts (ShowsInFull (showing.View view)) (files file.now) (files trace.now) o
-IsShown (asked.Explain file trace) files same o = IsExplained files (files file.now) trace o
+IsShown (asked.Explain file trace form) files same o = IsExplained files file.now trace form o
 IsShown (asked.Draw file trace window) files same o =
     IsOfTexts (ShowsInFull (showing.Picture window)) (files file.now) (files trace.now) o
 IsShown (asked.Tell file trace tell) files same o =
@@ -105,12 +132,15 @@ IsShown (asked.Ends file ends) files same o =
     IsOfEnds ends (Spares same file.now ends.kept) (files file.now) o
 IsShown (asked.Cases file) files same o = IsOfStream IsRepliesTo (files file.now) o
 
--- The program writes what the line of the words asks for, and has its status. If the words ask for
+-- The program writes what the line of the words asks for, and has its status. The trace of an end
+-- may be asked for on standard output: then the rest goes to standard error. If the words ask for
 -- help or for the version, the status is 0. If they are mistaken, it is 2. Memory may also run out.
 pub data Ends (words : List Text) (files : Files) (same : SameFile) (s : Streams) (status : ℕ)
     : Type 0 where
-  shown : (a : Asked) (o : Output) → Asks words a → IsShown a files same o → Prints s status o
-      → Ends words files same s status
+  shown : (a : Asked) (o : Output) → Asks words a → piped_of a ≡ None → IsShown a files same o
+      → Prints s status o → Ends words files same s status
+  piped : (a : Asked) (p : Piped) → Asks words a → piped_of a ≡ Some p
+      → IsPiped p (files p.file.now) s status → Ends words files same s status
   helped : (o : Output) → AsksForWords words → o.status ≡ 0 → Prints s status o
       → Ends words files same s status
   mistaken : (o : Output) → IsMistaken words → o.status ≡ 2 → Tells s status o

@@ -4,20 +4,22 @@
 ghost use Rattle.std.specs.Prelude.{◌≡◌, IfOk, map};
 ghost use Rattle.sts_output.specs.Output.{Output, Writes};
 ghost use Rattle.sts_output.specs.Streams.{same_file};
-ghost use Rattle.look_refusal.specs.Output.{IsExplanation};
 ghost use Rattle.look_cases.specs.Lines.{IsRepliesTo};
 ghost use Rattle.look.specs.Ending as def;
 
 use crate::dashed::Dashed;
-use look_args::asked::{Asked, AskedEnds, AskedView};
+use crate::piped::{on_piped, piped_of};
+use look_args::asked::{Asked, AskedEnds, AskedTell, AskedView, ExplainForm};
 use look_args::line;
 use look_cases::write_answers;
-use look_ends::{Progress, write_ends, write_ends_and_trace};
+use look_ends::{Listing, Progress, listed, write_ends, write_listing};
+use look_json::{write_explained, write_stories};
 use look_lines::write_run;
 use look_picture::{Picture, Window};
+use look_places::write_places;
 use look_refusal::explain;
 use look_run::explain_run;
-use look_tell::{TellOptions, tell};
+use look_tell::tell;
 use look_traces::in_full;
 use look_view::write_view;
 use look_views::JsonViews;
@@ -30,6 +32,7 @@ use sts_output::{
     TakeError, WordsError, WriteFailed, borrowed, failed, file, file_failed, made, placeholder,
     read_text, read_texts, words, written,
 };
+use sts_remarks::{Remarks, Watched};
 
 /// The name that the program goes by.
 const NAME: &str = "look";
@@ -40,20 +43,49 @@ enum Showing {
     View(AskedView),
     Run,
     Picture(Option<Window>),
-    Story(TellOptions),
+    Story(AskedTell),
 }
 
 impl Showing {
-    /// Notes where the text or the trace has its fault, if the output doesn't say it.
-    fn note(self, status: u8, text: Named<'_>, trace: Named<'_>, notes: &mut Notes) {
+    /// Does the output say where the text or the trace has its fault?
+    fn says_faults(self) -> bool {
         match self {
-            Showing::Run | Showing::Story(_) => {}
-            Showing::View(_) | Showing::Picture(_) => notes.status(
-                status,
-                text,
-                Events::Trace(trace),
-            ),
+            Showing::Run => true,
+            Showing::Story(story) => !story.json,
+            Showing::View(_) | Showing::Picture(_) => false,
         }
+    }
+
+    /// Does the output say which events did nothing?
+    fn says_idle(self) -> bool {
+        match self {
+            Showing::View(view) => view.wanted.each,
+            Showing::Run => false,
+            Showing::Picture(_) | Showing::Story(_) => true,
+        }
+    }
+
+    /// Adds where the text or the trace has its fault, and which event did nothing, if the output
+    /// doesn't say it.
+    fn remark(self, status: u8, text: Named<'_>, trace: Named<'_>, remarks: &mut Remarks) {
+        if !self.says_faults() {
+            remarks.notes.status(status, text, Events::Trace(trace));
+        }
+        if !self.says_idle() {
+            remark_idle(status, text, trace, remarks);
+        }
+    }
+}
+
+/// Adds which event of a trace, which may be in the short form, is the first that did nothing.
+fn remark_idle(status: u8, text: Named<'_>, trace: Named<'_>, remarks: &mut Remarks) {
+    match in_full(remarks.alloc, trace.text) {
+        Ok(Some(full)) => {
+            let trace = Named::new(trace.name, full.as_slice());
+            remarks.idle(status, "event", text.text, trace);
+        }
+        Ok(None) => remarks.idle(status, "event", text.text, trace),
+        Err(_) => {}
     }
 }
 
@@ -79,6 +111,25 @@ fn show_view<W: Write>(
     }
 }
 
+/// Writes the story of a run, in lines or as JSON.
+fn show_story<W: Write>(
+    alloc: Global,
+    story: AskedTell,
+    text: &[u8],
+    trace: &[u8],
+    out: &mut W,
+) -> Result<u8, WriteFailed>
+    ensures { IfOk result (λ s. (o : Output)
+        × def.IsTold story.json story.wanted text.now trace.now o
+        × Writes (W.contents out.old) (W.contents out.new) s o) }
+{
+    if story.json {
+        write_stories(alloc, story.wanted, text, trace, out)
+    } else {
+        tell(alloc, story.wanted, text, trace, out)
+    }
+}
+
 fn show<W: Write>(
     alloc: Global,
     showing: Showing,
@@ -93,7 +144,7 @@ fn show<W: Write>(
         Showing::View(view) => show_view(alloc, view, text, trace, out),
         Showing::Run => explain_run(alloc, text, trace, out),
         Showing::Picture(window) => write_run(alloc, &Picture { window }, text, trace, out),
-        Showing::Story(options) => tell(alloc, options, text, trace, out),
+        Showing::Story(story) => show_story(alloc, story, text, trace, out),
     }
 }
 
@@ -123,7 +174,7 @@ fn on_texts<S: Sources, W: Write>(
     path: &str,
     trace: &str,
     out: &mut W,
-    notes: &mut Notes,
+    remarks: &mut Remarks,
 ) -> Result<u8, WriteFailed>
     ensures { IfOk result (λ s. (o : Output)
         × def.IsOfTexts (def.ShowsInFull showing) (S.held sources.now path.now)
@@ -134,15 +185,33 @@ fn on_texts<S: Sources, W: Write>(
         Ok(texts) => {
             let (text, events) = (texts.program.as_slice(), texts.events.as_slice());
             let status = show_in_full(alloc, showing, text, events, out)?;
-            showing.note(
+            showing.remark(
                 status,
                 Named::new(path, text),
                 Named::new(trace, events),
-                notes,
+                remarks,
             );
             Ok(status)
         }
-        Err(error) => file_failed(error, out, notes),
+        Err(error) => file_failed(error, out, &mut remarks.notes),
+    }
+}
+
+/// Explains what is wrong with the text of a file.
+fn explain_by<W: Write>(
+    alloc: Global,
+    form: ExplainForm,
+    path: &str,
+    text: &[u8],
+    out: &mut W,
+) -> Result<u8, WriteFailed>
+    ensures { IfOk result (λ s. (o : Output) × def.IsExplainedIn form path.now text.now o
+        × Writes (W.contents out.old) (W.contents out.new) s o) }
+{
+    match form {
+        ExplainForm::Words => explain(alloc, text, out),
+        ExplainForm::Places => write_places(alloc, path, text, out),
+        ExplainForm::Json => write_explained(alloc, text, out),
     }
 }
 
@@ -151,15 +220,16 @@ fn on_text<S: Sources, W: Write>(
     alloc: Global,
     sources: &S,
     path: &str,
+    form: ExplainForm,
     out: &mut W,
     notes: &mut Notes,
 ) -> Result<u8, WriteFailed>
     ensures { IfOk result (λ s. (o : Output)
-        × def.IsOfText IsExplanation (S.held sources.now path.now) o
+        × def.IsOfText (def.IsExplainedIn form path.now) (S.held sources.now path.now) o
         × Writes (W.contents out.old) (W.contents out.new) s o) }
 {
     match read_text(alloc, sources, path) {
-        Ok(text) => explain(alloc, text.as_slice(), out),
+        Ok(text) => explain_by(alloc, form, path, text.as_slice(), out),
         Err(error) => file_failed(error, out, notes),
     }
 }
@@ -188,20 +258,48 @@ fn on_explain<S: Sources, W: Write>(
     sources: &S,
     path: &str,
     trace: Option<&str>,
+    form: ExplainForm,
+    out: &mut W,
+    remarks: &mut Remarks,
+) -> Result<u8, WriteFailed>
+    ensures { IfOk result (λ s. (o : Output)
+        × def.IsExplained (S.held sources.now) path.now trace.entry form o
+        × Writes (W.contents out.old) (W.contents out.new) s o) }
+{
+    match trace {
+        None => on_text(alloc, sources, path, form, out, &mut remarks.notes),
+        Some(trace) => on_texts(alloc, sources, Showing::Run, path, trace, out, remarks),
+    }
+}
+
+/// Writes what was found of the ends of a text, and the trace of one to its file.
+fn on_listing<S: Sinks, W: Write>(
+    alloc: Global,
+    sinks: &mut S,
+    path: &str,
+    file: &str,
+    listing: &Listing,
     out: &mut W,
     notes: &mut Notes,
 ) -> Result<u8, WriteFailed>
     ensures { IfOk result (λ s. (o : Output)
-        × def.IsExplained (S.held sources.now) (S.held sources.now path.now) trace.entry o
+        × def.IsWritten listing.now
+        (def.SparesFile (same_file (S.same sinks.old) (S.said_yes sinks.old) (S.said_yes sinks.new))
+        path.now file.now) o
         × Writes (W.contents out.old) (W.contents out.new) s o) }
 {
-    match trace {
-        None => on_text(alloc, sources, path, out, notes),
-        Some(trace) => on_texts(alloc, sources, Showing::Run, path, trace, out, notes),
+    match made(alloc, sinks, file, path, None) {
+        Ok(mut trace) => {
+            let mut failure = None;
+            let status = write_listing(listing, &mut trace, out, &mut failure)?;
+            notes.written(file, failure);
+            Ok(status)
+        }
+        Err(error) => file_failed(error, out, notes),
     }
 }
 
-/// The ends of a text that was read. The file of the trace is made first, if one is named.
+/// The ends of a text that was read. If a trace is kept, its file is made once the ends are found.
 fn on_ends_text<S: Sinks, P: Progress, W: Write>(
     alloc: Global,
     sinks: &mut S,
@@ -220,23 +318,9 @@ fn on_ends_text<S: Sinks, P: Progress, W: Write>(
 {
     match ends.kept {
         None => write_ends(alloc, ends.wanted, text, progress, out),
-        Some(kept) => match made(alloc, sinks, kept.file, path, None) {
-            Ok(mut trace) => {
-                let mut failure = None;
-                let status = write_ends_and_trace(
-                    alloc,
-                    ends.wanted,
-                    kept.number,
-                    text,
-                    progress,
-                    &mut trace,
-                    out,
-                    &mut failure,
-                )?;
-                notes.written(kept.file, failure);
-                Ok(status)
-            }
-            Err(error) => file_failed(error, out, notes),
+        Some(kept) => match listed(alloc, ends.wanted, Some(kept.number), text, progress) {
+            Ok(listing) => on_listing(alloc, sinks, path, kept.file, &listing, out, notes),
+            Err(_) => failed(TakeError::Memory, out),
         },
     }
 }
@@ -279,13 +363,14 @@ fn on_line<S: Sources + Sinks, P: Progress, W: Write>(
     asked: Asked<'_>,
     progress: &mut P,
     out: &mut W,
-    notes: &mut Notes,
+    remarks: &mut Remarks,
 ) -> Result<u8, WriteFailed>
     ensures { IfOk result (λ s. (o : Output)
         × def.IsShown asked.entry (S.held sources.old)
         (same_file (S.same sources.old) (S.said_yes sources.old) (S.said_yes sources.new)) o
         × Writes (W.contents out.old) (W.contents out.new) s o) }
 {
+    let notes = &mut remarks.notes;
     match asked {
         Asked::View { file, trace, view } => on_texts(
             alloc,
@@ -294,9 +379,11 @@ fn on_line<S: Sources + Sinks, P: Progress, W: Write>(
             file,
             trace,
             out,
-            notes,
+            remarks,
         ),
-        Asked::Explain { file, trace } => on_explain(alloc, &*sources, file, trace, out, notes),
+        Asked::Explain { file, trace, form } => {
+            on_explain(alloc, &*sources, file, trace, form, out, remarks)
+        }
         Asked::Draw {
             file,
             trace,
@@ -308,7 +395,7 @@ fn on_line<S: Sources + Sinks, P: Progress, W: Write>(
             file,
             trace,
             out,
-            notes,
+            remarks,
         ),
         Asked::Tell { file, trace, tell } => on_texts(
             alloc,
@@ -317,7 +404,7 @@ fn on_line<S: Sources + Sinks, P: Progress, W: Write>(
             file,
             trace,
             out,
-            notes,
+            remarks,
         ),
         Asked::Ends { file, ends } => on_ends(alloc, sources, file, ends, progress, out, notes),
         Asked::Cases { file } => on_cases(alloc, &*sources, file, out, notes),
@@ -330,8 +417,9 @@ fn on_line<S: Sources + Sinks, P: Progress, W: Write>(
 /// for. It is 1 if the root failed, 2 for usage, 3 for a fault of a text, 4 for a refusal, and 5 if
 /// the run faulted or goes on. It is 6 if memory, a file or a stream failed.
 ///
-/// Usage faults are written to `err`, everything else to `out`. `notes` gets the lines that say why
-/// a file, a text or its events failed; the function doesn't write them.
+/// Usage faults are written to `err`, everything else to `out`. `remarks` gets the lines that say
+/// why a file, a text or its events failed, and which event had no effect; the function doesn't write
+/// them.
 ///
 /// # Errors
 ///
@@ -343,7 +431,7 @@ pub fn run<S: Sources + Sinks, P: Progress, W: Write, E: Write>(
     progress: &mut P,
     out: &mut W,
     err: &mut E,
-    notes: &mut Notes,
+    remarks: &mut Remarks,
 ) -> Result<u8, WriteFailed>
     ensures { IfOk result (def.Ends (map (λ w. w.now) words.now) (S.held sources.old)
         (same_file (S.same sources.old) (S.said_yes sources.old) (S.said_yes sources.new))
@@ -355,7 +443,13 @@ pub fn run<S: Sources + Sinks, P: Progress, W: Write, E: Write>(
         })) }
 {
     match line(alloc, words) {
-        Ok(asked) => on_line(alloc, sources, asked, progress, out, notes),
+        Ok(asked) => match piped_of(asked) {
+            Some(piped) => {
+                let notes = &mut remarks.notes;
+                on_piped(alloc, &*sources, piped, progress, out, err, notes)
+            }
+            None => on_line(alloc, sources, asked, progress, out, remarks),
+        },
         Err(LineError::Memory) => failed(TakeError::Memory, out),
         Err(LineError::Help(text)) => written(out, text.as_bytes(), 0),
         Err(LineError::Usage(text)) => written(err, text.as_bytes(), 2),
@@ -374,7 +468,7 @@ pub fn run_words<S: Sources + Sinks, P: Progress, W: Write, E: Write>(
     progress: &mut P,
     out: &mut W,
     err: &mut E,
-    notes: &mut Notes,
+    remarks: &mut Remarks,
 ) -> Result<u8, WriteFailed>
     ensures { IfOk result (def.EndsFrom words.now (S.held sources.old)
         (same_file (S.same sources.old) (S.said_yes sources.old) (S.said_yes sources.new))
@@ -387,7 +481,15 @@ pub fn run_words<S: Sources + Sinks, P: Progress, W: Write, E: Write>(
 {
     match words {
         Ok(words) => match borrowed(alloc, words.as_slice()) {
-            Ok(texts) => run(alloc, sources, texts.as_slice(), progress, out, err, notes),
+            Ok(texts) => run(
+                alloc,
+                sources,
+                texts.as_slice(),
+                progress,
+                out,
+                err,
+                remarks,
+            ),
             Err(_) => failed(TakeError::Memory, out),
         },
         Err(WordsError::Memory) => failed(TakeError::Memory, out),
@@ -407,14 +509,23 @@ pub fn start<R: Env + Files + Input, P: Progress, W: Write, E: Write>(
     let _for_output = placeholder(rt);
     let _for_errors = placeholder(rt);
     let words = words(rt, alloc, NAME.as_bytes());
-    let mut notes = Notes::new(alloc, NAME);
+    let mut remarks = Remarks::new(alloc, NAME);
     let mut sources = Dashed::new(rt);
-    match run_words(alloc, &mut sources, &words, progress, out, err, &mut notes) {
-        Ok(status) => {
-            // (the output and the status are the same if no line can be written)
-            let _told = err.write_all(notes.lines());
-            status
-        }
-        Err(WriteFailed) => STATUS_OUTSIDE,
+    let mut out = Watched::new(out);
+    let status = run_words(
+        alloc,
+        &mut sources,
+        &words,
+        progress,
+        &mut out,
+        err,
+        &mut remarks,
+    );
+    if status.is_err() {
+        remarks.unwritten(out.failure());
     }
+    // (the output and the status are the same if no line can be written)
+    let _told = err.write_all(remarks.notes.lines());
+    let _told = err.write_all(remarks.lines());
+    status.unwrap_or(STATUS_OUTSIDE)
 }

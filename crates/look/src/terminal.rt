@@ -1,4 +1,4 @@
-//! How far a search is, on a terminal.
+//! How far a search is, on a terminal, and how long it may last.
 
 use look_ends::Progress;
 use std::alloc::Global;
@@ -12,45 +12,55 @@ const SECONDS: u64 = 1;
 /// Goes to the beginning of the line, and empties it.
 const EMPTY_LINE: &[u8] = b"\r\x1b[K";
 
-/// Writes how many states there are, once a second, on a line that it empties in the end. It
-/// writes nothing if it has no start.
+/// Writes the ends that were found so far, and how many states there are, once a second, on a line
+/// that it empties in the end. It writes nothing if its reports have no start.
 #[derive(Drop)]
 pub struct Terminal<'a, R, E> {
     rt: &'a R,
     alloc: Global,
     err: E,
+    /// When the program began.
+    start: Option<Instant>,
     last: Option<Instant>,
+    /// The lines of the ends, until they are reported.
+    ends: Vec<u8>,
     has_line: bool,
 }
 
 impl<'a, R: Clock, E: Write> Terminal<'a, R, E> {
     /// Returns reports to `err`, if that is a terminal.
     pub fn new(rt: &'a R, alloc: Global, err: E, is_terminal: bool) -> Terminal<'a, R, E> {
-        let last = if is_terminal {
-            Instant::now(rt).ok()
-        } else {
-            None
-        };
+        let start = Instant::now(rt).ok();
+        let last = if is_terminal { start } else { None };
         Terminal {
             rt,
             alloc,
             err,
+            start,
             last,
+            ends: Vec::new(alloc),
             has_line: false,
         }
     }
 
-    /// Has a second passed since the last report?
-    fn is_due(&self) -> bool {
-        match self.last {
+    /// Have these seconds passed since a moment? If it is not known, they have not.
+    fn has_passed(&self, since: Option<Instant>, seconds: u64) -> bool {
+        match since {
             None => false,
-            Some(last) => last
+            Some(since) => since
                 .elapsed(self.rt)
-                .is_ok_and(|passed| passed.as_secs() >= SECONDS),
+                .is_ok_and(|passed| passed.as_secs() >= seconds),
         }
     }
 
+    /// Writes the lines of the ends, once.
+    fn report_ends(&mut self) {
+        let _told = self.err.write_all(self.ends.as_slice());
+        self.ends = Vec::new(self.alloc);
+    }
+
     fn report(&mut self, states: usize) {
+        self.report_ends();
         // (the search goes on where no line can be written)
         if let Ok(line) = format!(in self.alloc; "\r{states} states") {
             let _told = self.err.write_all(line.as_bytes());
@@ -61,9 +71,24 @@ impl<'a, R: Clock, E: Write> Terminal<'a, R, E> {
 }
 
 impl<R: Clock, E: Write> Progress for Terminal<'_, R, E> {
+    fn ends(&mut self, lines: &[u8]) {
+        if self.last.is_some() {
+            if let Ok(lines) = Vec::from_slice(self.alloc, lines) {
+                self.ends = lines;
+            }
+        }
+    }
+
     fn found(&mut self, states: usize) {
-        if self.is_due() {
+        if self.has_passed(self.last, SECONDS) {
             self.report(states);
+        }
+    }
+
+    fn goes_on(&mut self, seconds: Option<u32>) -> bool {
+        match seconds {
+            None => true,
+            Some(seconds) => !self.has_passed(self.start, u64::from(seconds)),
         }
     }
 

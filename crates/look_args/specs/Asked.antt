@@ -12,23 +12,26 @@ use Rattle.sts_args.specs.declared.asked.LineError.{LineError}
 use Rattle.sts_args.specs.declared.asked.LineError.TheVariants as error
 use Rattle.look_lines.specs.declared.view.ViewOptions.{ViewOptions}
 use Rattle.look_picture.specs.declared.window.Window.{Window}
-use Rattle.look_tell.specs.declared.line.TellOptions.{TellOptions}
 use Rattle.look_args.specs.declared.asked.Asked.{Asked}
+use Rattle.look_args.specs.declared.asked.AskedTell.{AskedTell}
 use Rattle.look_args.specs.declared.asked.AskedView.{AskedView}
 use Rattle.look_args.specs.declared.asked.Asked.TheVariants as asked
+use Rattle.look_args.specs.declared.asked.ExplainForm.{ExplainForm}
+use Rattle.look_args.specs.declared.asked.ExplainForm.TheVariants.{Words, Places, Json}
 use Rattle.look_args.specs.AskedDraw.{window_at}
 use Rattle.look_args.specs.AskedEnds.{SaidEnds, ends_at, is_true, said_ends}
 use Rattle.look_args.specs.AskedTell.{tell_at}
 use Rattle.look_args.specs.Command.{program}
 
--- what a line says: the command, its files in order, and the options of `view`, `draw`, `tell` and
--- `ends`
+-- what a line says: the command, its files in order, and the options of `view`, `explain`, `draw`,
+-- `tell` and `ends`
 pub record Said : Type 0 where
   pub name : Text
   pub files : List Text
   pub view : Option AskedView
+  pub form : Option ExplainForm
   pub draw : Option (Option Window)
-  pub tell : Option TellOptions
+  pub tell : Option AskedTell
   pub ends : Option SaidEnds
 
 -- the file that is named, if one is
@@ -41,14 +44,16 @@ said (asked.View file trace view) = record {
   name = codes "view";
   files = file.now ∷ trace.now ∷ [];
   view = Some view;
+  form = None;
   draw = None;
   tell = None;
   ends = None;
 }
-said (asked.Explain file trace) = record {
+said (asked.Explain file trace form) = record {
   name = codes "explain";
   files = file.now ∷ named trace;
   view = None;
+  form = Some form;
   draw = None;
   tell = None;
   ends = None;
@@ -57,6 +62,7 @@ said (asked.Draw file trace window) = record {
   name = codes "draw";
   files = file.now ∷ trace.now ∷ [];
   view = None;
+  form = None;
   draw = Some window;
   tell = None;
   ends = None;
@@ -65,6 +71,7 @@ said (asked.Tell file trace tell) = record {
   name = codes "tell";
   files = file.now ∷ trace.now ∷ [];
   view = None;
+  form = None;
   draw = None;
   tell = Some tell;
   ends = None;
@@ -73,6 +80,7 @@ said (asked.Ends file ends) = record {
   name = codes "ends";
   files = file.now ∷ [];
   view = None;
+  form = None;
   draw = None;
   tell = None;
   ends = Some (said_ends ends);
@@ -81,6 +89,7 @@ said (asked.Cases file) = record {
   name = codes "cases";
   files = file.now ∷ [];
   view = None;
+  form = None;
   draw = None;
   tell = None;
   ends = None;
@@ -101,6 +110,21 @@ view_at rows = record { wanted = wanted_at rows; json = is_set (codes "json") ro
 
 abbrev pub is_view : Text → Bool
 is_view name = bytes_eq name (codes "view")
+
+abbrev pub is_explain : Text → Bool
+is_explain name = bytes_eq name (codes "explain")
+
+-- the form of an explanation, if no more than one of a trace, `lines` and `json` is given
+abbrev pub form_by : Bool → Bool → Bool → Option ExplainForm
+form_by trace false false = Some Words
+form_by false true false = Some Places
+form_by false false true = Some Json
+form_by trace lines json = None
+
+abbrev pub form_at : List Row → Option ExplainForm
+form_at rows =
+    form_by (is_some (first_of (codes "TRACE") rows)) (is_set (codes "lines") rows)
+    (is_set (codes "json") rows)
 
 abbrev pub is_draw : Text → Bool
 is_draw name = bytes_eq name (codes "draw")
@@ -133,6 +157,7 @@ given (name, rows) = record {
   name = name;
   files = files_at name rows;
   view = if is_view name then Some (view_at rows) else None;
+  form = if is_explain name then form_at rows else None;
   draw = if is_draw name then window_at rows else None;
   tell = if is_tell name then tell_at rows else None;
   ends = if is_ends name then ends_at rows else None;
@@ -154,7 +179,7 @@ pub record Asks (words : List Text) (a : Asked) : Type 0 where
 -- ---- why they ask for nothing
 
 abbrev pub is_command : Text → Bool
-is_command name = wants_trace name || (bytes_eq name (codes "explain") || takes_one name)
+is_command name = wants_trace name || (is_explain name || takes_one name)
 
 -- the files that a command has to be given
 abbrev pub ids_of : Text → List Text
@@ -168,17 +193,22 @@ has_numbers name rows = if is_ends name then is_some (ends_at rows) else true
 abbrev pub has_window : Text → List Row → Bool
 has_window name rows = if is_draw name then is_some (window_at rows) else true
 
+-- `explain` has one form
+abbrev pub has_form : Text → List Row → Bool
+has_form name rows = if is_explain name then is_some (form_at rows) else true
+
 -- the events of `tell` have numbers
 abbrev pub has_events : Text → List Row → Bool
 has_events name rows = if is_tell name then is_some (tell_at rows) else true
 
--- the words name a command of the program, all files that it has to be given, and the numbers that
--- its options need
+-- the words name a command of the program, the files that it has to be given and no other one, and
+-- the numbers that its options need
 abbrev pub is_whole : Option (Text × List Row) → Bool
 is_whole None = false
 is_whole (Some (name, rows)) = is_command name
     && (list_all (λ id. is_some (first_of id rows)) (ids_of name)
-    && (has_window name rows && (has_events name rows && has_numbers name rows)))
+    && (has_form name rows
+    && (has_window name rows && (has_events name rows && has_numbers name rows))))
 
 -- the message for an error of `clap` of this kind: the words of help or of the version, or a mistake
 abbrev pub TellsKind : ErrorKind → LineError → Type 0

@@ -7,9 +7,10 @@ use Rattle.sts_text.specs.Number.{digits_up_to}
 use Rattle.look_ends.specs.declared.wanted.Manner.{Manner}
 use Rattle.look_ends.specs.declared.wanted.Manner.TheVariants.{All, Sample}
 use Rattle.look_ends.specs.declared.wanted.EndsOptions.{EndsOptions}
+use Rattle.look_ends.specs.declared.wanted.Limits.{Limits}
 use Rattle.look_args.specs.declared.asked.AskedEnds.{AskedEnds}
 use Rattle.look_args.specs.declared.asked.Kept.{Kept}
-use Rattle.look_args.specs.declared.asked.TheConstants.{FIRST_SEED, MOST_STATES}
+use Rattle.look_args.specs.declared.asked.TheConstants.{FIRST_SEED}
 
 -- the number of an end and the name of a file
 abbrev pub KeptWords : Type 0
@@ -42,15 +43,26 @@ number_or otherwise (Some text) = number text
 abbrev pub number_at : Text → ℕ → List Row → Option ℕ
 number_at id otherwise rows = number_or otherwise (first_of id rows)
 
+-- the number of an option, if the option is given
+abbrev pub maybe_number : Option Text → Option (Option ℕ)
+maybe_number None = Some None
+maybe_number (Some text) = option_map Some (number text)
+
+-- when a search stops
+abbrev pub limits_at : List Row → Option Limits
+limits_at rows =
+    option_and_then (λ states. option_map (λ seconds. record { states = states; seconds = seconds })
+    (maybe_number (first_of (codes "seconds") rows))) (maybe_number (first_of (codes "most") rows))
+
 -- all schedules, or this number of random ones
-abbrev pub manner_by : ℕ → ℕ → Option Text → Option Manner
-manner_by most seed None = Some (All most)
-manner_by most seed (Some text) = option_map (λ n. Sample n seed) (number text)
+abbrev pub manner_by : Limits → ℕ → Option Text → Option Manner
+manner_by limits seed None = Some (All limits)
+manner_by limits seed (Some text) = option_map (λ n. Sample n seed) (number text)
 
 abbrev pub manner_at : List Row → Option Manner
 manner_at rows =
-    option_and_then (λ most. option_and_then (λ seed. manner_by most seed (first_of (codes "sample") rows))
-    (number_at (codes "seed") FIRST_SEED rows)) (number_at (codes "most") MOST_STATES rows)
+    option_and_then (λ limits. option_and_then (λ seed. manner_by limits seed (first_of (codes "sample") rows))
+    (number_at (codes "seed") FIRST_SEED rows)) (limits_at rows)
 
 -- an option without a value is given as `true`
 abbrev pub is_true : Option Text → Bool

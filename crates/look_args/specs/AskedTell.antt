@@ -2,6 +2,7 @@
 use Rattle.std.specs.Prelude.{ℕ, List, Option, option_and_then, option_map, codes}
 use Rattle.clap.specs.Words.{Row, first_of}
 use Rattle.look_tell.specs.declared.line.TellOptions.{TellOptions}
+use Rattle.look_args.specs.declared.asked.AskedTell.{AskedTell}
 use Rattle.look_args.specs.declared.asked.TheConstants.{FIRST_EVENT, LAST_EVENT}
 use Rattle.look_args.specs.AskedEnds.{is_true, number_at}
 
@@ -14,7 +15,14 @@ tell_by rows first last = record {
   last = last;
 }
 
-abbrev pub tell_at : List Row → Option TellOptions
-tell_at rows =
+abbrev pub tell_wanted_at : List Row → Option TellOptions
+tell_wanted_at rows =
     option_and_then (λ first. option_map (λ last. tell_by rows first last)
     (number_at (codes "TO") LAST_EVENT rows)) (number_at (codes "FROM") FIRST_EVENT rows)
+
+-- as lines of JSON or not
+abbrev pub told_by : List Row → TellOptions → AskedTell
+told_by rows wanted = record { wanted = wanted; json = is_true (first_of (codes "json") rows) }
+
+abbrev pub tell_at : List Row → Option AskedTell
+tell_at rows = option_map (told_by rows) (tell_wanted_at rows)

@@ -18,17 +18,21 @@ abbrev pub maybe_trace_rule : Rule
 maybe_trace_rule = new_rule (codes "TRACE")
 
 abbrev pub explain : App
-explain = with_rule (with_rule (new_app (codes "explain")) file_rule) maybe_trace_rule
+explain = with_rule (with_rule (with_rule (with_rule (new_app (codes "explain")) file_rule)
+    maybe_trace_rule) (flag_rule (codes "lines"))) (flag_rule (codes "json"))
 
 abbrev pub draw : App
 draw = with_rule (with_rule (with_rule (new_app (codes "draw")) file_rule) trace_rule)
     (option_rule (codes "events"))
 
 -- a number in its place among the words, which may be left out
+abbrev pub tell_by_events : App
+tell_by_events = with_rule (with_rule (with_rule (with_rule (new_app (codes "tell")) file_rule)
+    trace_rule) (new_rule (codes "FROM"))) (new_rule (codes "TO"))
+
 abbrev pub tell : App
-tell = with_rule (with_rule (with_rule (with_rule (with_rule (with_rule (new_app (codes "tell"))
-    file_rule) trace_rule) (new_rule (codes "FROM"))) (new_rule (codes "TO")))
-    (flag_rule (codes "each"))) (flag_rule (codes "strict"))
+tell = with_rule (with_rule (with_rule tell_by_events (flag_rule (codes "each")))
+    (flag_rule (codes "strict"))) (flag_rule (codes "json"))
 
 -- the number and the file of a trace that is kept
 abbrev pub kept_rule : Rule
@@ -38,9 +42,13 @@ abbrev pub ends_by_events : App
 ends_by_events = with_rule (with_rule (with_rule (new_app (codes "ends")) file_rule)
     (flag_rule (codes "no-expiries"))) (option_rule (codes "interrupts"))
 
+abbrev pub ends_by_limits : App
+ends_by_limits = with_rule (with_rule ends_by_events (option_rule (codes "most")))
+    (option_rule (codes "seconds"))
+
 abbrev pub ends : App
-ends = with_rule (with_rule (with_rule (with_rule ends_by_events (option_rule (codes "most")))
-    (option_rule (codes "sample"))) (option_rule (codes "seed"))) kept_rule
+ends = with_rule (with_rule (with_rule ends_by_limits (option_rule (codes "sample")))
+    (option_rule (codes "seed"))) kept_rule
 
 abbrev pub cases : App
 cases = with_rule (new_app (codes "cases")) file_rule

@@ -5,9 +5,6 @@ use look_lines::ViewOptions;
 use look_picture::Window;
 use look_tell::TellOptions;
 
-/// How many states a search keeps if the command line names no other number.
-pub const MOST_STATES: u32 = 1_000_000;
-
 /// The seed of random schedules if no other one is asked for.
 pub const FIRST_SEED: u32 = 1;
 
@@ -38,6 +35,22 @@ pub struct AskedView {
     pub json: bool,
 }
 
+/// Which events a story tells, and whether it is lines of JSON.
+#[derive(Clone, Copy, Debug)]
+pub struct AskedTell {
+    pub wanted: TellOptions,
+    pub json: bool,
+}
+
+/// The form in which a text is explained.
+#[derive(Clone, Copy, Debug, PartialEq, Eq)]
+pub enum ExplainForm {
+    Words,
+    /// Lines that editors jump by.
+    Places,
+    Json,
+}
+
 /// The request. Names of files are kept as they were written.
 #[derive(Clone, Copy, Debug)]
 pub enum Asked<'a> {
@@ -52,6 +65,7 @@ pub enum Asked<'a> {
     Explain {
         file: &'a str,
         trace: Option<&'a str>,
+        form: ExplainForm,
     },
     /// The answers to the cases of a file.
     Cases {
@@ -67,7 +81,7 @@ pub enum Asked<'a> {
     Tell {
         file: &'a str,
         trace: &'a str,
-        tell: TellOptions,
+        tell: AskedTell,
     },
     /// Every end that a program can come to.
     Ends {

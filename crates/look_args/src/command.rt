@@ -75,7 +75,13 @@ fn explain<'a>(alloc: Global) -> Result<Command<'a>, AllocError>
         "explain",
         "Says what is wrong with a text, with line numbers; with a trace, where each task is",
     )?
-    .arg(maybe_trace(alloc))
+    .arg(maybe_trace(alloc))?
+    .arg(flag(
+        alloc,
+        "lines",
+        "as lines FILE:LINE:COLUMN: WORDS, which editors jump by; without a trace",
+    ))?
+    .arg(flag(alloc, "json", "as lines of JSON; without a trace"))
 }
 
 /// An option that takes one value.
@@ -115,7 +121,7 @@ fn kept_trace<'a>(alloc: Global) -> Arg<'a>
     Arg::new(alloc, "trace")
         .long("trace")
         .value_names(TRACE_VALUES)
-        .help("writes the trace of the end with number K to the file TRACE")
+        .help("writes the trace of the end with number K to the file TRACE; `-` is standard output")
 }
 
 /// A number that may be left out, in its place among the words.
@@ -126,9 +132,9 @@ fn maybe_number<'a>(alloc: Global, name: &'a str, help: &'a str) -> Arg<'a>
     Arg::new(alloc, name).help(help)
 }
 
-/// The command `tell`.
-fn tell<'a>(alloc: Global) -> Result<Command<'a>, AllocError>
-    ensures app { IfOk result (λ c. app_of c ≡ def.tell) }
+/// The command `tell` with the numbers of the events that it tells.
+fn tell_by_events<'a>(alloc: Global) -> Result<Command<'a>, AllocError>
+    ensures app { IfOk result (λ c. app_of c ≡ def.tell_by_events) }
     ensures local { IfOk result (λ c. (out-Command c).has_globals ≡ false) }
 {
     let first = maybe_number(alloc, "FROM", "the first event that is told (1)");
@@ -137,6 +143,20 @@ fn tell<'a>(alloc: Global) -> Result<Command<'a>, AllocError>
         "TO",
         "the last event that is told; the run ends there",
     );
+    on_trace(
+        alloc,
+        "tell",
+        "Tells the run of a trace: a line for each event, with the line of the text and what it did",
+    )?
+    .arg(first)?
+    .arg(last)
+}
+
+/// The command `tell`.
+fn tell<'a>(alloc: Global) -> Result<Command<'a>, AllocError>
+    ensures app { IfOk result (λ c. app_of c ≡ def.tell) }
+    ensures local { IfOk result (λ c. (out-Command c).has_globals ≡ false) }
+{
     let each = flag(
         alloc,
         "each",
@@ -147,15 +167,10 @@ fn tell<'a>(alloc: Global) -> Result<Command<'a>, AllocError>
         "strict",
         "stops at the first event that does nothing, with status 5, and ends with the end of each task",
     );
-    on_trace(
-        alloc,
-        "tell",
-        "Tells the run of a trace: a line for each event, with the line of the text and what it did",
-    )?
-    .arg(first)?
-    .arg(last)?
-    .arg(each)?
-    .arg(strict)
+    tell_by_events(alloc)?
+        .arg(each)?
+        .arg(strict)?
+        .arg(flag(alloc, "json", "as lines of JSON, one for each line"))
 }
 
 /// The command `ends` with the options that say which events may come.
@@ -181,13 +196,32 @@ fn ends_by_events<'a>(alloc: Global) -> Result<Command<'a>, AllocError>
     ))
 }
 
+/// The command `ends` with these options and those that say when a search stops.
+fn ends_by_limits<'a>(alloc: Global) -> Result<Command<'a>, AllocError>
+    ensures app { IfOk result (λ c. app_of c ≡ def.ends_by_limits) }
+    ensures local { IfOk result (λ c. (out-Command c).has_globals ≡ false) }
+{
+    ends_by_events(alloc)?
+        .arg(option(
+            alloc,
+            "most",
+            "N",
+            "stops when it has N states (1000000, or fewer if a search by calls has the ends)",
+        ))?
+        .arg(option(
+            alloc,
+            "seconds",
+            "N",
+            "stops after N seconds, and keeps what it found",
+        ))
+}
+
 /// The command `ends`.
 fn ends<'a>(alloc: Global) -> Result<Command<'a>, AllocError>
     ensures app { IfOk result (λ c. app_of c ≡ def.ends) }
     ensures local { IfOk result (λ c. (out-Command c).has_globals ≡ false) }
 {
-    ends_by_events(alloc)?
-        .arg(option(alloc, "most", "N", "stops when it has N states (1000000)"))?
+    ends_by_limits(alloc)?
         .arg(option(alloc, "sample", "N", "tries N random schedules, not all"))?
         .arg(option(
             alloc,

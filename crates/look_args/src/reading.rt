@@ -1,24 +1,24 @@
 //! Reads a command line.
 
-ghost use Rattle.std.specs.Prelude.{◌≡◌, IfOk, IfErr, map, option_map, Some, Bool, false};
-ghost use Rattle.clap.specs.Words.{all_of, rows_of, found_of, kind_of, subcommand_rows_of};
+ghost use Rattle.std.specs.Prelude.{◌≡◌, IfOk, IfErr, map, option_map, Some, Bool, false, is_some, codes};
+ghost use Rattle.clap.specs.Words.{all_of, first_of, rows_of, found_of, kind_of, subcommand_rows_of};
 ghost use Rattle.clap.specs.declared.error.kind.ErrorKind.TheVariants as kind;
 ghost use Rattle.sts_args.specs.Refused.{BlamesUnless};
 ghost use Rattle.look_args.specs.Asked.{Asks, IsGiven, IsLineOf, Refuses, TellsKind, is_set, is_whole};
-ghost use Rattle.look_args.specs.Asked.{view_at, wanted_at};
+ghost use Rattle.look_args.specs.Asked.{form_by, view_at, wanted_at};
 ghost use Rattle.look_args.specs.AskedDraw.{window_at};
 ghost use Rattle.look_args.specs.AskedEnds.{ends_at, ends_wanted_at, kept_of, kept_words, manner_at};
-ghost use Rattle.look_args.specs.AskedEnds.{number_at, said_ends};
-ghost use Rattle.look_args.specs.AskedTell.{tell_at};
+ghost use Rattle.look_args.specs.AskedEnds.{limits_at, maybe_number, number_at, said_ends};
+ghost use Rattle.look_args.specs.AskedTell.{tell_at, tell_wanted_at};
 
 use crate::asked::{
-    Asked, AskedEnds, AskedView, FIRST_EVENT, FIRST_SEED, Kept, LAST_EVENT, MOST_STATES,
+    Asked, AskedEnds, AskedTell, AskedView, ExplainForm, FIRST_EVENT, FIRST_SEED, Kept, LAST_EVENT,
 };
 use crate::command::program;
 use crate::window::window_of;
 use clap::error::ErrorKind;
 use clap::{ArgMatches, Error};
-use look_ends::{EndsOptions, Manner};
+use look_ends::{EndsOptions, Limits, Manner};
 use look_lines::ViewOptions;
 use look_picture::Window;
 use look_tell::TellOptions;
@@ -37,6 +37,10 @@ const NO_WINDOW: &str =
 /// The error for an event of `tell` that is no number.
 const NO_EVENT: &str =
     "error: FROM and TO of `tell` are numbers of events, from 0 to 4294967295\n\nFor more information, try '--help'.\n";
+
+/// The error for a trace where none is expected.
+const NO_TRACE: &str =
+    "error: `explain` takes one of TRACE, `--lines` and `--json`\n\nFor more information, try '--help'.\n";
 
 /// The words of the version, which were asked for.
 fn version(error: &Error, alloc: Global) -> LineError
@@ -107,7 +111,10 @@ fn asked_of<'a>(
                 Ok(Asked::View { file, trace, view })
             } else if name == "explain" {
                 let trace = text_of(inner, "TRACE");
-                Ok(Asked::Explain { file, trace })
+                match asked_form(inner, trace) {
+                    Some(form) => Ok(Asked::Explain { file, trace, form }),
+                    None => Err(usage(alloc, NO_TRACE)),
+                }
             } else if name == "draw" {
                 let trace = trace_of(alloc, inner)?;
                 match asked_window(inner) {
@@ -145,6 +152,23 @@ fn is_set(inner: &ArgMatches<'_>, id: &str) -> bool
     match text_of(inner, id) {
         Some(text) => text == "true",
         None => false,
+    }
+}
+
+/// The form of an explanation; nothing if more than one of a trace, `lines` and `json` is given.
+fn asked_form(inner: &ArgMatches<'_>, trace: Option<&str>) -> Option<ExplainForm>
+    ensures { result ≡ form_by (is_some trace.entry) (is_set (codes "lines") (rows_of (found_of inner.now)))
+        (is_set (codes "json") (rows_of (found_of inner.now))) }
+{
+    match (
+        trace.is_some(),
+        is_set(inner, "lines"),
+        is_set(inner, "json"),
+    ) {
+        (_, false, false) => Some(ExplainForm::Words),
+        (false, true, false) => Some(ExplainForm::Places),
+        (false, false, true) => Some(ExplainForm::Json),
+        _ => None,
     }
 }
 
@@ -189,9 +213,9 @@ fn number_of(inner: &ArgMatches<'_>, id: &str, otherwise: u32) -> Option<u32>
     }
 }
 
-/// What `tell` is asked for; nothing if an event has no number.
-fn asked_tell(inner: &ArgMatches<'_>) -> Option<TellOptions>
-    ensures { result ≡ tell_at (rows_of (found_of inner.now)) }
+/// Which events `tell` tells; nothing if an event has no number.
+fn tell_wanted(inner: &ArgMatches<'_>) -> Option<TellOptions>
+    ensures { result ≡ tell_wanted_at (rows_of (found_of inner.now)) }
 {
     let first = number_of(inner, "FROM", FIRST_EVENT)?;
     let last = number_of(inner, "TO", LAST_EVENT)?;
@@ -203,14 +227,44 @@ fn asked_tell(inner: &ArgMatches<'_>) -> Option<TellOptions>
     })
 }
 
+/// What `tell` is asked for; nothing if an event has no number.
+fn asked_tell(inner: &ArgMatches<'_>) -> Option<AskedTell>
+    ensures { result ≡ tell_at (rows_of (found_of inner.now)) }
+{
+    let wanted = tell_wanted(inner)?;
+    Some(AskedTell {
+        wanted,
+        json: is_set(inner, "json"),
+    })
+}
+
+/// The number that an option is given, if the option is.
+fn maybe_number_of(inner: &ArgMatches<'_>, id: &str) -> Option<Option<u32>>
+    ensures { result ≡ maybe_number (first_of id.now (rows_of (found_of inner.now))) }
+{
+    match text_of(inner, id) {
+        None => Some(None),
+        Some(text) => Some(Some(digits_up_to(text.as_bytes(), u32::MAX)?)),
+    }
+}
+
+/// When a search stops.
+fn limits_of(inner: &ArgMatches<'_>) -> Option<Limits>
+    ensures { result ≡ limits_at (rows_of (found_of inner.now)) }
+{
+    let states = maybe_number_of(inner, "most")?;
+    let seconds = maybe_number_of(inner, "seconds")?;
+    Some(Limits { states, seconds })
+}
+
 /// All schedules, or this number of random ones.
 fn manner_of(inner: &ArgMatches<'_>) -> Option<Manner>
     ensures { result ≡ manner_at (rows_of (found_of inner.now)) }
 {
-    let most = number_of(inner, "most", MOST_STATES)?;
+    let limits = limits_of(inner)?;
     let seed = number_of(inner, "seed", FIRST_SEED)?;
     match text_of(inner, "sample") {
-        None => Some(Manner::All { most }),
+        None => Some(Manner::All { limits }),
         Some(text) => {
             let schedules = digits_up_to(text.as_bytes(), u32::MAX)?;
             Some(Manner::Sample { schedules, seed })

@@ -1,6 +1,5 @@
 -- A listing of a search says what was searched.
 use Rattle.std.proofs.Common.{◌≡◌, ℕ, List, Bool, true, Option, subst, sym, ◌∙◌}
-use Rattle.sts_asm.specs.Outline.{Outline}
 use Rattle.ends_plain.specs.Ends.{AreAll}
 use Rattle.ends_plain.specs.Listed.{AreEnds, ends_of}
 use Rattle.ends_plain.specs.declared.config.Found.{Found}
@@ -15,10 +14,10 @@ still_all g found more whole now complete keeps is_whole =
     subst (λ (fs : List Found). AreAll g.program g.expiries g.interrupts (ends_of fs)) (sym kept.1) (complete kept.0)
 
 -- what was searched is what was asked for
-pub search_of : (g e x : Setting) (o : Outline) (number : Option ℕ) (is_refused : Bool) (found : List Found) (states : ℕ) (whole : Bool) (by_calls : Option ℕ) (r : Listing)
+pub search_of : (g e x : Setting) (text : List ℕ) (number : Option ℕ) (is_refused : Bool) (found : List Found) (states : ℕ) (whole : Bool) (by_calls : Option ℕ) (r : Listing)
     → x ≡ e → e ≡ g → AreEnds e found → (whole ≡ true → AreAll e.program e.expiries e.interrupts (ends_of found)) → IsVerdict g.program is_refused
-    → r ≡ searched_listing x o is_refused number found states whole by_calls → IsSearch g o number r
-search_of g e x o number is_refused found states whole by_calls r seen same sound complete verdict printed = record {
+    → r ≡ searched_listing text x is_refused number found states whole by_calls → IsSearch text g number r
+search_of g e x text number is_refused found states whole by_calls r seen same sound complete verdict printed = record {
   found = found;
   states = states;
   whole = whole;
@@ -27,5 +26,5 @@ search_of g e x o number is_refused found states whole by_calls r seen same soun
   sound = subst (λ (y : Setting). AreEnds y found) same sound;
   complete = subst (λ (y : Setting). whole ≡ true → AreAll y.program y.expiries y.interrupts (ends_of found)) same complete;
   verdict = verdict;
-  printed = subst (λ (y : Setting). r ≡ searched_listing y o is_refused number found states whole by_calls) (seen ∙ same) printed;
+  printed = subst (λ (y : Setting). r ≡ searched_listing text y is_refused number found states whole by_calls) (seen ∙ same) printed;
 }

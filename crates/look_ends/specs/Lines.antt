@@ -1,15 +1,15 @@
--- The lines of ends, and what is printed below them (this project's own).
+-- The lines of ends, with the lines and the names of a text, and what is printed below them (this
+-- project's own).
 use Rattle.std.specs.Prelude.{ℕ, ◌+◌, ◌-◌, ◌==◌, List, [], ◌∷◌, ◌++◌, Bool, true, false, not, ◌&&◌}
 use Rattle.std.specs.Prelude.{if◌then◌else◌, codes, length, slice_get, Option, Some, None, is_some}
 use Rattle.std.specs.List.{list_any}
 use Rattle.std.specs.Fmt.{decimal}
 use Rattle.sts_code.specs.Program.{Program}
-use Rattle.sts_asm.specs.Outline.{Outline}
 use Rattle.sts_plain.specs.declared.misstep.PlainState.{PlainState}
 use Rattle.sts_plain.specs.declared.misstep.PlainState.TheVariants as plain
 use Rattle.ends_plain.specs.declared.config.Found.{Found}
 use Rattle.ends_plain.specs.declared.config.Setting.{Setting}
-use Rattle.look_refusal.specs.States.{state_line}
+use Rattle.look_ends.specs.States.{state_line}
 
 -- ---- an end
 
@@ -19,13 +19,13 @@ head_words place f =
     decimal (place + 1) ++ codes " after " ++ decimal (length f.trace.items) ++ codes " events"
 
 -- `1 after 14 events: success 42`
-abbrev pub found_line : Program → Outline → ℕ → Found → List ℕ
-found_line p o place f = head_words place f ++ codes ": " ++ state_line p o f.end
+abbrev pub found_line : List ℕ → Program → ℕ → Found → List ℕ
+found_line text p place f = head_words place f ++ codes ": " ++ state_line text p f.end
 
 -- the lines of these ends, the first of which is at this place
-abbrev pub found_lines : Program → Outline → List Found → ℕ → List ℕ
-found_lines p o [] place = []
-found_lines p o (f ∷ fs) place = found_line p o place f ++ found_lines p o fs (place + 1)
+abbrev pub found_lines : List ℕ → Program → List Found → ℕ → List ℕ
+found_lines text p [] place = []
+found_lines text p (f ∷ fs) place = found_line text p place f ++ found_lines text p fs (place + 1)
 
 -- `, in 183 of 200 schedules: `
 abbrev pub share_words : ℕ → ℕ → List ℕ
@@ -33,9 +33,9 @@ share_words times schedules =
     codes ", in " ++ decimal times ++ codes " of " ++ decimal schedules ++ codes " schedules: "
 
 -- `1 after 14 events, in 183 of 200 schedules: success 42`
-abbrev pub sampled_line : Program → Outline → ℕ → Found → ℕ → ℕ → List ℕ
-sampled_line p o place f times schedules =
-    head_words place f ++ (share_words times schedules ++ state_line p o f.end)
+abbrev pub sampled_line : List ℕ → Program → ℕ → Found → ℕ → ℕ → List ℕ
+sampled_line text p place f times schedules =
+    head_words place f ++ (share_words times schedules ++ state_line text p f.end)
 
 abbrev pub times_or_none : Option ℕ → ℕ
 times_or_none None = 0
@@ -46,11 +46,11 @@ abbrev pub times_at : List ℕ → ℕ → ℕ
 times_at times place = times_or_none (slice_get times place)
 
 -- the lines of these ends, with the number of times that each came
-abbrev pub sampled_lines : Program → Outline → List Found → List ℕ → ℕ → ℕ → List ℕ
-sampled_lines p o [] times schedules place = []
-sampled_lines p o (f ∷ fs) times schedules place =
-    sampled_line p o place f (times_at times place) schedules
-    ++ sampled_lines p o fs times schedules (place + 1)
+abbrev pub sampled_lines : List ℕ → Program → List Found → List ℕ → ℕ → ℕ → List ℕ
+sampled_lines text p [] times schedules place = []
+sampled_lines text p (f ∷ fs) times schedules place =
+    sampled_line text p place f (times_at times place) schedules
+    ++ sampled_lines text p fs times schedules (place + 1)
 
 -- ---- below the ends
 

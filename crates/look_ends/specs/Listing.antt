@@ -5,8 +5,6 @@ use Rattle.sts_code.specs.Program.{Program}
 use Rattle.sts_model.specs.declared.event.Event.{Event}
 use Rattle.sts_rules.specs.Refusal.{IsAccepted, IsRefusal}
 use Rattle.sts_rules.specs.declared.typing.Cause.{Cause}
-use Rattle.sts_asm.specs.Outline.{Outline}
-use Rattle.sts_asm.specs.Source.{outlined}
 use Rattle.sts_asm.specs.Text.{judged}
 use Rattle.sts_asm.specs.declared.fault.AsmError.{AsmError}
 use Rattle.sts_output.specs.Output.{Output, memory_output}
@@ -47,11 +45,11 @@ abbrev pub status_of : Bool → Option ℕ → List Found → ℕ
 status_of whole number found = if whole && has_number number found then 0 else 5
 
 -- a line for each end, then what is to be said of all of them
-abbrev pub searched_listing : Setting → Outline → Bool → Option ℕ → List Found → ℕ → Bool
+abbrev pub searched_listing : List ℕ → Setting → Bool → Option ℕ → List Found → ℕ → Bool
     → Option ℕ → Listing
-searched_listing g o is_refused number found states whole by_calls = record {
+searched_listing text g is_refused number found states whole by_calls = record {
   output = record {
-    bytes = found_lines g.program o found 0 ++ (refused_line g is_refused whole found
+    bytes = found_lines text g.program found 0 ++ (refused_line g is_refused whole found
         ++ (by_calls_line by_calls ++ (states_line whole states ++ no_number_line number found)));
     status = status_of whole number found;
   };
@@ -59,11 +57,11 @@ searched_listing g o is_refused number found states whole by_calls = record {
 }
 
 -- what is printed of random schedules, with the number of times that each end came
-abbrev pub sampled_listing : Program → Outline → ℕ → ℕ → Option ℕ → List Found → List ℕ → ℕ
+abbrev pub sampled_listing : List ℕ → Program → ℕ → ℕ → Option ℕ → List Found → List ℕ → ℕ
     → Listing
-sampled_listing p o schedules seed number found times unfinished = record {
+sampled_listing text p schedules seed number found times unfinished = record {
   output = record {
-    bytes = sampled_lines p o found times schedules 0 ++ (unfinished_line unfinished
+    bytes = sampled_lines text p found times schedules 0 ++ (unfinished_line unfinished
         ++ (schedules_line schedules seed ++ no_number_line number found));
     status = 5;
   };
@@ -91,7 +89,7 @@ IsVerdict p false = IsAccepted p
 -- it. If it says that it is of all schedules, each end that a list of allowed events leads to is
 -- there, however long the list is. Nothing is known of the states of a search by calls, which found
 -- no other end.
-pub record IsSearch (g : Setting) (o : Outline) (number : Option ℕ) (r : Listing) : Type 0 where
+pub record IsSearch (text : List ℕ) (g : Setting) (number : Option ℕ) (r : Listing) : Type 0 where
   pub found : List Found
   pub states : ℕ
   pub whole : Bool
@@ -100,28 +98,27 @@ pub record IsSearch (g : Setting) (o : Outline) (number : Option ℕ) (r : Listi
   pub sound : AreEnds g found
   pub complete : whole ≡ true → AreAll g.program g.expiries g.interrupts (ends_of found)
   pub verdict : IsVerdict g.program is_refused
-  pub printed : r ≡ searched_listing g o is_refused number found states whole by_calls
+  pub printed : r ≡ searched_listing text g is_refused number found states whole by_calls
 
 -- a listing of the ends of random schedules: each of them is one, after the trace that comes with
 -- it
-pub record IsSampling (g : Setting) (o : Outline) (schedules seed : ℕ) (number : Option ℕ)
+pub record IsSampling (text : List ℕ) (g : Setting) (schedules seed : ℕ) (number : Option ℕ)
     (r : Listing) : Type 0 where
   pub found : List Found
   pub times : List ℕ
   pub unfinished : ℕ
   pub sound : AreEnds g found
-  pub printed : r ≡ sampled_listing g.program o schedules seed number found times unfinished
+  pub printed : r ≡ sampled_listing text g.program schedules seed number found times unfinished
 
-abbrev pub ListsBy : Manner → Setting → Outline → Option ℕ → Listing → Type 0
-ListsBy (manner.All most) g o number r = IsSearch g o number r
-ListsBy (manner.Sample schedules seed) g o number r = IsSampling g o schedules seed number r
+abbrev pub ListsBy : Manner → List ℕ → Setting → Option ℕ → Listing → Type 0
+ListsBy (manner.All limits) text g number r = IsSearch text g number r
+ListsBy (manner.Sample schedules seed) text g number r = IsSampling text g schedules seed number r
 
 -- ---- of a text
 
 -- the ends of the program, or the fault of a text that is none
 abbrev pub Lists : Result Program AsmError → List ℕ → EndsOptions → Option ℕ → Listing → Type 0
-Lists (Ok p) text wanted number r =
-    (o : Outline) × ((outlined text ≡ Ok o) × ListsBy wanted.manner (setting p wanted) o number r)
+Lists (Ok p) text wanted number r = ListsBy wanted.manner text (setting p wanted) number r
 Lists (Err e) text wanted number r = r ≡ alone (fault_output e text)
 
 -- the same, or that memory was refused

@@ -8,20 +8,21 @@ use ends_plain::exploration::Exploration;
 use std::alloc::{AllocError, Global};
 
 /// How many states are expanded between two reports of progress.
-const PIECE: usize = 1024;
+const PIECE: usize = 64;
 
-/// Expands states until none is left, or `most` are kept.
+/// Expands states until none is left, `most` are kept, or the seconds have passed.
 pub(crate) fn explored<P: Progress>(
     alloc: Global,
     setting: Setting,
-    most: u32,
+    most: usize,
+    seconds: Option<u32>,
     progress: &mut P,
 ) -> Result<Exploration, AllocError>
     ensures { IfOk result (λ x. x ≡ setting) }
 {
-    let mut exploration = Exploration::begin(alloc, setting, most as usize)?;
+    let mut exploration = Exploration::begin(alloc, setting, most)?;
     for _ in 0..u64::MAX {
-        if exploration.is_over() {
+        if exploration.is_over() || !progress.goes_on(seconds) {
             break;
         }
         exploration = exploration.advance(alloc, PIECE)?;

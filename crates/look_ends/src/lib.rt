@@ -7,11 +7,12 @@ mod exploring;
 mod lines;
 mod listing;
 mod progress;
+mod states;
 mod verdict;
 mod wanted;
 mod writing;
 
 pub use listing::{Listing, listed};
 pub use progress::{Progress, Silent};
-pub use wanted::{EndsOptions, Manner};
-pub use writing::{write_ends, write_ends_and_trace};
+pub use wanted::{EndsOptions, Limits, Manner};
+pub use writing::{write_ends, write_listing};

@@ -4,8 +4,8 @@ ghost use Rattle.std.specs.Prelude.{◌≡◌, ◌++◌, ◌+◌, ◌<◌, ◌^�
 ghost use Rattle.std.specs.Fmt.{decimal};
 ghost use Rattle.look_ends.specs.Lines as def;
 
+use crate::states::{Told, say_state};
 use ends_plain::config::Found;
-use look_refusal::{Told, say_state};
 use look_text::say;
 use std::alloc::{AllocError, Global};
 
@@ -44,11 +44,11 @@ fn say_head(alloc: Global, out: &mut Vec<u8>, place: usize, one: &Found) -> Resu
 pub(crate) fn say_all(
     alloc: Global,
     out: &mut Vec<u8>,
-    told: Told<'_, '_, '_>,
+    told: Told<'_, '_>,
     found: &[Found],
 ) -> Result<(), AllocError>
     ensures { OnOk result (out.new.items ≡ out.old.items
-        ++ def.found_lines told.entry.program.now told.entry.outline.now found.now 0) }
+        ++ def.found_lines told.entry.names.now told.entry.program.now found.now 0) }
 {
     for k in 0..found.len() {
         say_head(alloc, out, k, &found[k])?;
@@ -73,7 +73,7 @@ fn say_share(alloc: Global, out: &mut Vec<u8>, times: u64, schedules: u32) -> Re
 fn say_sampled(
     alloc: Global,
     out: &mut Vec<u8>,
-    told: Told<'_, '_, '_>,
+    told: Told<'_, '_>,
     place: usize,
     one: &Found,
     times: u64,
@@ -81,7 +81,7 @@ fn say_sampled(
 ) -> Result<(), AllocError>
     requires { place + 1 < 2 ^ 64 }
     ensures { OnOk result (out.new.items ≡ out.old.items
-        ++ def.sampled_line told.entry.program.now told.entry.outline.now place one.now times
+        ++ def.sampled_line told.entry.names.now told.entry.program.now place one.now times
         schedules) }
 {
     say_head(alloc, out, place, one)?;
@@ -107,13 +107,13 @@ fn times_at(times: &[u64], place: usize) -> u64
 pub(crate) fn say_shares(
     alloc: Global,
     out: &mut Vec<u8>,
-    told: Told<'_, '_, '_>,
+    told: Told<'_, '_>,
     found: &[Found],
     times: &[u64],
     schedules: u32,
 ) -> Result<(), AllocError>
     ensures { OnOk result (out.new.items ≡ out.old.items
-        ++ def.sampled_lines told.entry.program.now told.entry.outline.now found.now times.now
+        ++ def.sampled_lines told.entry.names.now told.entry.program.now found.now times.now
         schedules 0) }
 {
     for k in 0..found.len() {

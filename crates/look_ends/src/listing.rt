@@ -9,18 +9,19 @@ use crate::below::{
     found_at, has_number, say_by_calls, say_no_number, say_refused, say_schedules, say_states,
     say_unfinished,
 };
-use crate::by_calls::{Answer, answered};
+use crate::by_calls::{Answer, answered, by_calls, room_after};
 use crate::exploring::explored;
 use crate::lines::{say_all, say_shares};
 use crate::progress::Progress;
+use crate::states::Told;
 use crate::verdict::{Judged, verdict};
-use crate::wanted::{EndsOptions, Manner};
+use crate::wanted::{EndsOptions, Limits, Manner};
 use ends_plain::config::{Found, Setting};
 use ends_plain::sample::{Sample, Sampling, sample_ends};
-use look_refusal::{ExplainError, Explanation, Told, outline_of, program_of};
+use look_names::Names;
+use look_refusal::{ExplainError, Explanation, program_of};
 use std::alloc::{AllocError, Global};
 use std::marker::Model;
-use sts_asm::Outline;
 use sts_code::Program;
 use sts_model::Event;
 
@@ -68,18 +69,18 @@ fn trace_of(alloc: Global, number: Option<u32>, found: &[Found]) -> Result<Vec<E
 /// What is printed of a search.
 fn searched(
     alloc: Global,
-    outline: &Outline<'_>,
+    names: &Names<'_>,
     setting: &Setting,
     is_refused: bool,
     number: Option<u32>,
     ends: &Answer,
 ) -> Result<Listing, AllocError>
-    ensures { IfOk result (λ l. l ≡ def.searched_listing setting.now outline.now is_refused number
+    ensures { IfOk result (λ l. l ≡ def.searched_listing names.now setting.now is_refused number
         ends.now.found.items ends.now.states ends.now.whole ends.now.by_calls) }
 {
     let told = Told {
         program: &setting.program,
-        outline,
+        names,
     };
     let found = ends.found.as_slice();
     let mut bytes = Vec::new(alloc);
@@ -102,14 +103,14 @@ fn searched(
 /// What is printed of random schedules.
 fn sampled(
     alloc: Global,
-    told: Told<'_, '_, '_>,
+    told: Told<'_, '_>,
     schedules: u32,
     seed: u32,
     number: Option<u32>,
     sample: &Sample,
 ) -> Result<Listing, AllocError>
-    ensures { IfOk result (λ l. l ≡ def.sampled_listing told.entry.program.now
-        told.entry.outline.now schedules seed number sample.now.found.items sample.now.times.items
+    ensures { IfOk result (λ l. l ≡ def.sampled_listing told.entry.names.now
+        told.entry.program.now schedules seed number sample.now.found.items sample.now.times.items
         sample.now.unfinished) }
 {
     let found = sample.found.as_slice();
@@ -128,36 +129,56 @@ fn sampled(
     })
 }
 
-/// The listing of all ends of a program.
+/// Reports the ends that were found so far.
+fn reported<P: Progress>(
+    alloc: Global,
+    told: Told<'_, '_>,
+    found: &[Found],
+    progress: &mut P,
+) -> Result<(), AllocError> {
+    let mut lines = Vec::new(alloc);
+    say_all(alloc, &mut lines, told, found)?;
+    progress.ends(lines.as_slice());
+    Ok(())
+}
+
+/// The listing of all ends of a program. Those that a search by calls finds are reported at once.
 fn of_all<P: Progress>(
     alloc: Global,
-    outline: &Outline<'_>,
+    names: &Names<'_>,
     setting: Setting,
     is_refused: bool,
-    most: u32,
+    limits: Limits,
     number: Option<u32>,
     progress: &mut P,
 ) -> Result<Listing, AllocError>
     requires { def.IsVerdict setting.program is_refused }
-    ensures { IfOk result (def.IsSearch setting outline.now number) }
+    ensures { IfOk result (def.IsSearch names.now setting number) }
 {
-    let exploration = explored(alloc, setting, most, progress)?;
+    let calls = by_calls(alloc, &setting, is_refused, limits, progress)?;
+    let told = Told {
+        program: &setting.program,
+        names,
+    };
+    reported(alloc, told, calls.found.as_slice(), progress)?;
+    let room = room_after(limits, calls.found.as_slice());
+    let exploration = explored(alloc, setting, room, limits.seconds, progress)?;
     let ends = exploration.ends(alloc)?;
     let asked = exploration.setting();
-    let all = answered(alloc, asked, is_refused, most, ends)?;
-    searched(alloc, outline, asked, is_refused, number, &all)
+    let all = answered(asked, is_refused, calls, ends)?;
+    searched(alloc, names, asked, is_refused, number, &all)
 }
 
 /// The listing of the ends of random schedules of a program.
 fn of_sample(
     alloc: Global,
-    outline: &Outline<'_>,
+    names: &Names<'_>,
     setting: &Setting,
     schedules: u32,
     seed: u32,
     number: Option<u32>,
 ) -> Result<Listing, AllocError>
-    ensures { IfOk result (def.IsSampling setting.now outline.now schedules seed number) }
+    ensures { IfOk result (def.IsSampling names.now setting.now schedules seed number) }
 {
     let sampling = Sampling {
         schedules: u64::from(schedules),
@@ -167,21 +188,21 @@ fn of_sample(
     let sample = sample_ends(alloc, setting, sampling)?;
     let told = Told {
         program: &setting.program,
-        outline,
+        names,
     };
     sampled(alloc, told, schedules, seed, number, &sample)
 }
 
-/// The listing of a program, whose lines these are.
+/// The listing of a program, whose text has these names.
 fn of_program<P: Progress>(
     alloc: Global,
-    outline: &Outline<'_>,
+    names: &Names<'_>,
     program: Program,
     wanted: EndsOptions,
     number: Option<u32>,
     progress: &mut P,
 ) -> Result<Listing, AllocError>
-    ensures { IfOk result (def.ListsBy wanted.manner (def.setting program wanted) outline.now
+    ensures { IfOk result (def.ListsBy wanted.manner names.now (def.setting program wanted)
         number) }
 {
     let Judged {
@@ -194,9 +215,11 @@ fn of_program<P: Progress>(
         interrupts: wanted.interrupts,
     };
     match wanted.manner {
-        Manner::All { most } => of_all(alloc, outline, setting, is_refused, most, number, progress),
+        Manner::All { limits } => of_all(
+            alloc, names, setting, is_refused, limits, number, progress,
+        ),
         Manner::Sample { schedules, seed } => {
-            of_sample(alloc, outline, &setting, schedules, seed, number)
+            of_sample(alloc, names, &setting, schedules, seed, number)
         }
     }
 }
@@ -222,9 +245,9 @@ fn of_text<P: Progress>(
     ensures { Gives result (λ l. def.Lists (judged text.now) text.now wanted number l)
         (λ o. def.Lists (judged text.now) text.now wanted number (def.alone o)) }
 {
-    let outline = outline_of(alloc, text)?;
     let program = program_of(alloc, text)?;
-    let listing = of_program(alloc, &outline, program, wanted, number, progress)?;
+    let names = Names::read(alloc, text)?;
+    let listing = of_program(alloc, &names, program, wanted, number, progress)?;
     Ok(listing)
 }
 

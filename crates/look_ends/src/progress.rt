@@ -1,20 +1,32 @@
-//! How far a search is.
+//! How far a search is, and whether it goes on.
 
-/// Gets the number of states while a search goes on. No contract speaks of it.
+/// Gets what a search found while it goes on, and may stop it. No contract speaks of it.
 pub trait Progress {
+    /// Reports the ends that were found so far, each on a line.
+    fn ends(&mut self, lines: &[u8]);
+
     /// Reports how many states were found so far.
     fn found(&mut self, states: usize);
+
+    /// May the search go on? If a number of seconds is given, it stops after them.
+    fn goes_on(&mut self, seconds: Option<u32>) -> bool;
 
     /// Reports that the search is over.
     fn over(&mut self);
 }
 
-/// Reports nothing.
+/// Reports nothing, and lets each search go on.
 #[derive(Drop)]
 pub struct Silent;
 
 impl Progress for Silent {
+    fn ends(&mut self, _lines: &[u8]) {}
+
     fn found(&mut self, _states: usize) {}
+
+    fn goes_on(&mut self, _seconds: Option<u32>) -> bool {
+        true
+    }
 
     fn over(&mut self) {}
 }

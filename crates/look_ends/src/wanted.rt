@@ -1,10 +1,19 @@
 //! What a listing of ends is asked for.
 
+/// When a search over all schedules stops.
+#[derive(Clone, Copy, Debug)]
+pub struct Limits {
+    /// It keeps no more states than this, if a number is named.
+    pub states: Option<u32>,
+    /// It stops after this number of seconds, if one is named.
+    pub seconds: Option<u32>,
+}
+
 /// Which schedules are tried.
 #[derive(Clone, Copy, Debug)]
 pub enum Manner {
-    /// All of them, as long as the search keeps no more than `most` states.
-    All { most: u32 },
+    /// All of them, up to these limits.
+    All { limits: Limits },
     /// This many random ones. The same seed gives the same schedules.
     Sample { schedules: u32, seed: u32 },
 }

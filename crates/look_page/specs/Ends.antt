@@ -9,7 +9,11 @@ use Rattle.look_page.specs.Handed.{IsHanded, Received}
 
 -- what `look ends --most N` asks for
 abbrev pub ends_wanted : ℕ → EndsOptions
-ends_wanted most = record { expiries = true; interrupts = 0; manner = All most }
+ends_wanted most = record {
+  expiries = true;
+  interrupts = 0;
+  manner = All (record { states = Some most; seconds = None });
+}
 
 -- what it prints
 abbrev pub IsListing : ℕ → List ℕ → Output → Type 0

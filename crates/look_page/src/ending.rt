@@ -5,7 +5,7 @@ ghost use Rattle.sts_trace.specs.Spelling.{trace_text};
 ghost use Rattle.look_ends.specs.Listing.{IsListingOf, Listing};
 ghost use Rattle.look_page.specs.Ends.{ends_wanted};
 
-use look_ends::{EndsOptions, Listing, Manner, Silent, listed};
+use look_ends::{EndsOptions, Limits, Listing, Manner, Silent, listed};
 use std::alloc::{AllocError, Global};
 use sts_trace::write_trace;
 
@@ -25,7 +25,12 @@ pub(crate) fn wanted(most: u32) -> EndsOptions
     EndsOptions {
         expiries: true,
         interrupts: 0,
-        manner: Manner::All { most },
+        manner: Manner::All {
+            limits: Limits {
+                states: Some(most),
+                seconds: None,
+            },
+        },
     }
 }
 

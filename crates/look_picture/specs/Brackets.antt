@@ -58,12 +58,23 @@ was_cancelled before w s = (scope_at w s).cancelled && not (scope_at before s).c
 abbrev pub mark_if : Bool → Mark → World → ℕ → ℕ → List ℕ → List ℕ
 mark_if is_shown m w x s word = if is_shown then scope_mark m w x s word else []
 
+-- the mark of a cancel, by the scope's phase after it. If a `close` cancels a scope and closes it at
+-- once, no subtask lives that the cancel could interrupt: its mark is quiet
+abbrev pub cancel_mark : Phase → Mark
+cancel_mark phase.Closed = mark.QuietCancel
+cancel_mark _ = mark.Cancelled
+
+abbrev pub cancel_edge : World → World → ℕ → ℕ → List ℕ
+cancel_edge before w x s =
+    if was_cancelled before w s
+    then scope_mark (cancel_mark (scope_at w s).phase) w x s (codes "cancelled") else []
+
 -- the marks for a change of its phase, for an expiry and for a cancel
 abbrev pub edges : World → World → ℕ → ℕ → List ℕ
 edges before w x s =
     mark_if (has_moved before w s) mark.Edge w x s (phase_word (scope_at w s).phase)
     ++ (mark_if (has_expired before w s) mark.Expired w x s (codes "expired")
-    ++ mark_if (was_cancelled before w s) mark.Cancelled w x s (codes "cancelled"))
+    ++ cancel_edge before w x s)
 
 -- nothing of a scope that was closed before
 abbrev pub scope_cell : World → World → ℕ → ℕ → List ℕ

@@ -11,7 +11,7 @@ use Rattle.sts_model.specs.World.{World, task_at, scope_at}
 use Rattle.look_lines.specs.Lines.{is_heard, stand_words, under_words}
 use Rattle.look_picture.specs.declared.marks.Mark.{Mark}
 use Rattle.look_picture.specs.declared.marks.Mark.TheVariants as mark
-use Rattle.look_picture.specs.Place.{lane}
+use Rattle.look_picture.specs.Place.{lane, over_lane}
 use Rattle.look_picture.specs.Writing.{mark_at, text_end, text_start}
 
 -- ---- how a task stands
@@ -80,7 +80,9 @@ birth before w x t =
 abbrev pub interrupted : World → World → ℕ → ℕ → List ℕ
 interrupted before w x t =
     if (task_at w t).flag && not (task_at before t).flag
-    then mark_at mark.Interrupted x (lane t) (codes "task " ++ decimal t ++ codes " interrupted") else []
+    then mark_at mark.Interrupted x (over_lane t)
+    (codes "task " ++ decimal t ++ codes " interrupted")
+    else []
 
 abbrev pub task_cell : Program → World → World → ℕ → ℕ → List ℕ
 task_cell p before w x t =

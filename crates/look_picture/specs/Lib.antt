@@ -1,9 +1,11 @@
 pub mod Brackets
 pub mod Lanes
+pub mod Legend
 pub mod Marks
 pub mod Picture
 pub mod Place
 pub mod Present
 pub mod Style
 pub mod Windows
+pub mod Words
 pub mod Writing

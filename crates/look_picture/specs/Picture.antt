@@ -17,15 +17,18 @@ use Rattle.look_lines.specs.View.{view_lines}
 use Rattle.look_lines.specs.Views.{applied}
 use Rattle.look_lines.specs.Watched.{Watched, watched}
 use Rattle.look_lines.specs.declared.watch.Applied.{Applied}
+use Rattle.look_picture.specs.declared.marks.Mark.{Mark}
 use Rattle.look_picture.specs.declared.marks.Mark.TheVariants as mark
 use Rattle.look_picture.specs.Brackets.{scope_cells}
 use Rattle.look_picture.specs.Lanes.{lane_names, task_cells}
 use Rattle.look_picture.specs.Place.{column, height, lane, width}
-use Rattle.look_picture.specs.Style.{legend, style}
+use Rattle.look_picture.specs.Legend.{keys, legend}
+use Rattle.look_picture.specs.Style.{style}
 use Rattle.look_picture.specs.Windows.{left_out, shown_events}
 use Rattle.look_picture.specs.Windows as windows
 use Rattle.look_picture.specs.declared.window.Drawn.{Drawn}
 use Rattle.look_picture.specs.declared.window.Window.{Window}
+use Rattle.look_picture.specs.Words.{next_word, step_word}
 use Rattle.look_picture.specs.Writing.{mark_at, text_end, text_start}
 
 -- ---- a column
@@ -44,32 +47,50 @@ standing before m x is_counted (plain.Fault kind t f pc) =
     if is_counted then fault_mark m x t else []
 standing before m x is_counted _ = cells m.program before.last m.last x
 
--- a step that counts, in its task's lane
-abbrev pub stepped : ℕ → Event → Bool → List ℕ
-stepped x (event.Step t) true = mark_at mark.Step x (lane t) (event_text (event.Step t))
-stepped x _ _ = []
+-- the dot of a step in its task's lane
+abbrev pub step_dot : ℕ → ℕ → List ℕ
+step_dot x t = mark_at mark.Step x (lane t) (event_text (event.Step t))
+
+-- the dot, and the word of the step's instruction
+unfoldable pub step_mark : Watched → ℕ → ℕ → List ℕ
+step_mark before x t = step_dot x t ++ step_word x t (next_word before.program before.last t)
+
+-- a step that counts
+abbrev pub stepped : Watched → ℕ → Event → Bool → List ℕ
+stepped before x (event.Step t) true = step_mark before x t
+stepped before x _ _ = []
 
 abbrev pub idle_word : Bool → List ℕ
 idle_word is_counted = if is_counted then [] else codes " idle"
-
-abbrev pub number_class : Bool → List ℕ
-number_class is_counted = if is_counted then codes "number" else codes "number idle"
 
 -- the end of the event's words, followed by its number
 abbrev pub number_end : ℕ → List ℕ → List ℕ
 number_end n idle = idle ++ codes "</title>" ++ decimal n ++ codes "</text>\n"
 
--- the event's number above the lanes, struck if it doesn't count
+-- the event's number above the lanes
 abbrev pub number : ℕ → Applied → List ℕ
 number at a =
-    text_start (number_class a.is_counted) (column at) 44
+    text_start (codes "number") (column at) 44
     ++ (codes "<title>" ++ (event_text a.event ++ number_end a.number (idle_word a.is_counted)))
+
+-- the words of an event that doesn't count
+abbrev pub idle_words : Event → List ℕ
+idle_words e = event_text e ++ codes " idle"
+
+-- a stroke through the number of an event that doesn't count
+abbrev pub idle_mark : ℕ → Applied → List ℕ
+idle_mark at a =
+    if a.is_counted then [] else mark_at mark.Idle (column at) 40 (idle_words a.event)
+
+-- the number, with its stroke
+unfoldable pub event_number : ℕ → Applied → List ℕ
+event_number at a = number at a ++ idle_mark at a
 
 -- an event in this column, from what was seen before it and what is seen after it
 abbrev pub event_column : Watched → Watched → ℕ → Applied → List ℕ
 event_column before m at a =
-    number at a ++ (standing before m (column at) a.is_counted (shown m.state)
-    ++ stepped (column at) a.event a.is_counted)
+    event_number at a ++ (standing before m (column at) a.is_counted (shown m.state)
+    ++ stepped before (column at) a.event a.is_counted)
 
 -- the columns of these events, if those came before; the first ones have none
 abbrev pub columns_from : Program → ℕ → List Event → List Event → List ℕ
@@ -102,8 +123,9 @@ svg_start wide high =
     ++ (decimal wide ++ (codes " " ++ (decimal high ++ (codes "' width='" ++ (decimal wide
     ++ (codes "' height='" ++ (decimal high ++ codes "'>\n<title>")))))))
 
-abbrev pub sized : Watched → ℕ → List ℕ
-sized m events = svg_start (width events) (height (length m.last.tasks))
+-- the size of a picture of these many events, with these many keys
+abbrev pub sized : Watched → ℕ → ℕ → List ℕ
+sized m events keys = svg_start (width events) (height (length m.last.tasks) keys)
 
 -- the lines of all tasks and scopes
 unfoldable pub standing_lines : Watched → List ℕ
@@ -121,8 +143,8 @@ abbrev pub description : Watched → List ℕ
 description m = description_start ++ (standing_lines m ++ description_end)
 
 -- the size, the state of the run, and all tasks and scopes
-abbrev pub head : Watched → Drawn → List ℕ
-head m d = sized m (windows.columns d) ++ (heading m d ++ description m)
+abbrev pub head : Watched → Drawn → ℕ → List ℕ
+head m d keys = sized m (windows.columns d) keys ++ (heading m d ++ description m)
 
 -- the style, and the grid behind the lanes
 abbrev pub grid : List ℕ → ℕ → ℕ → List ℕ
@@ -140,22 +162,29 @@ backdrop m d =
     grid_of (windows.columns d) (length m.last.tasks)
     ++ (text_start (codes "heading") 12 22 ++ (heading m d ++ text_end))
 
--- what the marks mean, from this height on
-abbrev pub legend_at : ℕ → List ℕ → List ℕ
-legend_at y legend =
-    codes "<g transform='translate(12 " ++ decimal y ++ codes ")'>\n" ++ legend
-    ++ codes "</g>\n</svg>\n"
+-- the group of the legend, from this height on
+abbrev pub foot_start : ℕ → List ℕ
+foot_start y = codes "<g transform='translate(12 " ++ decimal y ++ codes ")'>\n"
 
-abbrev pub foot : ℕ → List ℕ
-foot tasks = legend_at (lane tasks) legend
+abbrev pub foot_end : List ℕ
+foot_end = codes "</g>\n</svg>\n"
+
+abbrev pub foot : ℕ → List Mark → List ℕ
+foot tasks keys = foot_start (lane tasks) ++ (legend keys ++ foot_end)
 
 -- the names of the lanes, and the legend
-abbrev pub below : Watched → List ℕ
-below m = lane_names m.program m.last m.last.tasks 0 ++ foot (length m.last.tasks)
+abbrev pub below : Watched → List Mark → List ℕ
+below m keys =
+    lane_names m.program m.last m.last.tasks 0 ++ foot (length m.last.tasks) keys
 
--- these columns between the head, the grid and the legend
+-- these columns between the head, the grid and the legend with these keys
+abbrev pub framed_with : Watched → Drawn → List ℕ → List Mark → List ℕ
+framed_with m d columns keys =
+    head m d (length keys) ++ (backdrop m d ++ (columns ++ below m keys))
+
+-- these columns in their frame; the legend has the marks that they have
 abbrev pub framed : Watched → Drawn → List ℕ → List ℕ
-framed m d columns = head m d ++ (backdrop m d ++ (columns ++ below m))
+framed m d columns = framed_with m d columns (keys columns)
 
 unfoldable pub picture : Program → Drawn → List Event → List ℕ
 picture p d events = framed (watched p events) d (columns p d.before events)

@@ -1,5 +1,5 @@
 -- The positions of a picture's columns, lanes and brackets, in pixels (this project's own).
-use Rattle.std.specs.Prelude.{ℕ, ◌+◌, ◌*◌, Bool, false, not, ◌&&◌, ◌==◌, nat_lt, min, max, take, count_by}
+use Rattle.std.specs.Prelude.{ℕ, ◌+◌, ◌*◌, ◌/◌, ◌%◌, Bool, false, not, ◌&&◌, ◌==◌, nat_lt, min, max, take, count_by}
 use Rattle.sts_model.specs.declared.record.Scope.{Scope}
 use Rattle.sts_model.specs.declared.record.Entry.{Entry}
 use Rattle.sts_model.specs.declared.record.Entry.TheVariants as entry
@@ -13,6 +13,13 @@ column n = 208 + 24 * n
 -- the middle of a task's lane
 abbrev pub lane : ℕ → ℕ
 lane t = 72 + 52 * t
+
+-- the heights of the flash for an interrupt and of the word for a step, over a task's lane
+abbrev pub over_lane : ℕ → ℕ
+over_lane t = 59 + 52 * t
+
+abbrev pub word_line : ℕ → ℕ
+word_line t = 64 + 52 * t
 
 -- is it a scope of this task, and not closed?
 abbrev pub is_open_of : ℕ → Scope → Bool
@@ -39,6 +46,14 @@ bracket w s = bracket_at (scope_at w s).owner (depth w s)
 abbrev pub width : ℕ → ℕ
 width events = max (column events + 168) 480
 
--- the height of a picture of these many tasks
-abbrev pub height : ℕ → ℕ
-height tasks = lane tasks + 76
+-- the place of a key of the legend, by its number, from the legend's left and from its top; there are
+-- two in a row
+abbrev pub key_x : ℕ → ℕ
+key_x n = 232 * (n % 2)
+
+abbrev pub key_y : ℕ → ℕ
+key_y n = 20 * (n / 2)
+
+-- the height of a picture of these many tasks, with these many keys in its legend
+abbrev pub height : ℕ → ℕ → ℕ
+height tasks keys = lane tasks + 20 * ((keys + 1) / 2)

@@ -149,6 +149,29 @@ fn was_cancelled(change: Change<'_>, s: u32) -> bool
     change.world.records().is_cancelled(s) && !change.before.records().is_cancelled(s)
 }
 
+/// The mark of a cancel, by the scope's phase after it.
+fn cancel_mark(phase: Phase) -> Mark
+    ensures { result ≡ def.cancel_mark phase }
+{
+    match phase {
+        Phase::Closed => Mark::QuietCancel,
+        Phase::Opened | Phase::Attempted | Phase::Joined | Phase::Closing => Mark::Cancelled,
+    }
+}
+
+/// The mark for a cancel, if it was cancelled since the column before.
+fn cancel_edge(out: &mut String, change: Change<'_>, s: u32) -> Result<(), AllocError>
+    requires { s < length change.world.now.scopes }
+    ensures { OnOk result (string_bytes out.new ≡ string_bytes out.old
+        ++ def.cancel_edge change.entry.before.now change.entry.world.now change.entry.x s) }
+{
+    if !was_cancelled(change, s) {
+        return Ok(());
+    }
+    let phase = change.world.records().phase(s);
+    mark_if(out, true, cancel_mark(phase), change, s, "cancelled")
+}
+
 /// The marks for a change of its phase, for an expiry and for a cancel.
 fn edges(out: &mut String, change: Change<'_>, s: u32) -> Result<(), AllocError>
     requires { s < length change.world.now.scopes }
@@ -158,10 +181,9 @@ fn edges(out: &mut String, change: Change<'_>, s: u32) -> Result<(), AllocError>
     let word = phase_word(change.world.records().phase(s));
     let moved = has_moved(change, s);
     let expired = has_expired(change, s);
-    let cancelled = was_cancelled(change, s);
     mark_if(out, moved, Mark::Edge, change, s, word)?;
     mark_if(out, expired, Mark::Expired, change, s, "expired")?;
-    mark_if(out, cancelled, Mark::Cancelled, change, s, "cancelled")
+    cancel_edge(out, change, s)
 }
 
 fn scope_cell(out: &mut String, change: Change<'_>, s: u32) -> Result<(), AllocError>

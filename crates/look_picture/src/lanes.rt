@@ -6,7 +6,7 @@ ghost use Rattle.look_picture.specs.Lanes as def;
 
 use crate::change::Change;
 use crate::marks::Mark;
-use crate::place::lane;
+use crate::place::{lane, over_lane};
 use crate::writing::{mark_end, mark_start, text_end, text_start};
 use look_lines::{is_heard, stand_words, under_words};
 use std::alloc::AllocError;
@@ -171,7 +171,7 @@ fn interrupted(out: &mut String, change: Change<'_>, t: u32) -> Result<(), Alloc
     if !change.world.records().flag(t) || change.before.records().flag(t) {
         return Ok(());
     }
-    mark_start(out, Mark::Interrupted, change.x, lane(t))?;
+    mark_start(out, Mark::Interrupted, change.x, over_lane(t))?;
     write!(out, "task {t} interrupted")?;
     mark_end(out)
 }

@@ -4,14 +4,16 @@
 pub mod brackets;
 pub mod change;
 pub mod lanes;
+mod legend;
 pub mod marks;
 pub mod picture;
 pub mod place;
 pub mod present;
 mod style;
 pub mod window;
+mod words;
 pub mod writing;
 
 pub use picture::Picture;
-pub use style::{LEGEND, STYLE};
+pub use style::STYLE;
 pub use window::Window;

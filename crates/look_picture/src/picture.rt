@@ -8,15 +8,18 @@ ghost use Rattle.look_lines.specs.Watched.{watched};
 ghost use Rattle.look_picture.specs.Picture as def;
 ghost use Rattle.look_picture.specs.Present as numbers;
 ghost use Rattle.look_picture.specs.Present.{AreHeld, Follows};
+ghost use Rattle.look_picture.specs.declared.legend.TheConstants.{MOST_KEYS};
 
 use crate::brackets::scope_cells;
 use crate::change::Change;
 use crate::lanes::{lane_names, task_cells};
+use crate::legend::{keys, legend};
 use crate::marks::Mark;
 use crate::place::{column, height, lane, width};
 use crate::present::Present;
-use crate::style::{legend, style};
+use crate::style::style;
 use crate::window::{Drawn, Window, left_out, shown_events};
+use crate::words::{next_word, step_word};
 use crate::writing::{mark_end, mark_start, text_end, text_start};
 use look_lines::{Applied, Form, Run, ViewOptions, Watch, after, event_words, view_lines};
 use std::alloc::{AllocError, Global};
@@ -87,17 +90,39 @@ fn standing(
     }
 }
 
-/// A step that counts, in its task's lane.
-fn stepped(out: &mut String, x: u128, applied: Applied) -> Result<(), AllocError>
+/// The dot of a step in its task's lane.
+fn step_dot(out: &mut String, x: u128, t: u32) -> Result<(), AllocError>
+    ensures { OnOk result (string_bytes out.new ≡ string_bytes out.old ++ def.step_dot x t) }
+{
+    mark_start(out, Mark::Step, x, lane(t))?;
+    event_words(out, Event::Step(t))?;
+    mark_end(out)
+}
+
+/// The dot of a step in its task's lane, and the word of its instruction.
+#[tactic(auto, unfolding(crate::specs::Picture::step_mark))]
+fn step_mark(out: &mut String, seen: Seen<'_, '_>, x: u128, t: u32) -> Result<(), AllocError>
     ensures { OnOk result (string_bytes out.new
-        ≡ string_bytes out.old ++ def.stepped x applied.event applied.is_counted) }
+        ≡ string_bytes out.old ++ def.step_mark seen.entry.before.now x t) }
+{
+    let before = seen.before;
+    let word = next_word(before.program(), before.world().records(), t);
+    step_dot(out, x, t)?;
+    step_word(out, x, t, word)
+}
+
+/// A step that counts, in its task's lane.
+fn stepped(
+    out: &mut String,
+    seen: Seen<'_, '_>,
+    x: u128,
+    applied: Applied,
+) -> Result<(), AllocError>
+    ensures { OnOk result (string_bytes out.new ≡ string_bytes out.old
+        ++ def.stepped seen.entry.before.now x applied.event applied.is_counted) }
 {
     match applied.event {
-        Event::Step(t) if applied.is_counted => {
-            mark_start(out, Mark::Step, x, lane(t))?;
-            event_words(out, applied.event)?;
-            mark_end(out)
-        }
+        Event::Step(t) if applied.is_counted => step_mark(out, seen, x, t),
         Event::Step(_) | Event::Interrupt(_) | Event::Expire(_) => Ok(()),
     }
 }
@@ -107,12 +132,6 @@ fn idle_word(is_counted: bool) -> &'static str
     ensures { result.now ≡ def.idle_word is_counted }
 {
     if is_counted { "" } else { " idle" }
-}
-
-fn number_class(is_counted: bool) -> &'static str
-    ensures { result.now ≡ def.number_class is_counted }
-{
-    if is_counted { "number" } else { "number idle" }
 }
 
 /// The end of the event's words, followed by its number.
@@ -127,10 +146,41 @@ fn number_end(out: &mut String, n: usize, idle: &str) -> Result<(), AllocError>
 fn number(out: &mut String, at: usize, applied: Applied) -> Result<(), AllocError>
     ensures { OnOk result (string_bytes out.new ≡ string_bytes out.old ++ def.number at applied) }
 {
-    text_start(out, number_class(applied.is_counted), column(at), 44)?;
+    text_start(out, "number", column(at), 44)?;
     write!(out, "<title>")?;
     event_words(out, applied.event)?;
     number_end(out, applied.number, idle_word(applied.is_counted))
+}
+
+/// The words of an event that doesn't count.
+fn idle_words(out: &mut String, event: Event) -> Result<(), AllocError>
+    ensures { OnOk result (string_bytes out.new ≡ string_bytes out.old ++ def.idle_words event) }
+{
+    event_words(out, event)?;
+    write!(out, " idle")
+}
+
+/// A stroke through the number of an event that doesn't count.
+fn idle_mark(out: &mut String, at: usize, applied: Applied) -> Result<(), AllocError>
+    ensures { OnOk result (string_bytes out.new
+        ≡ string_bytes out.old ++ def.idle_mark at applied) }
+{
+    if applied.is_counted {
+        return Ok(());
+    }
+    mark_start(out, Mark::Idle, column(at), 40)?;
+    idle_words(out, applied.event)?;
+    mark_end(out)
+}
+
+/// The event's number above the lanes, with its stroke.
+#[tactic(auto, unfolding(crate::specs::Picture::event_number))]
+fn event_number(out: &mut String, at: usize, applied: Applied) -> Result<(), AllocError>
+    ensures { OnOk result (string_bytes out.new
+        ≡ string_bytes out.old ++ def.event_number at applied) }
+{
+    number(out, at, applied)?;
+    idle_mark(out, at, applied)
 }
 
 /// An event in a column.
@@ -143,9 +193,9 @@ fn event_column(
     ensures { OnOk result (string_bytes out.new ≡ string_bytes out.old
         ++ def.event_column seen.entry.before.now seen.entry.watch.now at applied) }
 {
-    number(out, at, applied)?;
+    event_number(out, at, applied)?;
     standing(out, seen, column(at), applied.is_counted)?;
-    stepped(out, column(at), applied)
+    stepped(out, seen, column(at), applied)
 }
 
 /// Skips the first events, applies the others to two machines in order, and draws a column for
@@ -250,13 +300,14 @@ fn svg_start(out: &mut String, wide: u128, high: u64) -> Result<(), AllocError>
     )
 }
 
-/// The size.
-fn sized(out: &mut String, watch: &Watch<'_>, events: usize) -> Result<(), AllocError>
+/// The size of a picture of these many events, with these many keys.
+fn sized(out: &mut String, watch: &Watch<'_>, events: usize, keys: usize) -> Result<(), AllocError>
+    requires { keys ≤ MOST_KEYS }
     ensures { OnOk result (string_bytes out.new
-        ≡ string_bytes out.old ++ def.sized watch.now events) }
+        ≡ string_bytes out.old ++ def.sized watch.now events keys) }
 {
     let tasks = watch.world().records().tasks_born();
-    svg_start(out, width(events), height(tasks))
+    svg_start(out, width(events), height(tasks, keys))
 }
 
 /// The lines of all tasks and scopes.
@@ -296,12 +347,13 @@ fn description(out: &mut String, watch: &Watch<'_>) -> Result<(), AllocError>
 }
 
 /// The size, the state of the run, and all tasks and scopes.
-fn head(out: &mut String, watch: &Watch<'_>, drawn: Drawn) -> Result<(), AllocError>
-    requires { drawn.last ≤ drawn.all }
+fn head(out: &mut String, watch: &Watch<'_>, drawn: Drawn, keys: usize) -> Result<(), AllocError>
+    requires ordered { drawn.last ≤ drawn.all }
+    requires few { keys ≤ MOST_KEYS }
     ensures { OnOk result (string_bytes out.new
-        ≡ string_bytes out.old ++ def.head watch.now drawn) }
+        ≡ string_bytes out.old ++ def.head watch.now drawn keys) }
 {
-    sized(out, watch, drawn.columns())?;
+    sized(out, watch, drawn.columns(), keys)?;
     heading(out, watch, drawn)?;
     description(out, watch)
 }
@@ -339,35 +391,64 @@ fn backdrop(out: &mut String, watch: &Watch<'_>, drawn: Drawn) -> Result<(), All
     text_end(out)
 }
 
-/// The legend, from this height on.
-fn legend_at(out: &mut String, y: u64, legend: &str) -> Result<(), AllocError>
-    ensures { OnOk result (string_bytes out.new
-        ≡ string_bytes out.old ++ def.legend_at y legend.now) }
+/// The group of the legend begins, from this height on.
+fn foot_start(out: &mut String, y: u64) -> Result<(), AllocError>
+    ensures { OnOk result (string_bytes out.new ≡ string_bytes out.old ++ def.foot_start y) }
 {
-    write!(
-        out,
-        "<g transform='translate(12 {y})'>\n{legend}</g>\n</svg>\n"
-    )
+    writeln!(out, "<g transform='translate(12 {y})'>")
 }
 
-fn foot(out: &mut String, tasks: usize) -> Result<(), AllocError>
-    requires { tasks ≤ MAX_BIRTHS }
-    ensures { OnOk result (string_bytes out.new ≡ string_bytes out.old ++ def.foot tasks) }
+fn foot_end(out: &mut String) -> Result<(), AllocError>
+    ensures { OnOk result (string_bytes out.new ≡ string_bytes out.old ++ def.foot_end) }
 {
-    legend_at(out, lane(tasks as u32), legend())
+    out.push_str("</g>\n</svg>\n")
+}
+
+/// The legend under the lanes.
+fn foot(out: &mut String, tasks: usize, keys: &[Mark]) -> Result<(), AllocError>
+    requires tasks { tasks ≤ MAX_BIRTHS }
+    requires few { length keys.now ≤ MOST_KEYS }
+    ensures { OnOk result (string_bytes out.new
+        ≡ string_bytes out.old ++ def.foot tasks keys.now) }
+{
+    foot_start(out, lane(tasks as u32))?;
+    legend(out, keys)?;
+    foot_end(out)
 }
 
 /// The names of the lanes, and the legend.
-fn below(out: &mut String, watch: &Watch<'_>) -> Result<(), AllocError>
-    ensures { OnOk result (string_bytes out.new ≡ string_bytes out.old ++ def.below watch.now) }
+fn below(out: &mut String, watch: &Watch<'_>, keys: &[Mark]) -> Result<(), AllocError>
+    requires { length keys.now ≤ MOST_KEYS }
+    ensures { OnOk result (string_bytes out.new
+        ≡ string_bytes out.old ++ def.below watch.now keys.now) }
 {
     let records = watch.world().records();
     lane_names(out, watch.program(), records)?;
-    foot(out, records.tasks_born())
+    foot(out, records.tasks_born(), keys)
+}
+
+/// Puts these columns between the head, the grid and the legend with these keys.
+fn framed_with(
+    out: &mut String,
+    watch: &Watch<'_>,
+    drawn: Drawn,
+    columns: &str,
+    keys: &[Mark],
+) -> Result<(), AllocError>
+    requires ordered { drawn.last ≤ drawn.all }
+    requires few { length keys.now ≤ MOST_KEYS }
+    ensures { OnOk result (string_bytes out.new ≡ string_bytes out.old
+        ++ def.framed_with watch.now drawn columns.now keys.now) }
+{
+    head(out, watch, drawn, keys.len())?;
+    backdrop(out, watch, drawn)?;
+    out.push_str(columns)?;
+    below(out, watch, keys)
 }
 
 /// Puts these columns between the head, the grid and the legend.
 fn framed(
+    alloc: Global,
     out: &mut String,
     watch: &Watch<'_>,
     drawn: Drawn,
@@ -377,10 +458,8 @@ fn framed(
     ensures { OnOk result (string_bytes out.new
         ≡ string_bytes out.old ++ def.framed watch.now drawn columns.now) }
 {
-    head(out, watch, drawn)?;
-    backdrop(out, watch, drawn)?;
-    out.push_str(columns)?;
-    below(out, watch)
+    let keys = keys(alloc, columns)?;
+    framed_with(out, watch, drawn, columns, keys.as_slice())
 }
 
 /// The picture of a run of these events, and the status of the machine's last state.
@@ -397,7 +476,7 @@ fn picture_of(
     let mut columns_text = String::new(alloc);
     let watch = columns(alloc, &mut columns_text, program, drawn.before, events)?;
     let mut text = String::new(alloc);
-    framed(&mut text, &watch, drawn, columns_text.as_str())?;
+    framed(alloc, &mut text, &watch, drawn, columns_text.as_str())?;
     Ok(Output {
         text,
         status: state_status(watch.state()),

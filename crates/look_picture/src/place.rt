@@ -3,6 +3,7 @@
 ghost use Rattle.std.specs.Prelude.{◌≡◌, ◌≤◌};
 ghost use Rattle.sts_code.specs.declared.limits.TheConstants.{MAX_BIRTHS};
 ghost use Rattle.look_picture.specs.Place as def;
+ghost use Rattle.look_picture.specs.declared.legend.TheConstants.{MOST_KEYS};
 
 use std::cmp;
 
@@ -20,6 +21,20 @@ pub fn lane(t: u32) -> u64
     72 + 52 * u64::from(t)
 }
 
+/// The height of the flash for an interrupt, over a task's lane.
+pub fn over_lane(t: u32) -> u64
+    ensures { result ≡ def.over_lane t }
+{
+    59 + 52 * u64::from(t)
+}
+
+/// The height of the word for a step, over a task's lane.
+pub fn word_line(t: u32) -> u64
+    ensures { result ≡ def.word_line t }
+{
+    64 + 52 * u64::from(t)
+}
+
 /// The bracket of a scope of this task, by the number of the task's scopes that it is in.
 pub fn bracket(owner: u32, depth: usize) -> u64
     ensures { result ≡ def.bracket_at owner depth }
@@ -34,10 +49,26 @@ pub fn width(events: usize) -> u128
     cmp::max(column(events) + 168, 480)
 }
 
-/// The height of a picture of `tasks` tasks.
-pub fn height(tasks: usize) -> u64
-    requires { tasks ≤ MAX_BIRTHS }
-    ensures { result ≡ def.height tasks }
+/// The place of a key of the legend, by its number, from the legend's left.
+pub fn key_x(n: usize) -> u128
+    ensures { result ≡ def.key_x n }
 {
-    lane(tasks as u32) + 76
+    232 * (n % 2) as u128
+}
+
+/// The height of a key of the legend, by its number, from the legend's top.
+pub fn key_y(n: usize) -> u64
+    requires { n ≤ MOST_KEYS }
+    ensures { result ≡ def.key_y n }
+{
+    20 * (n / 2) as u64
+}
+
+/// The height of a picture of `tasks` tasks with this many keys in its legend.
+pub fn height(tasks: usize, keys: usize) -> u64
+    requires tasks { tasks ≤ MAX_BIRTHS }
+    requires keys { keys ≤ MOST_KEYS }
+    ensures { result ≡ def.height tasks keys }
+{
+    lane(tasks as u32) + 20 * ((keys + 1) / 2) as u64
 }

@@ -9,13 +9,14 @@ use std::alloc::AllocError;
 use std::fmt::Write;
 
 /// A mark at a point, up to the words that describe it.
+#[tactic(auto, unfolding(crate::specs::Writing::mark_start))]
 pub(crate) fn mark_start(out: &mut String, mark: Mark, x: u128, y: u64) -> Result<(), AllocError>
     ensures { OnOk result (string_bytes out.new
         ≡ string_bytes out.old ++ def.mark_start mark x y) }
 {
-    let class = mark.class();
+    let begins = mark.begins();
     let shape = mark.shape();
-    write!(out, "<path class='{class}' d='M{x} {y}{shape}'><title>")
+    write!(out, "{begins} d='M{x} {y}{shape}'><title>")
 }
 
 pub(crate) fn mark_end(out: &mut String) -> Result<(), AllocError>
@@ -25,6 +26,7 @@ pub(crate) fn mark_end(out: &mut String) -> Result<(), AllocError>
 }
 
 /// A text of a class begins at a point.
+#[tactic(auto, unfolding(crate::specs::Writing::text_start))]
 pub(crate) fn text_start(out: &mut String, class: &str, x: u128, y: u64) -> Result<(), AllocError>
     ensures { OnOk result (string_bytes out.new
         ≡ string_bytes out.old ++ def.text_start class.now x y) }

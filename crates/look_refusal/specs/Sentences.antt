@@ -24,9 +24,10 @@ remedy_sentence r.WaysDiffer =
     codes "two ways meet here, or a loop turns, and differ: make alike what is listed, or end one way by ret"
 remedy_sentence r.NeverReached =
     codes "this can never be reached: leave it out, or let a jump lead here"
-remedy_sentence r.NoScope = codes "this slot holds no scope: open one there first"
+remedy_sentence r.NoScope = codes "this slot holds no scope here: open one first, or use it before its close"
 remedy_sentence r.HoldsSubtask = codes "this slot holds a subtask: name the slot of a scope"
-remedy_sentence r.NoSubtask = codes "this slot holds no subtask: fork one into it first"
+remedy_sentence r.NoSubtask =
+    codes "this slot holds no subtask here: fork one first, or use it before the close of its scope"
 remedy_sentence r.HoldsScope = codes "this slot holds a scope: name the slot of a subtask"
 remedy_sentence r.FillsScope =
     codes "this slot holds an open scope: close it first, or take another slot"
@@ -42,11 +43,11 @@ remedy_sentence r.JoinedAlready = codes "this scope was joined already: leave th
 remedy_sentence r.CloseBeforeJoin = codes "join this scope before you close it"
 remedy_sentence r.ReadBeforeJoin = codes "join this scope before you read its subtasks"
 remedy_sentence r.ReadAfterInterrupt =
-    codes "the join of this scope was interrupted: join it again before you read its subtasks"
+    codes "the join of this scope was interrupted: close it, or join it again first (JDK 25 can't)"
 remedy_sentence r.ReadAfterTimeout =
     codes "in profile 1 nothing is read after a timeout: close the scope, or use profile 2"
 remedy_sentence r.NotKnownSuccess =
-    codes "not known to have succeeded: use the success label of case, or ok of join under all or awaitok"
+    codes "not known to have succeeded: read it at the success label of case, or where a join of all or awaitok goes on"
 remedy_sentence r.NotKnownFailed = codes "not known to have failed: use the failed label of case"
 remedy_sentence r.StillOpen = codes "close every scope and end every binding before this"
 remedy_sentence r.OpenedLater =

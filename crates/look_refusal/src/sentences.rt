@@ -27,9 +27,11 @@ pub fn remedy_sentence(remedy: Remedy) -> &'static str
             "two ways meet here, or a loop turns, and differ: make alike what is listed, or end one way by ret"
         }
         Remedy::NeverReached => "this can never be reached: leave it out, or let a jump lead here",
-        Remedy::NoScope => "this slot holds no scope: open one there first",
+        Remedy::NoScope =>
+            "this slot holds no scope here: open one first, or use it before its close",
         Remedy::HoldsSubtask => "this slot holds a subtask: name the slot of a scope",
-        Remedy::NoSubtask => "this slot holds no subtask: fork one into it first",
+        Remedy::NoSubtask =>
+            "this slot holds no subtask here: fork one first, or use it before the close of its scope",
         Remedy::HoldsScope => "this slot holds a scope: name the slot of a subtask",
         Remedy::FillsScope => "this slot holds an open scope: close it first, or take another slot",
         Remedy::FillsParentScope => {
@@ -46,14 +48,14 @@ pub fn remedy_sentence(remedy: Remedy) -> &'static str
         Remedy::CloseBeforeJoin => "join this scope before you close it",
         Remedy::ReadBeforeJoin => "join this scope before you read its subtasks",
         Remedy::ReadAfterInterrupt => {
-            "the join of this scope was interrupted: join it again before you read its subtasks"
+            "the join of this scope was interrupted: close it, or join it again first (JDK 25 can't)"
         }
         Remedy::ReadAfterTimeout => {
             "in profile 1 nothing is read after a timeout: close the scope, or use profile 2"
         }
         Remedy::NotKnownSuccess => {
-            "not known to have succeeded: use the success label of case, or ok of join under all \
-                or awaitok"
+            "not known to have succeeded: read it at the success label of case, or where a join of \
+                all or awaitok goes on"
         }
         Remedy::NotKnownFailed => "not known to have failed: use the failed label of case",
         Remedy::StillOpen => "close every scope and end every binding before this",

@@ -56,11 +56,16 @@ statements_of_java =
     ∷ (codes "for", codes "times")
     ∷ (codes "while", codes "times")
     ∷ (codes "var", codes "a slot or a local")
-    ∷ (codes "}", codes "close, next or end") ∷ []
+    ∷ (codes "}", codes "close, next or end")
+    ∷ (codes "//", codes ";") ∷ []
 
--- a method of a scope's configuration
+-- a method of a scope's configuration, or a comment
 abbrev pub timeouts_of_java : List (List ℕ × List ℕ)
-timeouts_of_java = (codes "withTimeout", codes "timed") ∷ []
+timeouts_of_java = (codes "withTimeout", codes "timed") ∷ (codes "//", codes ";") ∷ []
+
+-- what begins a comment behind an instruction
+abbrev pub comments_of_java : List (List ℕ × List ℕ)
+comments_of_java = (codes "//", codes ";") ∷ []
 
 -- what begins the head of a method
 abbrev pub heads_of_java : List (List ℕ × List ℕ)
@@ -68,13 +73,15 @@ heads_of_java =
     (codes "static", codes "func")
     ∷ (codes "public", codes "func")
     ∷ (codes "private", codes "func")
-    ∷ (codes "void", codes "func") ∷ []
+    ∷ (codes "void", codes "func")
+    ∷ (codes "//", codes ";") ∷ []
 
 -- the names that may be written at a place of a line
 abbrev pub names_of_java : Expected → List (List ℕ × List ℕ)
 names_of_java w.Joiner = joiners_of_java
 names_of_java w.Inner = statements_of_java
 names_of_java w.Timed = timeouts_of_java
+names_of_java w.Nothing = comments_of_java
 names_of_java w.Outer = heads_of_java
 names_of_java wanted = []
 

@@ -18,7 +18,7 @@ static JOINERS: [Row; 5] = [
     ("allUntil", "until"),
 ];
 
-static STATEMENTS: [Row; 23] = [
+static STATEMENTS: [Row; 24] = [
     ("try", "open"),
     ("open", "open"),
     ("withTimeout", "timed, at the end of open,"),
@@ -42,15 +42,19 @@ static STATEMENTS: [Row; 23] = [
     ("while", "times"),
     ("var", "a slot or a local"),
     ("}", "close, next or end"),
+    ("//", ";"),
 ];
 
-static TIMEOUTS: [Row; 1] = [("withTimeout", "timed")];
+static TIMEOUTS: [Row; 2] = [("withTimeout", "timed"), ("//", ";")];
 
-static HEADS: [Row; 4] = [
+static COMMENTS: [Row; 1] = [("//", ";")];
+
+static HEADS: [Row; 5] = [
     ("static", "func"),
     ("public", "func"),
     ("private", "func"),
     ("void", "func"),
+    ("//", ";"),
 ];
 
 fn is_paren(b: u8) -> bool
@@ -106,6 +110,7 @@ fn names_of_java(wanted: Expected) -> &'static [Row]
         Expected::Joiner => &JOINERS,
         Expected::Inner => &STATEMENTS,
         Expected::Timed => &TIMEOUTS,
+        Expected::Nothing => &COMMENTS,
         Expected::Outer => &HEADS,
         _ => &[],
     }

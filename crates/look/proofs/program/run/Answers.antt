@@ -1,4 +1,4 @@
-use Rattle.std.proofs.Common.{map, ap, subst}
+use Rattle.std.proofs.Common.{map, ap, subst, sym}
 use Rattle.std.proofs.KnownBytes.{Keeps-refl}
 use Rattle.std.proofs.lemmas.Result.{IfOk-weaker}
 use Rattle.sts_output.specs.Output.{Output}
@@ -6,11 +6,17 @@ use Rattle.look_args.specs.Asked.{Refuses}
 use Rattle.look.specs.Ending as def
 use Rattle.look.proofs.program.run.Goals as goal
 
-pub returns-in-Ok : goal.returns-in-Ok
-returns-in-Ok g c =
+pub returns-in-None : goal.returns-in-None
+returns-in-None g c =
     IfOk-weaker c.on_line.result _ _
-    (λ s h. def.shown c.in-Ok.asked h.0 c.in-Ok.ensures.asked h.1 (record { written = h.2; kept = Keeps-refl _ }))
+    (λ s h. def.shown c.in-Ok.asked h.0 c.in-Ok.ensures.asked (sym c.in-None.ensures) h.1 (record { written = h.2; kept = Keeps-refl _ }))
     c.on_line.ensures
+
+pub returns-in-Some : goal.returns-in-Some
+returns-in-Some g c =
+    IfOk-weaker c.on_piped.result _ _
+    (λ s h. def.piped c.in-Ok.asked c.in-Some.piped c.in-Ok.ensures.asked (sym c.in-Some.ensures) h)
+    c.on_piped.ensures
 
 pub returns-in-Err-Help : goal.returns-in-Err-Help
 returns-in-Err-Help g c =

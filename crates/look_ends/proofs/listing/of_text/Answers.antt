@@ -15,16 +15,13 @@ use Rattle.look_ends.proofs.listing.of_text.Goals as goal
 fault_lists : (text : List ℕ) (wanted : EndsOptions) (number : Option ℕ) (o : Output) → IsTextFault text o → def.Lists (judged text) text wanted number (def.alone o)
 fault_lists text wanted number o h = subst (λ (r : Result Program AsmError). def.Lists r text wanted number (def.alone o)) (sym h.fault) (ap def.alone h.printed)
 
-pub returns-in_err-outline : goal.returns-in_err-outline
-returns-in_err-outline g c =
-    let p = err_from_is_err_and c.from_residual.result c.from_residual.ensures.1 in
-    rw (p.1, p.2) (says_less c.in_err-outline.field-0.0 (IsTextFault c.args.text.now) (λ (o : Output). def.Lists (judged c.args.text.now) c.args.text.now c.args.wanted c.args.number (def.alone o)) (fault_lists c.args.text.now c.args.wanted c.args.number) c.in_err-outline.ensures)
-
 pub returns-in_err-program : goal.returns-in_err-program
 returns-in_err-program g c =
-    let p = err_from_is_err_and c.from_residual-in_err-program.result c.from_residual-in_err-program.ensures.1 in
+    let p = err_from_is_err_and c.from_residual.result c.from_residual.ensures.1 in
     rw (p.1, p.2) (says_less c.in_err-program.field-0.0 (IsTextFault c.args.text.now) (λ (o : Output). def.Lists (judged c.args.text.now) c.args.text.now c.args.wanted c.args.number (def.alone o)) (fault_lists c.args.text.now c.args.wanted c.args.number) c.in_err-program.ensures)
 
 pub returns : goal.returns
 returns g c =
-    subst (λ (r : Result Program AsmError). def.Lists r c.args.text.now c.args.wanted c.args.number c.in_ok-listing.listing) (sym c.in_ok-program.ensures) (c.in_ok-outline.outline, (c.in_ok-outline.ensures, c.in_ok-listing.ensures))
+    let setting = def.setting c.in_ok-program.program c.args.wanted in
+    let listed = subst (λ (text : List ℕ). def.ListsBy c.args.wanted.manner text setting c.args.number c.in_ok-listing.listing) c.in_ok-names.ensures c.in_ok-listing.ensures in
+    subst (λ (r : Result Program AsmError). def.Lists r c.args.text.now c.args.wanted c.args.number c.in_ok-listing.listing) (sym c.in_ok-program.ensures) listed

@@ -29,7 +29,6 @@ returns c =
     moved ∙ ap (λ (word : List ℕ). out ++ def.mark_if (def.has_moved before w s) mark.Edge w x s word) c.phase_word-word.ensures in
     let first = named ∙ ap (λ phase. out ++ def.mark_if (def.has_moved before w s) mark.Edge w x s (phase_word phase)) (c.phase.ensures ∙ ap (λ (v : World). (scope_at v s).phase) c.records.ensures) in
     let second = c.in_ok-mark_if-2.ensures ∙ ap (λ (is_shown : Bool). one ++ def.mark_if is_shown mark.Expired w x s (codes "expired")) c.has_expired-expired.ensures in
-    on_ok_weaker c.mark_if-3.result
-    (λ h. three_said _ _ _ out one two (string_bytes c.mark_if-3.new.out) first second
-    (h ∙ ap (λ (is_shown : Bool). two ++ def.mark_if is_shown mark.Cancelled w x s (codes "cancelled")) c.was_cancelled-cancelled.ensures))
-    c.mark_if-3.ensures
+    on_ok_weaker c.cancel_edge.result
+    (λ h. three_said _ _ _ out one two (string_bytes c.cancel_edge.new.out) first second h)
+    c.cancel_edge.ensures

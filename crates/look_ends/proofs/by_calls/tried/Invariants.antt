@@ -1,0 +1,5 @@
+use Rattle.ends_plain.specs.Listed.{AreEnds}
+use Rattle.look_ends.proofs.by_calls.tried.Given as goal
+
+abbrev pub invariant-loop : goal.invariant-loop
+invariant-loop g l = AreEnds l.setting l.calls.found.items
