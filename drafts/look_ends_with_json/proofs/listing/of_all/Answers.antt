@@ -1,0 +1,21 @@
+use Rattle.std.proofs.Common.{subst}
+use Rattle.std.proofs.lemmas.Result.{IfOk-weaker}
+use Rattle.ends_plain.specs.Listed.{AreEnds}
+use Rattle.ends_plain.specs.declared.config.Setting.{Setting}
+use Rattle.look_ends.proofs.ListingLemmas.{search_of, still_all}
+use Rattle.look_ends.proofs.listing.of_all.Goals as goal
+
+pub answered-requires : goal.answered-requires
+answered-requires g c = rw c.setting-asked.ensures c.in_ok-ends.ensures.sound
+
+pub returns : goal.returns
+returns g c =
+    let x = c.in_ok-exploration.exploration in
+    let ends = c.in_ok-ends.ends in
+    let all = c.in_ok-all.all in
+    let sound = subst (λ (y : Setting). AreEnds y all.found.items) c.setting-asked.ensures c.in_ok-all.ensures.sound in
+    let complete = still_all x ends.found.items all.found.items ends.whole all.whole c.in_ok-ends.ensures.complete c.in_ok-all.ensures.whole in
+    IfOk-weaker c.searched.result _ _
+    (λ l h. search_of c.args.json c.args.setting x c.setting-asked.result.now c.args.names.now c.args.number c.args.is_refused all.found.items all.states all.whole all.by_calls l
+    c.setting-asked.ensures c.in_ok-exploration.ensures sound complete c.requires h)
+    c.searched.ensures

@@ -1,0 +1,4 @@
+pub mod Json
+pub mod Lines
+pub mod Listing
+pub mod States

@@ -1,0 +1,155 @@
+-- What is printed of the ends of a text, and the trace that is kept (this project's own).
+use Rattle.std.specs.Prelude.{◌≡◌, ◌⊎◌, ℕ, List, [], ◌++◌, Bool, true, false, ◌&&◌}
+use Rattle.std.specs.Prelude.{if◌then◌else◌, Option, Some, None, Result, Ok, Err}
+use Rattle.sts_code.specs.Program.{Program}
+use Rattle.sts_model.specs.declared.event.Event.{Event}
+use Rattle.sts_rules.specs.Refusal.{IsAccepted, IsRefusal}
+use Rattle.sts_rules.specs.declared.typing.Cause.{Cause}
+use Rattle.sts_asm.specs.Text.{judged}
+use Rattle.sts_asm.specs.declared.fault.AsmError.{AsmError}
+use Rattle.sts_output.specs.Output.{Output, memory_output}
+use Rattle.sts_output.specs.Streams.{Written, WritesBoth}
+use Rattle.ends_plain.specs.Ends.{AreAll}
+use Rattle.ends_plain.specs.Listed.{AreEnds, ends_of}
+use Rattle.ends_plain.specs.declared.config.Found.{Found}
+use Rattle.ends_plain.specs.declared.config.Setting.{Setting}
+use Rattle.look_refusal.specs.Output.{fault_output}
+use Rattle.look_ends.specs.Json.{fault_object, found_objects, sample_object, sampled_objects, search_object}
+use Rattle.look_ends.specs.Lines.{by_calls_line, found_at, found_lines, has_number, no_number_line, refused_line}
+use Rattle.look_ends.specs.Lines.{sampled_lines, schedules_line, states_line, unfinished_line}
+use Rattle.look_ends.specs.declared.wanted.Manner.{Manner}
+use Rattle.look_ends.specs.declared.wanted.Manner.TheVariants as manner
+use Rattle.look_ends.specs.declared.wanted.EndsOptions.{EndsOptions}
+
+-- ---- what is printed
+
+-- what is printed, and the events of the trace that is kept
+pub record Listing : Type 0 where
+  pub output : Output
+  pub trace : List Event
+
+-- this output, and no trace
+abbrev pub alone : Output → Listing
+alone o = record { output = o; trace = [] }
+
+abbrev pub events_of : Option Found → List Event
+events_of None = []
+events_of (Some f) = f.trace.items
+
+-- the trace of the end whose number is asked for, the first one having number 1
+abbrev pub trace_of : Option ℕ → List Found → List Event
+trace_of None found = []
+trace_of (Some k) found = events_of (found_at found k)
+
+-- 0 if all schedules were tried, and an end that was asked for is there
+abbrev pub status_of : Bool → Option ℕ → List Found → ℕ
+status_of whole number found = if whole && has_number number found then 0 else 5
+
+-- a line for each end, then what is to be said of all of them; as JSON or not
+abbrev pub searched_bytes : Bool → List ℕ → Setting → Bool → Option ℕ → List Found → ℕ → Bool
+    → Option ℕ → List ℕ
+searched_bytes true text g is_refused number found states whole by_calls =
+    found_objects text g.program found 0 ++ search_object is_refused states whole by_calls
+searched_bytes false text g is_refused number found states whole by_calls =
+    found_lines text g.program found 0 ++ (refused_line g is_refused whole found
+    ++ (by_calls_line by_calls ++ (states_line whole states ++ no_number_line number found)))
+
+abbrev pub searched_listing : Bool → List ℕ → Setting → Bool → Option ℕ → List Found → ℕ → Bool
+    → Option ℕ → Listing
+searched_listing json text g is_refused number found states whole by_calls = record {
+  output = record {
+    bytes = searched_bytes json text g is_refused number found states whole by_calls;
+    status = status_of whole number found;
+  };
+  trace = trace_of number found;
+}
+
+-- what is printed of random schedules, with the number of times that each end came
+abbrev pub sampled_bytes : Bool → List ℕ → Program → ℕ → ℕ → Option ℕ → List Found → List ℕ → ℕ
+    → List ℕ
+sampled_bytes true text p schedules seed number found times unfinished =
+    sampled_objects text p found times 0 ++ sample_object schedules seed unfinished
+sampled_bytes false text p schedules seed number found times unfinished =
+    sampled_lines text p found times schedules 0 ++ (unfinished_line unfinished
+    ++ (schedules_line schedules seed ++ no_number_line number found))
+
+abbrev pub sampled_listing : Bool → List ℕ → Program → ℕ → ℕ → Option ℕ → List Found → List ℕ
+    → ℕ → Listing
+sampled_listing json text p schedules seed number found times unfinished = record {
+  output = record {
+    bytes = sampled_bytes json text p schedules seed number found times unfinished;
+    status = 5;
+  };
+  trace = trace_of number found;
+}
+
+-- ---- of a program
+
+abbrev pub setting : Program → EndsOptions → Setting
+setting p w = record { program = p; expiries = w.expiries; interrupts = w.interrupts }
+
+-- some place of the program has a cause, for which it is refused
+pub record HasRefusal (p : Program) : Type 0 where
+  pub function : ℕ
+  pub place : ℕ
+  pub cause : Cause
+  pub refusal : IsRefusal p function place cause
+
+-- whether the program is refused
+abbrev pub IsVerdict : Program → Bool → Type 0
+IsVerdict p true = HasRefusal p
+IsVerdict p false = IsAccepted p
+
+-- a listing of ends that were searched for: each of them is one, after the trace that comes with
+-- it. If it says that it is of all schedules, each end that a list of allowed events leads to is
+-- there, however long the list is. Nothing is known of the states of a search by calls, which found
+-- no other end.
+pub record IsSearch (json : Bool) (text : List ℕ) (g : Setting) (number : Option ℕ) (r : Listing)
+    : Type 0 where
+  pub found : List Found
+  pub states : ℕ
+  pub whole : Bool
+  pub by_calls : Option ℕ
+  pub is_refused : Bool
+  pub sound : AreEnds g found
+  pub complete : whole ≡ true → AreAll g.program g.expiries g.interrupts (ends_of found)
+  pub verdict : IsVerdict g.program is_refused
+  pub printed : r ≡ searched_listing json text g is_refused number found states whole by_calls
+
+-- a listing of the ends of random schedules: each of them is one, after the trace that comes with
+-- it
+pub record IsSampling (json : Bool) (text : List ℕ) (g : Setting) (schedules seed : ℕ)
+    (number : Option ℕ) (r : Listing) : Type 0 where
+  pub found : List Found
+  pub times : List ℕ
+  pub unfinished : ℕ
+  pub sound : AreEnds g found
+  pub printed : r ≡ sampled_listing json text g.program schedules seed number found times unfinished
+
+abbrev pub ListsBy : Manner → Bool → List ℕ → Setting → Option ℕ → Listing → Type 0
+ListsBy (manner.All most) json text g number r = IsSearch json text g number r
+ListsBy (manner.Sample schedules seed) json text g number r =
+    IsSampling json text g schedules seed number r
+
+-- ---- of a text
+
+abbrev pub faulty_output : Bool → AsmError → List ℕ → Output
+faulty_output true e text = record { bytes = fault_object e; status = 3 }
+faulty_output false e text = fault_output e text
+
+-- the ends of the program, or the fault of a text that is none
+abbrev pub Lists : Result Program AsmError → List ℕ → EndsOptions → Option ℕ → Listing → Type 0
+Lists (Ok p) text wanted number r =
+    ListsBy wanted.manner wanted.json text (setting p wanted) number r
+Lists (Err e) text wanted number r = r ≡ alone (faulty_output wanted.json e text)
+
+-- the same, or that memory was refused
+abbrev pub IsListingOf : EndsOptions → Option ℕ → List ℕ → Listing → Type 0
+IsListingOf wanted number text r =
+    Lists (judged text) text wanted number r ⊎ (r ≡ alone memory_output)
+
+-- ---- what is written
+
+-- the trace that is kept is written to its file, and the output to the stream
+abbrev pub ListingWrites : Written → ℕ → Listing → Type 0
+ListingWrites w status r = WritesBoth w status r.trace r.output
