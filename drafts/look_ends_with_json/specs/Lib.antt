@@ -1,4 +1,0 @@
-pub mod Json
-pub mod Lines
-pub mod Listing
-pub mod States
