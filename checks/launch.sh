@@ -41,6 +41,12 @@ answer_before_a_build() {
 case ${1-} in
   --unproved)
     shift
+    case ${1-} in
+      --version | -V)
+        printf '%s ' "$name"
+        exec sed 's/^proved with/built without proofs, by/' "$root/VERSION"
+        ;;
+    esac
     if is_stale "$unproved"; then
       answer_before_a_build "$@"
       exec python3 "$root/checks" unproved "$name" "$unproved" "$@"
