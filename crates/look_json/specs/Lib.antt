@@ -1,2 +1,4 @@
+pub mod Ends
 pub mod Explained
+pub mod Named
 pub mod Stories

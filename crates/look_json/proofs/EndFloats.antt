@@ -1,0 +1,70 @@
+-- No line of ends has a float, so its text is known byte for byte.
+use Rattle.std.proofs.Common.{◌≡◌, ℕ, List, Option, Some, None, Bool, false, refl, Ordering, Less, Equal, Greater}
+use Rattle.std.specs.Cmp.Lexicographic.{slice_cmp}
+use Rattle.std.specs.Ordering.{match_ordering, nat_cmp}
+use Rattle.std.proofs.lemmas.Bool.{or_from, or_parts}
+use Rattle.serde_json.specs.Data.{Data, object, string, Members, no_members, member, put}
+use Rattle.serde_json.specs.Written.{has_float, members_have_float}
+use Rattle.sts_code.specs.Program.{Program}
+use Rattle.sts_model.specs.declared.event.End.{End}
+use Rattle.sts_model.specs.declared.event.End.TheVariants.{Success, Failed}
+use Rattle.sts_model.specs.declared.event.Fault.{Fault}
+use Rattle.sts_plain.specs.declared.misstep.PlainState.{PlainState}
+use Rattle.sts_plain.specs.declared.misstep.PlainState.TheVariants as plain
+use Rattle.ends_plain.specs.declared.config.Found.{Found}
+use Rattle.look_cases.proofs.FloatLemmas.{integer_plain, maybe_plain}
+use Rattle.look_names.specs.Names.{function_name, line_name, value_name}
+use Rattle.look_json.specs.Named.{named, with_member}
+use Rattle.look_json.specs.Ends as def
+
+-- ---- a text as a member
+
+either_plain : (o : Ordering) (a b c : Members) → members_have_float a ≡ false → members_have_float b ≡ false → members_have_float c ≡ false → members_have_float (match_ordering o a b c) ≡ false
+either_plain Less a b c h k l = h
+either_plain Equal a b c h k l = k
+either_plain Greater a b c h k l = l
+
+put_plain : (key text : List ℕ) (ms : Members) → members_have_float ms ≡ false → members_have_float (put key (string text) ms) ≡ false
+put_plain key text no_members h = refl
+put_plain key text (member k d ms) h =
+    let parts = or_parts (has_float d) (members_have_float ms) h in
+    either_plain (slice_cmp nat_cmp key k) _ _ _ h parts.1 (or_from _ _ parts.0 (put_plain key text ms parts.1))
+
+with_member_plain : (key text : List ℕ) (d : Data) → has_float d ≡ false → has_float (with_member key (string text) d) ≡ false
+with_member_plain key text (object ms) h = put_plain key text ms h
+with_member_plain key text _ h = h
+
+named_plain : (key : List ℕ) (name : Option (List ℕ)) (d : Data) → has_float d ≡ false → has_float (named key name d) ≡ false
+named_plain key None d h = h
+named_plain key (Some name) d h = with_member_plain key name d h
+
+-- ---- an end
+
+ended_plain : (text : List ℕ) (end : End) → has_float (def.ended text end) ≡ false
+ended_plain text (Success v) = named_plain _ (value_name text v) _ (or_from _ _ (integer_plain v) refl)
+ended_plain text (Failed c) = named_plain _ (value_name text c) _ (or_from _ _ (integer_plain c) refl)
+
+faulted_plain : (text : List ℕ) (p : Program) (kind : Fault) (t f pc : ℕ) → has_float (def.faulted text p kind t f pc) ≡ false
+faulted_plain text p kind t f pc = or_from _ _ (maybe_plain (def.line_at text f pc)) refl
+
+fault_plain : (text : List ℕ) (p : Program) (kind : Fault) (t f pc : ℕ) → has_float (def.named_fault text p kind t f pc) ≡ false
+fault_plain text p kind t f pc = named_plain _ _ _ (named_plain _ (function_name text f) _ (faulted_plain text p kind t f pc))
+
+run_plain : (text : List ℕ) (p : Program) (state : PlainState) → has_float (def.run text p state) ≡ false
+run_plain text p plain.Running = refl
+run_plain text p (plain.Ended end) = ended_plain text end
+run_plain text p (plain.Fault kind t f pc) = fault_plain text p kind t f pc
+
+pub found_end_plain : (text : List ℕ) (p : Program) (place : ℕ) (f : Found) → has_float (def.found_end text p place f) ≡ false
+found_end_plain text p place f = or_from _ _ (run_plain text p f.end) refl
+
+pub sampled_end_plain : (text : List ℕ) (p : Program) (place : ℕ) (f : Found) (times : ℕ) → has_float (def.sampled_end text p place f times) ≡ false
+sampled_end_plain text p place f times = or_from _ _ (run_plain text p f.end) refl
+
+-- ---- the last line
+
+pub search_plain : (is_refused : Bool) (states : ℕ) (whole : Bool) (by_calls no_end : Option ℕ) → has_float (def.search is_refused states whole by_calls no_end) ≡ false
+search_plain is_refused states whole by_calls no_end = or_from _ _ (maybe_plain by_calls) (or_from _ _ (maybe_plain no_end) refl)
+
+pub sample_plain : (schedules seed unfinished : ℕ) (no_end : Option ℕ) → has_float (def.sample schedules seed unfinished no_end) ≡ false
+sample_plain schedules seed unfinished no_end = or_from _ _ (maybe_plain no_end) refl
