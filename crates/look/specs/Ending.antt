@@ -15,8 +15,8 @@ use Rattle.sts_output.specs.declared.process_words.WordsError.{WordsError}
 use Rattle.sts_output.specs.declared.process_words.WordsError.TheVariants as words_error
 use Rattle.look_cases.specs.Lines.{IsRepliesTo}
 use Rattle.look_picture.specs.Picture.{IsPictureOf}
+use Rattle.look_places.specs.Named.{IsNamedExplanation}
 use Rattle.look_places.specs.Reports.{IsReport}
-use Rattle.look_refusal.specs.Output.{IsExplanation}
 use Rattle.look_run.specs.Output.{IsRunExplanation}
 use Rattle.look_json.specs.Explained.{IsExplainedBy}
 use Rattle.look_json.specs.Stories.{AreStoriesOf}
@@ -109,7 +109,7 @@ ShowsInFull s text trace o = Shows s text (full_trace trace) o ⊎ (o ≡ memory
 
 -- what is wrong with the text of a file
 abbrev pub IsExplainedIn : ExplainForm → Text → List ℕ → Output → Type 0
-IsExplainedIn Words file text o = IsExplanation text o
+IsExplainedIn Words file text o = IsNamedExplanation text o
 IsExplainedIn Places file text o = IsReport (record { file = file; text = text }) o
 IsExplainedIn Json file text o = IsExplainedBy text o
 

@@ -17,8 +17,7 @@ use look_ends::{Listing, Progress, write_listing};
 use look_json::{write_explained, write_stories};
 use look_lines::write_run;
 use look_picture::{Picture, Window};
-use look_places::write_places;
-use look_refusal::explain;
+use look_places::{write_named, write_places};
 use look_run::explain_run;
 use look_tell::tell;
 use look_traces::in_full;
@@ -210,7 +209,7 @@ fn explain_by<W: Write>(
         × Writes (W.contents out.old) (W.contents out.new) s o) }
 {
     match form {
-        ExplainForm::Words => explain(alloc, text, out),
+        ExplainForm::Words => write_named(alloc, text, out),
         ExplainForm::Places => write_places(alloc, path, text, out),
         ExplainForm::Json => write_explained(alloc, text, out),
     }
