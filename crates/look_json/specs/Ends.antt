@@ -15,10 +15,10 @@ use Rattle.ends_plain.specs.declared.config.Setting.{Setting}
 use Rattle.look_names.specs.Names.{function_name, line_name, outline_of, value_name}
 use Rattle.look_cases.specs.Answer.{line_number, version}
 use Rattle.look_cases.specs.Json.{count, count_or_null, integer, object_of}
+use Rattle.look_views.specs.Named.{named}
 use Rattle.look_views.specs.Views.{faulty, line, text_line}
 use Rattle.look_ends.specs.Form.{EndsForm}
 use Rattle.look_ends.specs.Lines.{has_number, times_at}
-use Rattle.look_json.specs.Named.{named}
 
 -- ---- how a run ended
 

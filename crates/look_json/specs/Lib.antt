@@ -1,4 +1,3 @@
 pub mod Ends
 pub mod Explained
-pub mod Named
 pub mod Stories

@@ -12,7 +12,6 @@ ghost use Rattle.look_views.specs.Views.{faulty, line, text_line};
 ghost use Rattle.look_json.specs.Ends as def;
 
 use crate::lines::{VERSION, push_line};
-use crate::named::with_name;
 use crate::stories::FAULTS;
 use ends_plain::config::{Found, Setting};
 use ends_plain::sample::Sample;
@@ -20,6 +19,7 @@ use look_ends::{Answer, EndsForm, has_number, times_at};
 use look_lines::Form;
 use look_names::Names;
 use look_refusal::{ExplainError, Explanation};
+use look_views::with_name;
 use serde_json::{Value, json};
 use std::alloc::{AllocError, Global};
 use sts_asm::{AsmError, assemble};

@@ -4,7 +4,6 @@
 mod ends;
 mod explained;
 mod lines;
-mod named;
 mod stories;
 
 pub use ends::JsonEnds;

@@ -3,7 +3,7 @@
 ghost use Rattle.std.specs.Prelude.{◌≡◌, IfOk, option_map};
 ghost use Rattle.serde_json.specs.Data.{object, put, string};
 ghost use Rattle.serde_json.specs.View.{members_view, view};
-ghost use Rattle.look_json.specs.Named as def;
+ghost use Rattle.look_views.specs.Named as def;
 
 use serde_json::{Map, Value};
 use std::alloc::{AllocError, Global};
@@ -38,7 +38,7 @@ fn with_member(alloc: Global, value: Value, key: &str, text: &str) -> Result<Val
 /// # Errors
 ///
 /// Memory ran out.
-pub(crate) fn with_name(
+pub fn with_name(
     alloc: Global,
     value: Value,
     key: &str,
