@@ -10,8 +10,9 @@ use Rattle.sts_plain.specs.declared.misstep.PlainState.{PlainState}
 use Rattle.sts_plain.specs.declared.misstep.PlainState.TheVariants as plain
 use Rattle.ends_plain.specs.declared.config.Found.{Found}
 use Rattle.look_cases.proofs.FloatLemmas.{integer_plain, maybe_plain}
-use Rattle.look_names.specs.Names.{function_name, value_name}
-use Rattle.look_views.proofs.NamedFloats.{named_plain}
+use Rattle.look_names.specs.Names.{value_name}
+use Rattle.look_views.specs.Named.{line_at}
+use Rattle.look_views.proofs.NamedFloats.{named_plain, placed_plain}
 use Rattle.look_json.specs.Ends as def
 
 -- ---- an end
@@ -21,15 +22,12 @@ ended_plain text (Success v) = named_plain _ (value_name text v) _ (or_from _ _ 
 ended_plain text (Failed c) = named_plain _ (value_name text c) _ (or_from _ _ (integer_plain c) refl)
 
 faulted_plain : (text : List ℕ) (p : Program) (kind : Fault) (t f pc : ℕ) → has_float (def.faulted text p kind t f pc) ≡ false
-faulted_plain text p kind t f pc = or_from _ _ (maybe_plain (def.line_at text f pc)) refl
-
-fault_plain : (text : List ℕ) (p : Program) (kind : Fault) (t f pc : ℕ) → has_float (def.named_fault text p kind t f pc) ≡ false
-fault_plain text p kind t f pc = named_plain _ _ _ (named_plain _ (function_name text f) _ (faulted_plain text p kind t f pc))
+faulted_plain text p kind t f pc = or_from _ _ (maybe_plain (line_at text f pc)) refl
 
 run_plain : (text : List ℕ) (p : Program) (state : PlainState) → has_float (def.run text p state) ≡ false
 run_plain text p plain.Running = refl
 run_plain text p (plain.Ended end) = ended_plain text end
-run_plain text p (plain.Fault kind t f pc) = fault_plain text p kind t f pc
+run_plain text p (plain.Fault kind t f pc) = placed_plain text f pc _ (faulted_plain text p kind t f pc)
 
 pub found_end_plain : (text : List ℕ) (p : Program) (place : ℕ) (f : Found) → has_float (def.found_end text p place f) ≡ false
 found_end_plain text p place f = or_from _ _ (run_plain text p f.end) refl

@@ -1,21 +1,20 @@
 -- The ends of a text as lines of JSON (this project's own; docs/IMPLEMENTERS.md has the schema).
 use Rattle.std.specs.Prelude.{ℕ, ◌+◌, List, [], ◌∷◌, ◌++◌, Bool, false, if◌then◌else◌, length}
-use Rattle.std.specs.Prelude.{Option, Some, None, option_and_then, codes}
+use Rattle.std.specs.Prelude.{Option, Some, None, codes}
 use Rattle.serde_json.specs.Data.{Data, boolean, string}
 use Rattle.sts_code.specs.Program.{Program, routine}
 use Rattle.sts_model.specs.declared.event.End.{End}
 use Rattle.sts_model.specs.declared.event.End.TheVariants.{Success, Failed}
 use Rattle.sts_model.specs.declared.event.Fault.{Fault}
-use Rattle.sts_asm.specs.Source.{sentence_at}
 use Rattle.sts_output.specs.Printed.{fault_word}
 use Rattle.sts_plain.specs.declared.misstep.PlainState.{PlainState}
 use Rattle.sts_plain.specs.declared.misstep.PlainState.TheVariants as plain
 use Rattle.ends_plain.specs.declared.config.Found.{Found}
 use Rattle.ends_plain.specs.declared.config.Setting.{Setting}
-use Rattle.look_names.specs.Names.{function_name, line_name, outline_of, value_name}
-use Rattle.look_cases.specs.Answer.{line_number, version}
+use Rattle.look_names.specs.Names.{value_name}
+use Rattle.look_cases.specs.Answer.{version}
 use Rattle.look_cases.specs.Json.{count, count_or_null, integer, object_of}
-use Rattle.look_views.specs.Named.{named}
+use Rattle.look_views.specs.Named.{line_at, named, placed}
 use Rattle.look_views.specs.Views.{faulty, line, text_line}
 use Rattle.look_ends.specs.Form.{EndsForm}
 use Rattle.look_ends.specs.Lines.{has_number, times_at}
@@ -31,10 +30,6 @@ ended text (Failed c) = named (codes "name") (value_name text c) (object_of (
     (codes "code", integer c) ∷
     (codes "outcome", string (codes "failed")) ∷ []))
 
--- the line with the instruction at a place of a function; none at its end
-abbrev pub line_at : List ℕ → ℕ → ℕ → Option ℕ
-line_at text f pc = line_number (sentence_at (outline_of text) f pc)
-
 abbrev pub faulted : List ℕ → Program → Fault → ℕ → ℕ → ℕ → Data
 faulted text p kind t f pc = object_of (
     (codes "fault", string (fault_word kind)) ∷
@@ -44,16 +39,11 @@ faulted text p kind t f pc = object_of (
     (codes "place", count pc) ∷
     (codes "task", count t) ∷ [])
 
--- a fault, and the names of its function and its line
-abbrev pub named_fault : List ℕ → Program → Fault → ℕ → ℕ → ℕ → Data
-named_fault text p kind t f pc =
-    named (codes "line_name") (option_and_then (line_name text) (line_at text f pc))
-    (named (codes "function_name") (function_name text f) (faulted text p kind t f pc))
-
+-- a fault comes with the names of its function and its line
 abbrev pub run : List ℕ → Program → PlainState → Data
 run text p plain.Running = object_of ((codes "outcome", string (codes "running")) ∷ [])
 run text p (plain.Ended end) = ended text end
-run text p (plain.Fault kind t f pc) = named_fault text p kind t f pc
+run text p (plain.Fault kind t f pc) = placed text f pc (faulted text p kind t f pc)
 
 -- ---- an end
 

@@ -1,13 +1,12 @@
 //! The ends of a text as lines of JSON.
 
-ghost use Rattle.std.specs.Prelude.{◌≡◌, ◌++◌, ◌+◌, ◌<◌, ◌^◌, IfOk, OnOk, Result, Err, option_and_then, option_map};
+ghost use Rattle.std.specs.Prelude.{◌≡◌, ◌++◌, ◌+◌, ◌<◌, ◌^◌, IfOk, OnOk, Result, Err};
 ghost use Rattle.std.specs.String.{string_bytes};
 ghost use Rattle.serde_json.specs.View.{view};
 ghost use Rattle.sts_code.specs.Program.{Program as AnyProgram};
 ghost use Rattle.sts_asm.specs.Fault.{FailsAt};
 ghost use Rattle.sts_asm.specs.declared.fault.AsmError.{AsmError};
 ghost use Rattle.look_cases.specs.Json as value;
-ghost use Rattle.look_names.specs.Names.{line_name as name_of_line};
 ghost use Rattle.look_views.specs.Views.{faulty, line, text_line};
 ghost use Rattle.look_json.specs.Ends as def;
 
@@ -19,7 +18,7 @@ use look_ends::{Answer, EndsForm, has_number, times_at};
 use look_lines::Form;
 use look_names::Names;
 use look_refusal::{ExplainError, Explanation};
-use look_views::with_name;
+use look_views::{line_at, placed, with_name};
 use serde_json::{Value, json};
 use std::alloc::{AllocError, Global};
 use sts_asm::{AsmError, assemble};
@@ -52,22 +51,6 @@ fn ended(alloc: Global, names: &Names<'_>, end: End) -> Result<Value, AllocError
             with_name(alloc, ended, "name", names.value(code))
         }
     }
-}
-
-/// The line with the instruction at a place of a function; after the last one there is none.
-fn line_at(names: &Names<'_>, function: u32, pc: u32) -> Option<u32>
-    ensures { result ≡ def.line_at names.now function pc }
-{
-    match names.sentence(function, pc) {
-        None => None,
-        Some(sentence) => Some(sentence.line()),
-    }
-}
-
-fn line_name<'t>(names: &Names<'t>, line: Option<u32>) -> Option<&'t str>
-    ensures { option_map (λ n. n.now) result ≡ option_and_then (name_of_line names.now) line }
-{
-    names.line(line?)
 }
 
 /// A number that there may be, or null.
@@ -103,25 +86,7 @@ fn faulted(
     })
 }
 
-/// A fault, and the names of its function and its line.
-fn named_fault(
-    alloc: Global,
-    names: &Names<'_>,
-    program: &Program,
-    kind: Fault,
-    task: u32,
-    function: u32,
-    pc: u32,
-) -> Result<Value, AllocError>
-    ensures { IfOk result (λ v. view v
-        ≡ def.named_fault names.now program.now kind task function pc) }
-{
-    let fault = faulted(alloc, names, program, kind, task, function, pc)?;
-    let fault = with_name(alloc, fault, "function_name", names.function(function))?;
-    let line = line_name(names, line_at(names, function, pc));
-    with_name(alloc, fault, "line_name", line)
-}
-
+/// The state of a run at its end; a fault with the names of its function and its line.
 fn run(
     alloc: Global,
     names: &Names<'_>,
@@ -138,7 +103,10 @@ fn run(
             task,
             function,
             pc,
-        } => named_fault(alloc, names, program, kind, task, function, pc),
+        } => {
+            let fault = faulted(alloc, names, program, kind, task, function, pc)?;
+            placed(alloc, names, function, pc, fault)
+        }
     }
 }
 

@@ -10,5 +10,5 @@ mod scopes;
 mod tasks;
 mod views;
 
-pub use named::with_name;
+pub use named::{line_at, placed, with_name};
 pub use views::JsonViews;
