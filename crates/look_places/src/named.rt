@@ -18,10 +18,16 @@ use sts_text::{Words, cut_at_newline, digits_up_to};
 /// The status for a fault of a text.
 const FAULTY: u8 = 3;
 
+fn is_other(b: u8) -> bool
+    ensures { result ≡ def.is_other b }
+{
+    !b.is_ascii_digit()
+}
+
 fn other_in(word: &[u8]) -> Option<usize>
     ensures { result ≡ position def.is_other word.now }
 {
-    word.iter().position(|b| !b.is_ascii_digit())
+    word.iter().position(|b| is_other(*b))
 }
 
 /// The digits that a word begins with.
