@@ -11,6 +11,7 @@ scopes that are misused. Each is asked with expiries and without, and with an in
 - The trace of each end, as `--trace` writes it, has as many events as its line says, and `sts` comes to that end by it:
   in mode `replay`, or in mode `plain` if the text is refused.
 - `--sample` finds no other end, and `--most` stops with status 5.
+- `--json` says the same as the lines.
 - The sets of ends.rows, worked out by hand, are those that `look ends` prints, as two compilers build it.
 - Random schedules find each end of some races, and of the programs in checks/sampled, which have deadlines. Another seed gives
   another listing, and the same seed the same one. A schedule may have 100,000 events, and no more (`schedules_of_look`).
@@ -23,6 +24,7 @@ A program with more than MOST_STATES states is left out. With a PART, which is `
 import argparse
 import concurrent.futures
 import glob
+import json
 import math
 import os
 import random
@@ -101,6 +103,25 @@ def sampled(asked, text, words, expected):
         yield f"with 2 states: {printed}"
 
 
+def of_run(source, run):
+    """Returns a run of a line of JSON in the words of `look ends`."""
+    if run["outcome"] != "fault":
+        return f"{run['outcome']} {run['value' if run['outcome'] == 'success' else 'code']}"
+    place = place_words(source, run["function"], run["place"])
+    line = "at its end" if run["line"] is None else f"line {run['line']}:"
+    return f"fault {run['fault']}, task {run['task']} in {place if line in place else line}"
+
+
+def as_json(asked, text, source, words, is_refused, states, found):
+    """Yields what is wrong with the lines of JSON."""
+    status, printed = says(asked.look, "ends", text, *words, "--json")
+    *ends, last = map(json.loads, printed)
+    told = [(str(it["end"]), str(it["after"]), of_run(source, it["run"])) for it in ends]
+    right = {"all_schedules": True, "by_calls": None, "no_end": None, "refused": is_refused, "states": states, "version": 1}
+    if (status, told, last) != (0, found, right):
+        yield f"JSON: status {status}, {printed}"
+
+
 def wrong_of(asked, text, source, folder, expiries, interrupts):
     """Returns how many comparisons were made, and what is wrong; None if the program has too many states."""
     program, words = stack_code.program(source), options(expiries, interrupts)
@@ -121,7 +142,8 @@ def wrong_of(asked, text, source, folder, expiries, interrupts):
         wrong.append(f"the last line: {printed[-1]}, and the states are {states}")
     wrong += traced(asked, text, folder, is_refused, words, found)
     wrong += sampled(asked, text, words, ends)
-    return 6 + 2 * len(found), wrong
+    wrong += as_json(asked, text, source, words, is_refused, states, found)
+    return 7 + 2 * len(found), wrong
 
 
 def compare(asked, name, source):

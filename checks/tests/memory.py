@@ -158,6 +158,12 @@ EXPLAINED = [
         4,
     ),
     (
+        "the name of a line",
+        "func main 0 / open s0 awaitall / close s0 ;= Orders.java:20 / push 1 / ret / end",
+        "refused V12 in main, line 3: close s0 (Orders.java:20) / join this scope before you close it",
+        4,
+    ),
+    (
         "too many steps",
         "func main 0 / push 499 / times 499 / push 2001 / times 2001 / next / next / push 0 / push 0 / ret / end",
         "refused V17 in main, at its end / some path takes more than 1000000 steps: lower a bound of times, or fork fewer subtasks / "
@@ -176,6 +182,10 @@ EXPLAINED = [
 ]
 # `look ends` of a text with one end, and `look cases` of one case
 ENDS_OF_SEVEN = "1 after 2 events: success 7 / 3 states, all schedules"
+JSON_OF_SEVEN = (
+    '{"after":2,"end":1,"run":{"name":"seven","outcome":"success","value":7},"version":1} / '
+    '{"all_schedules":true,"by_calls":null,"no_end":null,"refused":false,"states":3,"version":1}'
+)
 CASE = '{"text": "func main 0\\npush 7\\nret\\nend\\n", "trace": "step 0\\nstep 0\\n"}'
 ANSWER = (
     '{"case":1,"run":{"outcome":"success","steps":2,"value":7},"verdict":{"accepted":true,"budgets":'
@@ -242,6 +252,8 @@ way from line 4 / text:3:1: note: one way comes from here / text:4:1: note: one 
         yield Case(" ".join(["draw", *more]), ["draw", "text", "trace", *more], text, trace, picture(look, more, text, trace), 5)
     for more in ([], ["--trace", "1", "journal"]):
         yield Case(" ".join(["ends", *more]), ["ends", "text", *more], lines(SEVEN), None, lines(ENDS_OF_SEVEN), 0)
+        of_seven = ["ends", "text", "--json", *more]
+        yield Case(" ".join(["ends --json", *more]), of_seven, lines(f"{SEVEN} / ;= 7 seven"), None, lines(JSON_OF_SEVEN), 0)
     yield Case("cases", ["cases", "text"], f"{CASE}\n".encode(), None, f"{ANSWER}\n".encode(), 0)
     with open(f"{programs.CHECKS}/help/look.txt", "rb") as stored:
         yield Case("look: help", ["--help"], None, None, stored.read(), 0)

@@ -54,6 +54,7 @@ TIMELY = (
 LONG = 3.5  # the seconds of a search that says more than once how far it is
 TOO_LONG, NO_MEMORY, NO_FILE = ("error A8 line 0\n", 3), ("error memory\n", 6), ("error file\n", 6)
 EXPLAINED_TOO_LONG = ("error A8\nthe text has more than 1048576 bytes\n", 3)
+JSON_TOO_LONG = ('{"text_fault":{"fault":"A8","line":0},"version":1}\n', 3)
 FAILED = ("", 6)
 END = ("success 50\nsteps 24\n", 0)
 RUN_OF_SUM = (
@@ -108,7 +109,13 @@ def without_end(line):
 def looks(text, trace):
     """The commands of `look` on a text and a trace."""
     files = [text, trace]
-    return [["view", *files], ["view", *files, "--each", "--full"], ["explain", text], ["explain", *files], ["draw", *files], ["tell", *files], ["ends", text]]
+    runs = [["view", *files], ["view", *files, "--each", "--full"], ["explain", *files], ["draw", *files], ["tell", *files]]
+    return [*runs, ["explain", text], ["ends", text], ["ends", text, "--json"]]
+
+
+def too_long(words):
+    """What a command of `look` answers to a text that is too long."""
+    return JSON_TOO_LONG if "--json" in words else TOO_LONG if words[0] in ("view", "draw") else EXPLAINED_TOO_LONG
 
 
 def unended(program, look):
@@ -120,7 +127,7 @@ def unended(program, look):
                 yield f"{line!r} as {words}", answer(program, words, given), TOO_LONG
         for words in looks(file, TRACE):
             with without_end(line) as given:
-                yield f"{line!r} as {words}", answer(look, words, given), TOO_LONG if words[0] in ("view", "draw") else EXPLAINED_TOO_LONG
+                yield f"{line!r} as {words}", answer(look, words, given), too_long(words)
     for file, line in (("/dev/zero", "step 0"), ("/dev/stdin", "step 0")):
         for words in (it for it in looks(SUM, file) if file in it):
             with without_end(line) as given:

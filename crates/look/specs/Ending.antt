@@ -15,8 +15,8 @@ use Rattle.sts_output.specs.declared.process_words.WordsError.{WordsError}
 use Rattle.sts_output.specs.declared.process_words.WordsError.TheVariants as words_error
 use Rattle.look_cases.specs.Lines.{IsRepliesTo}
 use Rattle.look_picture.specs.Picture.{IsPictureOf}
+use Rattle.look_places.specs.Named.{IsNamedExplanation}
 use Rattle.look_places.specs.Reports.{IsReport}
-use Rattle.look_refusal.specs.Output.{IsExplanation}
 use Rattle.look_run.specs.Output.{IsRunExplanation}
 use Rattle.look_json.specs.Explained.{IsExplainedBy}
 use Rattle.look_json.specs.Stories.{AreStoriesOf}
@@ -26,7 +26,7 @@ use Rattle.look_traces.specs.Short.{full_trace}
 use Rattle.look_lines.specs.declared.view.ViewOptions.{ViewOptions}
 use Rattle.look_view.specs.View.{IsNamedViewOf}
 use Rattle.look_views.specs.Views.{AreViewsOf}
-use Rattle.look_ends.specs.Listing.{IsListingOf, Listing}
+use Rattle.look_ends.specs.Listing.{IsListingIn, Listing}
 use Rattle.look_args.specs.Asked.{Asks, AsksForWords, IsMistaken}
 use Rattle.look_args.specs.declared.asked.Asked.{Asked}
 use Rattle.look_args.specs.declared.asked.Asked.TheVariants as asked
@@ -34,7 +34,7 @@ use Rattle.look_args.specs.declared.asked.AskedEnds.{AskedEnds}
 use Rattle.look_args.specs.declared.asked.ExplainForm.{ExplainForm}
 use Rattle.look_args.specs.declared.asked.ExplainForm.TheVariants.{Words, Places, Json}
 use Rattle.look_args.specs.declared.asked.Kept.{Kept}
-use Rattle.look.specs.Piping.{IsPiped, piped_of}
+use Rattle.look.specs.Piping.{IsPiped, form_of, piped_of}
 use Rattle.look.specs.declared.piped.Piped.{Piped}
 use Rattle.look.specs.declared.program.Showing.{Showing}
 use Rattle.look.specs.declared.program.Showing.TheVariants as showing
@@ -78,8 +78,8 @@ pub data IsWritten (r : Listing) (spares : Type 0) (o : Output) : Type 0 where
 -- what is printed of the ends of a text, or that memory or the trace's file failed
 pub data IsPrinted (ends : AskedEnds) (spares : Type 0) (text : List ℕ) (o : Output) : Type 0 where
   listed : spares → (r : Listing)
-      → IsListingOf ends.wanted (option_map (λ k. k.number) ends.kept) text r → o ≡ r.output
-      → IsPrinted ends spares text o
+      → IsListingIn (form_of ends.json) ends.wanted (option_map (λ k. k.number) ends.kept) text r
+      → o ≡ r.output → IsPrinted ends spares text o
   without_file : (e : TakeError) → o ≡ failure_output e → IsPrinted ends spares text o
 
 -- what is printed of a file's text, or that the file failed
@@ -109,7 +109,7 @@ ShowsInFull s text trace o = Shows s text (full_trace trace) o ⊎ (o ≡ memory
 
 -- what is wrong with the text of a file
 abbrev pub IsExplainedIn : ExplainForm → Text → List ℕ → Output → Type 0
-IsExplainedIn Words file text o = IsExplanation text o
+IsExplainedIn Words file text o = IsNamedExplanation text o
 IsExplainedIn Places file text o = IsReport (record { file = file; text = text }) o
 IsExplainedIn Json file text o = IsExplainedBy text o
 

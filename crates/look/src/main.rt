@@ -3,6 +3,7 @@
 #![tactic(auto)]
 
 pub mod dashed;
+pub mod ends;
 pub mod piped;
 pub mod program;
 pub mod terminal;

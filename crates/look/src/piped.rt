@@ -3,29 +3,38 @@
 ghost use Rattle.std.specs.Prelude.{◌≡◌, IfOk};
 ghost use Rattle.look.specs.Piping as def;
 
+use crate::ends::listed_by;
 use look_args::asked::{Asked, Kept};
-use look_ends::{EndsOptions, Progress, listed, write_listing};
+use look_ends::{EndsOptions, Progress, write_listing};
 use std::alloc::Global;
 use std::io::Write;
 use sts_output::{Notes, Sources, TakeError, WriteFailed, failed, file_failed, read_text};
 
-/// A file, what is asked of its ends, and the number of the end with the trace.
+/// A file, what is asked of its ends, whether they are lines of JSON, and the number of the end with
+/// the trace.
 #[derive(Clone, Copy)]
 pub struct Piped<'a> {
     pub file: &'a str,
     pub wanted: EndsOptions,
+    pub json: bool,
     pub number: u32,
 }
 
 /// The end whose trace goes to standard output, if the file of the trace is named `-`.
-fn piped_by<'a>(file: &'a str, wanted: EndsOptions, kept: Option<Kept<'_>>) -> Option<Piped<'a>>
-    ensures { result ≡ def.piped_by file.entry wanted kept.entry }
+fn piped_by<'a>(
+    file: &'a str,
+    wanted: EndsOptions,
+    json: bool,
+    kept: Option<Kept<'_>>,
+) -> Option<Piped<'a>>
+    ensures { result ≡ def.piped_by file.entry wanted json kept.entry }
 {
     let kept = kept?;
     if kept.file == "-" {
         Some(Piped {
             file,
             wanted,
+            json,
             number: kept.number,
         })
     } else {
@@ -38,7 +47,7 @@ pub fn piped_of<'a>(asked: Asked<'a>) -> Option<Piped<'a>>
     ensures { result ≡ def.piped_of asked.entry }
 {
     match asked {
-        Asked::Ends { file, ends } => piped_by(file, ends.wanted, ends.kept),
+        Asked::Ends { file, ends } => piped_by(file, ends.wanted, ends.json, ends.kept),
         _ => None,
     }
 }
@@ -60,7 +69,8 @@ fn on_piped_text<P: Progress, W: Write, E: Write>(
       err_new = E.contents err.new;
     })) }
 {
-    match listed(alloc, piped.wanted, Some(piped.number), text, progress) {
+    let number = Some(piped.number);
+    match listed_by(alloc, piped.json, piped.wanted, number, text, progress) {
         Ok(listing) => {
             let mut failure = None;
             let status = write_listing(&listing, out, err, &mut failure)?;

@@ -8,16 +8,16 @@ ghost use Rattle.look_cases.specs.Lines.{IsRepliesTo};
 ghost use Rattle.look.specs.Ending as def;
 
 use crate::dashed::Dashed;
+use crate::ends::{listed_by, write_ends_by};
 use crate::piped::{on_piped, piped_of};
 use look_args::asked::{Asked, AskedEnds, AskedTell, AskedView, ExplainForm};
 use look_args::line;
 use look_cases::write_answers;
-use look_ends::{Listing, Progress, listed, write_ends, write_listing};
+use look_ends::{Listing, Progress, write_listing};
 use look_json::{write_explained, write_stories};
 use look_lines::write_run;
 use look_picture::{Picture, Window};
-use look_places::write_places;
-use look_refusal::explain;
+use look_places::{write_named, write_places};
 use look_run::explain_run;
 use look_tell::tell;
 use look_traces::in_full;
@@ -209,7 +209,7 @@ fn explain_by<W: Write>(
         × Writes (W.contents out.old) (W.contents out.new) s o) }
 {
     match form {
-        ExplainForm::Words => explain(alloc, text, out),
+        ExplainForm::Words => write_named(alloc, text, out),
         ExplainForm::Places => write_places(alloc, path, text, out),
         ExplainForm::Json => write_explained(alloc, text, out),
     }
@@ -317,11 +317,14 @@ fn on_ends_text<S: Sinks, P: Progress, W: Write>(
         × Writes (W.contents out.old) (W.contents out.new) s o) }
 {
     match ends.kept {
-        None => write_ends(alloc, ends.wanted, text, progress, out),
-        Some(kept) => match listed(alloc, ends.wanted, Some(kept.number), text, progress) {
-            Ok(listing) => on_listing(alloc, sinks, path, kept.file, &listing, out, notes),
-            Err(_) => failed(TakeError::Memory, out),
-        },
+        None => write_ends_by(alloc, ends.json, ends.wanted, text, progress, out),
+        Some(kept) => {
+            let number = Some(kept.number);
+            match listed_by(alloc, ends.json, ends.wanted, number, text, progress) {
+                Ok(listing) => on_listing(alloc, sinks, path, kept.file, &listing, out, notes),
+                Err(_) => failed(TakeError::Memory, out),
+            }
+        }
     }
 }
 

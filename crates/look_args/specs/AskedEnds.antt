@@ -19,13 +19,15 @@ KeptWords = ℕ × Text
 abbrev pub kept_words : Kept → KeptWords
 kept_words k = (k.number, k.file.now)
 
--- which ends, and the one whose trace is kept
+-- which ends, the one whose trace is kept, and whether they are printed as lines of JSON
 pub record SaidEnds : Type 0 where
   pub wanted : EndsOptions
   pub kept : Option KeptWords
+  pub json : Bool
 
 abbrev pub said_ends : AskedEnds → SaidEnds
-said_ends a = record { wanted = a.wanted; kept = option_map kept_words a.kept }
+said_ends a =
+    record { wanted = a.wanted; kept = option_map kept_words a.kept; json = a.json }
 
 -- ---- what the options say
 
@@ -91,7 +93,11 @@ abbrev pub kept_at : Option (List Text) → Option (Option KeptWords)
 kept_at None = Some None
 kept_at (Some words) = option_map Some (kept_of words)
 
+abbrev pub ends_by : List Row → EndsOptions → Option KeptWords → SaidEnds
+ends_by rows wanted kept =
+    record { wanted = wanted; kept = kept; json = is_true (first_of (codes "json") rows) }
+
 abbrev pub ends_at : List Row → Option SaidEnds
 ends_at rows =
-    option_and_then (λ w. option_map (λ k. record { wanted = w; kept = k })
-    (kept_at (all_of (codes "trace") rows))) (ends_wanted_at rows)
+    option_and_then (λ w. option_map (ends_by rows w) (kept_at (all_of (codes "trace") rows)))
+    (ends_wanted_at rows)

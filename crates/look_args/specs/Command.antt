@@ -47,8 +47,8 @@ ends_by_limits = with_rule (with_rule ends_by_events (option_rule (codes "most")
     (option_rule (codes "seconds"))
 
 abbrev pub ends : App
-ends = with_rule (with_rule (with_rule ends_by_limits (option_rule (codes "sample")))
-    (option_rule (codes "seed"))) kept_rule
+ends = with_rule (with_rule (with_rule (with_rule ends_by_limits (option_rule (codes "sample")))
+    (option_rule (codes "seed"))) kept_rule) (flag_rule (codes "json"))
 
 abbrev pub cases : App
 cases = with_rule (new_app (codes "cases")) file_rule

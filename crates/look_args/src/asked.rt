@@ -21,11 +21,13 @@ pub struct Kept<'a> {
     pub file: &'a str,
 }
 
-/// Which ends are to be found, and the one whose trace is kept, if one is named.
+/// Which ends are to be found, the one whose trace is kept, if one is named, and whether they are
+/// printed as lines of JSON.
 #[derive(Clone, Copy, Debug)]
 pub struct AskedEnds<'a> {
     pub wanted: EndsOptions,
     pub kept: Option<Kept<'a>>,
+    pub json: bool,
 }
 
 /// Which views, and whether they are lines of JSON.

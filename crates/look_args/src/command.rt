@@ -229,7 +229,12 @@ fn ends<'a>(alloc: Global) -> Result<Command<'a>, AllocError>
             "S",
             "a number that fixes the random schedules (1)",
         ))?
-        .arg(kept_trace(alloc))
+        .arg(kept_trace(alloc))?
+        .arg(flag(
+            alloc,
+            "json",
+            "as lines of JSON, one for each end and one more",
+        ))
 }
 
 /// The file of cases.

@@ -232,10 +232,8 @@ fn asked_tell(inner: &ArgMatches<'_>) -> Option<AskedTell>
     ensures { result ≡ tell_at (rows_of (found_of inner.now)) }
 {
     let wanted = tell_wanted(inner)?;
-    Some(AskedTell {
-        wanted,
-        json: is_set(inner, "json"),
-    })
+    let json = is_set(inner, "json");
+    Some(AskedTell { wanted, json })
 }
 
 /// The number that an option is given, if the option is.
@@ -311,7 +309,8 @@ fn asked_ends<'a>(inner: &ArgMatches<'a>) -> Option<AskedEnds<'a>>
         None => None,
         Some(words) => Some(kept_of(words)?),
     };
-    Some(AskedEnds { wanted, kept })
+    let json = is_set(inner, "json");
+    Some(AskedEnds { wanted, kept, json })
 }
 
 /// The error for an option whose value is mistaken.

@@ -1,3 +1,4 @@
+pub mod Form
 pub mod Lines
 pub mod Listing
 pub mod States

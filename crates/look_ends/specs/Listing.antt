@@ -14,6 +14,7 @@ use Rattle.ends_plain.specs.Listed.{AreEnds, ends_of}
 use Rattle.ends_plain.specs.declared.config.Found.{Found}
 use Rattle.ends_plain.specs.declared.config.Setting.{Setting}
 use Rattle.look_refusal.specs.Output.{fault_output}
+use Rattle.look_ends.specs.Form.{EndsForm}
 use Rattle.look_ends.specs.Lines.{by_calls_line, found_at, found_lines, has_number, no_number_line, refused_line}
 use Rattle.look_ends.specs.Lines.{sampled_lines, schedules_line, states_line, unfinished_line}
 use Rattle.look_ends.specs.declared.wanted.Manner.{Manner}
@@ -45,24 +46,42 @@ abbrev pub status_of : Bool → Option ℕ → List Found → ℕ
 status_of whole number found = if whole && has_number number found then 0 else 5
 
 -- a line for each end, then what is to be said of all of them
-abbrev pub searched_listing : List ℕ → Setting → Bool → Option ℕ → List Found → ℕ → Bool
+abbrev pub search_lines : List ℕ → Setting → Bool → Option ℕ → List Found → ℕ → Bool → Option ℕ
+    → List ℕ
+search_lines text g is_refused number found states whole by_calls =
+    found_lines text g.program found 0 ++ (refused_line g is_refused whole found
+    ++ (by_calls_line by_calls ++ (states_line whole states ++ no_number_line number found)))
+
+-- the same of random schedules, with the number of times that each end came
+abbrev pub sample_lines : List ℕ → Program → ℕ → ℕ → Option ℕ → List Found → List ℕ → ℕ → List ℕ
+sample_lines text p schedules seed number found times unfinished =
+    sampled_lines text p found times schedules 0 ++ (unfinished_line unfinished
+    ++ (schedules_line schedules seed ++ no_number_line number found))
+
+abbrev pub lines_form : EndsForm
+lines_form = record {
+  of_search = search_lines;
+  of_sample = sample_lines;
+  of_text_fault = fault_output;
+}
+
+-- what is shown of a search, in any form
+abbrev pub searched_listing : EndsForm → List ℕ → Setting → Bool → Option ℕ → List Found → ℕ → Bool
     → Option ℕ → Listing
-searched_listing text g is_refused number found states whole by_calls = record {
+searched_listing form text g is_refused number found states whole by_calls = record {
   output = record {
-    bytes = found_lines text g.program found 0 ++ (refused_line g is_refused whole found
-        ++ (by_calls_line by_calls ++ (states_line whole states ++ no_number_line number found)));
+    bytes = form.of_search text g is_refused number found states whole by_calls;
     status = status_of whole number found;
   };
   trace = trace_of number found;
 }
 
--- what is printed of random schedules, with the number of times that each end came
-abbrev pub sampled_listing : List ℕ → Program → ℕ → ℕ → Option ℕ → List Found → List ℕ → ℕ
-    → Listing
-sampled_listing text p schedules seed number found times unfinished = record {
+-- what is shown of random schedules
+abbrev pub sampled_listing : EndsForm → List ℕ → Program → ℕ → ℕ → Option ℕ → List Found → List ℕ
+    → ℕ → Listing
+sampled_listing form text p schedules seed number found times unfinished = record {
   output = record {
-    bytes = sampled_lines text p found times schedules 0 ++ (unfinished_line unfinished
-        ++ (schedules_line schedules seed ++ no_number_line number found));
+    bytes = form.of_sample text p schedules seed number found times unfinished;
     status = 5;
   };
   trace = trace_of number found;
@@ -89,7 +108,8 @@ IsVerdict p false = IsAccepted p
 -- it. If it says that it is of all schedules, each end that a list of allowed events leads to is
 -- there, however long the list is. Nothing is known of the states of a search by calls, which found
 -- no other end.
-pub record IsSearch (text : List ℕ) (g : Setting) (number : Option ℕ) (r : Listing) : Type 0 where
+pub record IsSearch (form : EndsForm) (text : List ℕ) (g : Setting) (number : Option ℕ)
+    (r : Listing) : Type 0 where
   pub found : List Found
   pub states : ℕ
   pub whole : Bool
@@ -98,33 +118,40 @@ pub record IsSearch (text : List ℕ) (g : Setting) (number : Option ℕ) (r : L
   pub sound : AreEnds g found
   pub complete : whole ≡ true → AreAll g.program g.expiries g.interrupts (ends_of found)
   pub verdict : IsVerdict g.program is_refused
-  pub printed : r ≡ searched_listing text g is_refused number found states whole by_calls
+  pub printed : r ≡ searched_listing form text g is_refused number found states whole by_calls
 
 -- a listing of the ends of random schedules: each of them is one, after the trace that comes with
 -- it
-pub record IsSampling (text : List ℕ) (g : Setting) (schedules seed : ℕ) (number : Option ℕ)
-    (r : Listing) : Type 0 where
+pub record IsSampling (form : EndsForm) (text : List ℕ) (g : Setting) (schedules seed : ℕ)
+    (number : Option ℕ) (r : Listing) : Type 0 where
   pub found : List Found
   pub times : List ℕ
   pub unfinished : ℕ
   pub sound : AreEnds g found
-  pub printed : r ≡ sampled_listing text g.program schedules seed number found times unfinished
+  pub printed : r ≡ sampled_listing form text g.program schedules seed number found times unfinished
 
-abbrev pub ListsBy : Manner → List ℕ → Setting → Option ℕ → Listing → Type 0
-ListsBy (manner.All limits) text g number r = IsSearch text g number r
-ListsBy (manner.Sample schedules seed) text g number r = IsSampling text g schedules seed number r
+abbrev pub ListsBy : EndsForm → Manner → List ℕ → Setting → Option ℕ → Listing → Type 0
+ListsBy form (manner.All limits) text g number r = IsSearch form text g number r
+ListsBy form (manner.Sample schedules seed) text g number r =
+    IsSampling form text g schedules seed number r
 
 -- ---- of a text
 
 -- the ends of the program, or the fault of a text that is none
-abbrev pub Lists : Result Program AsmError → List ℕ → EndsOptions → Option ℕ → Listing → Type 0
-Lists (Ok p) text wanted number r = ListsBy wanted.manner text (setting p wanted) number r
-Lists (Err e) text wanted number r = r ≡ alone (fault_output e text)
+abbrev pub ListsIn : EndsForm → Result Program AsmError → List ℕ → EndsOptions → Option ℕ → Listing
+    → Type 0
+ListsIn form (Ok p) text wanted number r =
+    ListsBy form wanted.manner text (setting p wanted) number r
+ListsIn form (Err e) text wanted number r = r ≡ alone (form.of_text_fault e text)
 
 -- the same, or that memory was refused
+abbrev pub IsListingIn : EndsForm → EndsOptions → Option ℕ → List ℕ → Listing → Type 0
+IsListingIn form wanted number text r =
+    ListsIn form (judged text) text wanted number r ⊎ (r ≡ alone memory_output)
+
+-- in lines
 abbrev pub IsListingOf : EndsOptions → Option ℕ → List ℕ → Listing → Type 0
-IsListingOf wanted number text r =
-    Lists (judged text) text wanted number r ⊎ (r ≡ alone memory_output)
+IsListingOf wanted number text r = IsListingIn lines_form wanted number text r
 
 -- ---- what is written
 

@@ -175,7 +175,7 @@ fn is_number(found: &[Found], number: u32) -> bool
 }
 
 /// Is there an end of the number that is asked for, if one is?
-pub(crate) fn has_number(number: Option<u32>, found: &[Found]) -> bool
+pub fn has_number(number: Option<u32>, found: &[Found]) -> bool
     ensures { result ≡ def.has_number number found.now }
 {
     match number {

@@ -26,12 +26,14 @@ const STATES_TIMES_EVENTS: usize = 10_000_000;
 
 /// The ends of a program, as far as they were found.
 #[derive(Drop)]
-pub(crate) struct Answer {
-    pub(crate) found: Vec<Found>,
-    pub(crate) states: usize,
-    pub(crate) whole: bool,
+pub struct Answer {
+    pub found: Vec<Found>,
+    /// How many states a search over all schedules found.
+    pub states: usize,
+    /// Are these the ends of all schedules?
+    pub whole: bool,
     /// The states of a search by calls, if it found no other end.
-    pub(crate) by_calls: Option<usize>,
+    pub by_calls: Option<usize>,
 }
 
 /// The most states that a search may keep.

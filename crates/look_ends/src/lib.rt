@@ -4,6 +4,7 @@
 mod below;
 mod by_calls;
 mod exploring;
+mod form;
 mod lines;
 mod listing;
 mod progress;
@@ -12,7 +13,11 @@ mod verdict;
 mod wanted;
 mod writing;
 
-pub use listing::{Listing, listed};
+pub use below::has_number;
+pub use by_calls::Answer;
+pub use form::{EndLines, EndsForm};
+pub use lines::times_at;
+pub use listing::{Listing, listed, listed_in};
 pub use progress::{Progress, Silent};
 pub use wanted::{EndsOptions, Limits, Manner};
-pub use writing::{write_ends, write_listing};
+pub use writing::{write_ends, write_ends_in, write_listing};

@@ -90,7 +90,7 @@ fn say_sampled(
 }
 
 /// How often the end at a place came.
-fn times_at(times: &[u64], place: usize) -> u64
+pub fn times_at(times: &[u64], place: usize) -> u64
     ensures { result ≡ def.times_at times.now place }
 {
     match times.get(place) {

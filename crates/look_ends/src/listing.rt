@@ -5,13 +5,11 @@ ghost use Rattle.sts_asm.specs.Text.{judged};
 ghost use Rattle.look_refusal.specs.Stops.{Gives};
 ghost use Rattle.look_ends.specs.Listing as def;
 
-use crate::below::{
-    found_at, has_number, say_by_calls, say_no_number, say_refused, say_schedules, say_states,
-    say_unfinished,
-};
+use crate::below::{found_at, has_number};
 use crate::by_calls::{Answer, answered, by_calls, room_after};
 use crate::exploring::explored;
-use crate::lines::{say_all, say_shares};
+use crate::form::{EndLines, EndsForm};
+use crate::lines::say_all;
 use crate::progress::Progress;
 use crate::states::Told;
 use crate::verdict::{Judged, verdict};
@@ -19,7 +17,7 @@ use crate::wanted::{EndsOptions, Limits, Manner};
 use ends_plain::config::{Found, Setting};
 use ends_plain::sample::{Sample, Sampling, sample_ends};
 use look_names::Names;
-use look_refusal::{ExplainError, Explanation, program_of};
+use look_refusal::{ExplainError, Explanation};
 use std::alloc::{AllocError, Global};
 use std::marker::Model;
 use sts_code::Program;
@@ -66,29 +64,22 @@ fn trace_of(alloc: Global, number: Option<u32>, found: &[Found]) -> Result<Vec<E
     }
 }
 
-/// What is printed of a search.
-fn searched(
+/// What is shown of a search.
+fn searched<F: EndsForm>(
     alloc: Global,
+    form: &F,
     names: &Names<'_>,
     setting: &Setting,
     is_refused: bool,
     number: Option<u32>,
     ends: &Answer,
 ) -> Result<Listing, AllocError>
-    ensures { IfOk result (λ l. l ≡ def.searched_listing names.now setting.now is_refused number
-        ends.now.found.items ends.now.states ends.now.whole ends.now.by_calls) }
+    ensures { IfOk result (λ l. l ≡ def.searched_listing (F.shows form.now) names.now setting.now
+        is_refused number ends.now.found.items ends.now.states ends.now.whole
+        ends.now.by_calls) }
 {
-    let told = Told {
-        program: &setting.program,
-        names,
-    };
+    let bytes = form.of_search(alloc, names, setting, is_refused, number, ends)?;
     let found = ends.found.as_slice();
-    let mut bytes = Vec::new(alloc);
-    say_all(alloc, &mut bytes, told, found)?;
-    say_refused(alloc, &mut bytes, setting, is_refused, ends.whole, found)?;
-    say_by_calls(alloc, &mut bytes, ends.by_calls)?;
-    say_states(alloc, &mut bytes, ends.whole, ends.states)?;
-    say_no_number(alloc, &mut bytes, number, found)?;
     let status = if ends.whole && has_number(number, found) {
         0
     } else {
@@ -100,32 +91,35 @@ fn searched(
     })
 }
 
-/// What is printed of random schedules.
-fn sampled(
+/// What is shown of random schedules.
+fn sampled<F: EndsForm>(
     alloc: Global,
+    form: &F,
     told: Told<'_, '_>,
     schedules: u32,
     seed: u32,
     number: Option<u32>,
     sample: &Sample,
 ) -> Result<Listing, AllocError>
-    ensures { IfOk result (λ l. l ≡ def.sampled_listing told.entry.names.now
+    ensures { IfOk result (λ l. l ≡ def.sampled_listing (F.shows form.now) told.entry.names.now
         told.entry.program.now schedules seed number sample.now.found.items sample.now.times.items
         sample.now.unfinished) }
 {
-    let found = sample.found.as_slice();
-    let mut bytes = Vec::new(alloc);
-    let times = sample.times.as_slice();
-    say_shares(alloc, &mut bytes, told, found, times, schedules)?;
-    say_unfinished(alloc, &mut bytes, sample.unfinished)?;
-    say_schedules(alloc, &mut bytes, schedules, seed)?;
-    say_no_number(alloc, &mut bytes, number, found)?;
+    let bytes = form.of_sample(
+        alloc,
+        told.names,
+        told.program,
+        schedules,
+        seed,
+        number,
+        sample,
+    )?;
     Ok(Listing {
         output: Explanation {
             bytes,
             status: STATUS_PART,
         },
-        trace: trace_of(alloc, number, found)?,
+        trace: trace_of(alloc, number, sample.found.as_slice())?,
     })
 }
 
@@ -143,8 +137,9 @@ fn reported<P: Progress>(
 }
 
 /// The listing of all ends of a program. Those that a search by calls finds are reported at once.
-fn of_all<P: Progress>(
+fn of_all<F: EndsForm, P: Progress>(
     alloc: Global,
+    form: &F,
     names: &Names<'_>,
     setting: Setting,
     is_refused: bool,
@@ -153,7 +148,7 @@ fn of_all<P: Progress>(
     progress: &mut P,
 ) -> Result<Listing, AllocError>
     requires { def.IsVerdict setting.program is_refused }
-    ensures { IfOk result (def.IsSearch names.now setting number) }
+    ensures { IfOk result (def.IsSearch (F.shows form.now) names.now setting number) }
 {
     let calls = by_calls(alloc, &setting, is_refused, limits, progress)?;
     let told = Told {
@@ -166,19 +161,21 @@ fn of_all<P: Progress>(
     let ends = exploration.ends(alloc)?;
     let asked = exploration.setting();
     let all = answered(asked, is_refused, calls, ends)?;
-    searched(alloc, names, asked, is_refused, number, &all)
+    searched(alloc, form, names, asked, is_refused, number, &all)
 }
 
 /// The listing of the ends of random schedules of a program.
-fn of_sample(
+fn of_sample<F: EndsForm>(
     alloc: Global,
+    form: &F,
     names: &Names<'_>,
     setting: &Setting,
     schedules: u32,
     seed: u32,
     number: Option<u32>,
 ) -> Result<Listing, AllocError>
-    ensures { IfOk result (def.IsSampling names.now setting.now schedules seed number) }
+    ensures { IfOk result (def.IsSampling (F.shows form.now) names.now setting.now schedules seed
+        number) }
 {
     let sampling = Sampling {
         schedules: u64::from(schedules),
@@ -190,20 +187,21 @@ fn of_sample(
         program: &setting.program,
         names,
     };
-    sampled(alloc, told, schedules, seed, number, &sample)
+    sampled(alloc, form, told, schedules, seed, number, &sample)
 }
 
 /// The listing of a program, whose text has these names.
-fn of_program<P: Progress>(
+fn of_program<F: EndsForm, P: Progress>(
     alloc: Global,
+    form: &F,
     names: &Names<'_>,
     program: Program,
     wanted: EndsOptions,
     number: Option<u32>,
     progress: &mut P,
 ) -> Result<Listing, AllocError>
-    ensures { IfOk result (def.ListsBy wanted.manner names.now (def.setting program wanted)
-        number) }
+    ensures { IfOk result (def.ListsBy (F.shows form.now) wanted.manner names.now
+        (def.setting program wanted) number) }
 {
     let Judged {
         program,
@@ -216,10 +214,10 @@ fn of_program<P: Progress>(
     };
     match wanted.manner {
         Manner::All { limits } => of_all(
-            alloc, names, setting, is_refused, limits, number, progress,
+            alloc, form, names, setting, is_refused, limits, number, progress,
         ),
         Manner::Sample { schedules, seed } => {
-            of_sample(alloc, names, &setting, schedules, seed, number)
+            of_sample(alloc, form, names, &setting, schedules, seed, number)
         }
     }
 }
@@ -235,24 +233,51 @@ fn alone(alloc: Global, output: Explanation) -> Listing
 }
 
 /// The listing of a text, unless the text has a fault.
-fn of_text<P: Progress>(
+fn of_text<F: EndsForm, P: Progress>(
     alloc: Global,
+    form: &F,
     wanted: EndsOptions,
     number: Option<u32>,
     text: &[u8],
     progress: &mut P,
 ) -> Result<Listing, ExplainError>
-    ensures { Gives result (λ l. def.Lists (judged text.now) text.now wanted number l)
-        (λ o. def.Lists (judged text.now) text.now wanted number (def.alone o)) }
+    ensures { Gives result
+        (λ l. def.ListsIn (F.shows form.now) (judged text.now) text.now wanted number l)
+        (λ o. def.ListsIn (F.shows form.now) (judged text.now) text.now wanted number
+        (def.alone o)) }
 {
-    let program = program_of(alloc, text)?;
+    let program = form.program_of(alloc, text)?;
     let names = Names::read(alloc, text)?;
-    let listing = of_program(alloc, &names, program, wanted, number, progress)?;
+    let listing = of_program(alloc, form, &names, program, wanted, number, progress)?;
     Ok(listing)
 }
 
-/// Finds the ends of a text, and returns what is printed of them. With a `number`, it keeps the
-/// trace of the end of this number, as `sts replay` reads it.
+/// Finds the ends of a text, and returns what is shown of them in a form. With a `number`, it keeps
+/// the trace of the end of this number, as `sts replay` reads it.
+///
+/// # Errors
+///
+/// Memory was refused.
+pub fn listed_in<F: EndsForm, P: Progress>(
+    alloc: Global,
+    form: &F,
+    wanted: EndsOptions,
+    number: Option<u32>,
+    text: &[u8],
+    progress: &mut P,
+) -> Result<Listing, AllocError>
+    ensures { IfOk result
+        (def.ListsIn (F.shows form.now) (judged text.now) text.now wanted number) }
+{
+    match of_text(alloc, form, wanted, number, text, progress) {
+        Ok(listing) => Ok(listing),
+        Err(ExplainError::Shown(output)) => Ok(alone(alloc, output)),
+        Err(ExplainError::Memory) => Err(AllocError),
+    }
+}
+
+/// Finds the ends of a text, and returns the lines that are printed of them. With a `number`, it
+/// keeps the trace of the end of this number, as `sts replay` reads it.
 ///
 /// # Errors
 ///
@@ -264,11 +289,7 @@ pub fn listed<P: Progress>(
     text: &[u8],
     progress: &mut P,
 ) -> Result<Listing, AllocError>
-    ensures { IfOk result (def.Lists (judged text.now) text.now wanted number) }
+    ensures { IfOk result (def.ListsIn def.lines_form (judged text.now) text.now wanted number) }
 {
-    match of_text(alloc, wanted, number, text, progress) {
-        Ok(listing) => Ok(listing),
-        Err(ExplainError::Shown(output)) => Ok(alone(alloc, output)),
-        Err(ExplainError::Memory) => Err(AllocError),
-    }
+    listed_in(alloc, &EndLines, wanted, number, text, progress)
 }

@@ -6,7 +6,8 @@ ghost use Rattle.sts_output.specs.Output as cli;
 ghost use Rattle.sts_trace.specs.Spelling.{trace_text};
 ghost use Rattle.look_ends.specs.Listing as def;
 
-use crate::listing::{Listing, listed};
+use crate::form::{EndLines, EndsForm};
+use crate::listing::{Listing, listed_in};
 use crate::progress::Progress;
 use crate::wanted::EndsOptions;
 use std::alloc::Global;
@@ -16,9 +17,32 @@ use sts_model::Event;
 use sts_output::{TakeError, WriteFailed, failed, written};
 use sts_trace::write_trace;
 
-/// Finds the ends of a text, writes what is printed of them, and returns the status.
+/// Finds the ends of a text, writes what is shown of them in a form, and returns the status.
 ///
 /// It takes all its memory before the first byte is written.
+///
+/// # Errors
+///
+/// A write failed.
+pub fn write_ends_in<F: EndsForm, P: Progress, W: Write>(
+    alloc: Global,
+    form: &F,
+    wanted: EndsOptions,
+    text: &[u8],
+    progress: &mut P,
+    out: &mut W,
+) -> Result<u8, WriteFailed>
+    ensures { IfOk result (λ s. (o : def.Listing)
+        × def.IsListingIn (F.shows form.now) wanted None text.now o
+        × cli.Writes (W.contents out.old) (W.contents out.new) s o.output) }
+{
+    match listed_in(alloc, form, wanted, None, text, progress) {
+        Ok(listing) => written(out, listing.output.bytes.as_slice(), listing.output.status),
+        Err(_) => failed(TakeError::Memory, out),
+    }
+}
+
+/// Finds the ends of a text, writes the lines that are printed of them, and returns the status.
 ///
 /// # Errors
 ///
@@ -33,10 +57,7 @@ pub fn write_ends<P: Progress, W: Write>(
     ensures { IfOk result (λ s. (o : def.Listing) × def.IsListingOf wanted None text.now o
         × cli.Writes (W.contents out.old) (W.contents out.new) s o.output) }
 {
-    match listed(alloc, wanted, None, text, progress) {
-        Ok(listing) => written(out, listing.output.bytes.as_slice(), listing.output.status),
-        Err(_) => failed(TakeError::Memory, out),
-    }
+    write_ends_in(alloc, &EndLines, wanted, text, progress, out)
 }
 
 /// Writes all of a trace.

@@ -1,3 +1,4 @@
 mod AnswerFloats
+mod EndFloats
 pub mod Plain
 mod WrittenLemmas

@@ -1,9 +1,11 @@
-//! What `look explain` and `look tell` print, as lines of JSON.
+//! What `look explain`, `look tell` and `look ends` print, as lines of JSON.
 #![tactic(auto)]
 
+mod ends;
 mod explained;
 mod lines;
 mod stories;
 
+pub use ends::JsonEnds;
 pub use explained::write_explained;
 pub use stories::write_stories;

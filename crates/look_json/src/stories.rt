@@ -23,7 +23,7 @@ use sts_output::{Output, TakeError, WriteFailed, failed, written};
 use sts_trace::read_trace;
 
 /// The form of a fault.
-const FAULTS: JsonViews = JsonViews {
+pub(crate) const FAULTS: JsonViews = JsonViews {
     wanted: ViewOptions {
         each: false,
         full: false,

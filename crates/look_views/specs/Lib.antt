@@ -1,3 +1,4 @@
+pub mod Named
 pub mod Scope
 pub mod Task
 pub mod Views

@@ -3,10 +3,12 @@
 #![tactic(auto)]
 
 mod frames;
+mod named;
 mod of_text;
 mod runs;
 mod scopes;
 mod tasks;
 mod views;
 
+pub use named::{line_at, placed, with_name};
 pub use views::JsonViews;

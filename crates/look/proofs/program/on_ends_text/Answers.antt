@@ -11,9 +11,9 @@ pub returns-in-None : goal.returns-in-None
 returns-in-None g c =
     let sinks = same_file (g.S.Sinks.same c.args.sinks.now) (g.S.Sinks.said_yes c.args.sinks.now) (g.S.Sinks.said_yes c.args.sinks.now) in
     let spares : def.Spares sinks c.args.path.now c.args.ends.kept = rw c.in-None.is tt in
-    IfOk-weaker c.write_ends.result _ _
+    IfOk-weaker c.write_ends_by.result _ _
     (λ s h. (h.0.output, def.listed spares h.0 (rw c.in-None.is h.1) refl, h.2))
-    c.write_ends.ensures
+    c.write_ends_by.ensures
 
 pub returns-in-Ok : goal.returns-in-Ok
 returns-in-Ok g c =

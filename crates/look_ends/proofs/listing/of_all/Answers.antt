@@ -19,6 +19,6 @@ returns g c =
     let sound = subst (λ (y : Setting). AreEnds y all.found.items) c.setting-asked.ensures c.in_ok-all.ensures.sound in
     let complete = still_all x ends.found.items all.found.items ends.whole all.whole c.in_ok-ends.ensures.complete c.in_ok-all.ensures.whole in
     IfOk-weaker c.searched.result _ _
-    (λ l h. search_of c.args.setting x c.setting-asked.result.now c.args.names.now c.args.number c.args.is_refused all.found.items all.states all.whole all.by_calls l
+    (λ l h. search_of (g.F.EndsForm.shows c.args.form.now) c.args.setting x c.setting-asked.result.now c.args.names.now c.args.number c.args.is_refused all.found.items all.states all.whole all.by_calls l
     c.setting-asked.ensures c.in_ok-exploration.ensures sound complete c.requires h)
     c.searched.ensures

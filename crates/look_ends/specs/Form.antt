@@ -1,0 +1,26 @@
+-- The forms in which the ends of a text are shown (this project's own).
+use Rattle.std.specs.Prelude.{◌≡◌, ℕ, List, Bool, Option, Err}
+use Rattle.sts_code.specs.Program.{Program}
+use Rattle.sts_asm.specs.Text.{judged}
+use Rattle.sts_asm.specs.declared.fault.AsmError.{AsmError}
+use Rattle.sts_output.specs.Output.{Output}
+use Rattle.ends_plain.specs.declared.config.Found.{Found}
+use Rattle.ends_plain.specs.declared.config.Setting.{Setting}
+
+pub record EndsForm : Type 0 where
+  -- The bytes for a search: by the text, what was searched, whether the program is refused, the
+  -- number of the end that is asked for, the ends, how many states were found, whether these are
+  -- all schedules, and the states of a search by calls that found no other end.
+  pub of_search : List ℕ → Setting → Bool → Option ℕ → List Found → ℕ → Bool → Option ℕ → List ℕ
+  -- The bytes for random schedules: by the text, the program, how many schedules there were, their
+  -- seed, the number of the end that is asked for, the ends, how often each came, and how many
+  -- schedules came to none.
+  pub of_sample : List ℕ → Program → ℕ → ℕ → Option ℕ → List Found → List ℕ → ℕ → List ℕ
+  -- the output for a fault of the text
+  pub of_text_fault : AsmError → List ℕ → Output
+
+-- the output for a fault of the text
+pub record IsFaultIn (form : EndsForm) (text : List ℕ) (output : Output) : Type 0 where
+  pub error : AsmError
+  pub fault : judged text ≡ Err error
+  pub printed : output ≡ form.of_text_fault error text

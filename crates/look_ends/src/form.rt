@@ -1,0 +1,119 @@
+//! The forms in which the ends of a text are shown.
+
+ghost use Rattle.std.specs.Prelude.{◌≡◌, IfOk, Ok};
+ghost use Rattle.sts_asm.specs.Text.{judged};
+ghost use Rattle.look_refusal.specs.Stops.{Gives};
+ghost use Rattle.look_ends.specs.Form.{IsFaultIn};
+
+use crate::below::{
+    say_by_calls, say_no_number, say_refused, say_schedules, say_states, say_unfinished,
+};
+use crate::by_calls::Answer;
+use crate::lines::{say_all, say_shares};
+use crate::states::Told;
+use ends_plain::config::Setting;
+use ends_plain::sample::Sample;
+use look_names::Names;
+use look_refusal::{ExplainError, program_of};
+use std::alloc::{AllocError, Global};
+use sts_code::Program;
+
+/// A form in which the ends of a text are shown, or its fault.
+pub trait EndsForm {
+    ghost use Rattle.look_ends.specs.Form.{EndsForm as AnyForm};
+
+    /// What is shown in this form.
+    ghost shows: { Self → AnyForm };
+
+    /// Returns what is shown of a search.
+    fn of_search(
+        &self,
+        alloc: Global,
+        names: &Names<'_>,
+        setting: &Setting,
+        is_refused: bool,
+        number: Option<u32>,
+        ends: &Answer,
+    ) -> Result<Vec<u8>, AllocError>
+        ensures { IfOk result (λ b. b.items ≡ (shows self.now).of_search names.now setting.now
+            is_refused number ends.now.found.items ends.now.states ends.now.whole
+            ends.now.by_calls) };
+
+    /// Returns what is shown of random schedules.
+    fn of_sample(
+        &self,
+        alloc: Global,
+        names: &Names<'_>,
+        program: &Program,
+        schedules: u32,
+        seed: u32,
+        number: Option<u32>,
+        sample: &Sample,
+    ) -> Result<Vec<u8>, AllocError>
+        ensures { IfOk result (λ b. b.items ≡ (shows self.now).of_sample names.now program.now
+            schedules seed number sample.now.found.items sample.now.times.items
+            sample.now.unfinished) };
+
+    /// Returns the program of a text, or what is shown of its fault.
+    fn program_of(&self, alloc: Global, text: &[u8]) -> Result<Program, ExplainError>
+        ensures { Gives result (λ p. judged text.now ≡ Ok p)
+            (IsFaultIn (shows self.now) text.now) };
+}
+
+/// Lines for people.
+#[derive(Drop)]
+pub struct EndLines;
+
+impl EndsForm for EndLines {
+    ghost use Rattle.look_ends.specs.Listing.{lines_form};
+
+    ghost shows = { λ _. lines_form };
+
+    fn of_search(
+        &self,
+        alloc: Global,
+        names: &Names<'_>,
+        setting: &Setting,
+        is_refused: bool,
+        number: Option<u32>,
+        ends: &Answer,
+    ) -> Result<Vec<u8>, AllocError> {
+        let told = Told {
+            program: &setting.program,
+            names,
+        };
+        let found = ends.found.as_slice();
+        let mut bytes = Vec::new(alloc);
+        say_all(alloc, &mut bytes, told, found)?;
+        say_refused(alloc, &mut bytes, setting, is_refused, ends.whole, found)?;
+        say_by_calls(alloc, &mut bytes, ends.by_calls)?;
+        say_states(alloc, &mut bytes, ends.whole, ends.states)?;
+        say_no_number(alloc, &mut bytes, number, found)?;
+        Ok(bytes)
+    }
+
+    fn of_sample(
+        &self,
+        alloc: Global,
+        names: &Names<'_>,
+        program: &Program,
+        schedules: u32,
+        seed: u32,
+        number: Option<u32>,
+        sample: &Sample,
+    ) -> Result<Vec<u8>, AllocError> {
+        let told = Told { program, names };
+        let found = sample.found.as_slice();
+        let mut bytes = Vec::new(alloc);
+        let times = sample.times.as_slice();
+        say_shares(alloc, &mut bytes, told, found, times, schedules)?;
+        say_unfinished(alloc, &mut bytes, sample.unfinished)?;
+        say_schedules(alloc, &mut bytes, schedules, seed)?;
+        say_no_number(alloc, &mut bytes, number, found)?;
+        Ok(bytes)
+    }
+
+    fn program_of(&self, alloc: Global, text: &[u8]) -> Result<Program, ExplainError> {
+        program_of(alloc, text)
+    }
+}

@@ -1,0 +1,8 @@
+use Rattle.std.proofs.Common.{◌≡◌, ◌++◌, drop}
+use Rattle.std.specs.String.{string_bytes}
+use Rattle.look_json.specs.Ends as def
+use Rattle.look_json.proofs.ends.say_sampled.Given as goal
+
+-- what is written, and the lines of the rest
+abbrev pub invariant-loop-k : goal.invariant-loop-k
+invariant-loop-k l = string_bytes l.out ++ def.sampled_lines l.names l.program (drop l.k l.found) l.times l.k ≡ string_bytes l.fn.out ++ def.sampled_lines l.names l.program l.found l.times 0
