@@ -1,6 +1,6 @@
--- The elements of a picture (this project's own). Their words are numbers, words of the machine and
--- names of functions, which are letters, digits and underscores: none needs an escape.
-use Rattle.std.specs.Prelude.{ℕ, List, ◌++◌, codes}
+-- The elements of a picture, and the escapes of their words (this project's own).
+use Rattle.std.specs.Prelude.{ℕ, List, ◌++◌, ◌==◌, codes, encode_utf8, if◌then◌else◌}
+use Rattle.std.specs.List.{flat_map}
 use Rattle.std.specs.Fmt.{decimal}
 use Rattle.look_picture.specs.declared.marks.Mark.{Mark}
 use Rattle.look_picture.specs.Marks.{begins, shape}
@@ -26,3 +26,13 @@ text_start class x y =
 
 abbrev pub text_end : List ℕ
 text_end = codes "</text>\n"
+
+-- a byte of a text, or its escape if it means something in XML
+abbrev pub escaped_byte : ℕ → List ℕ
+escaped_byte b =
+    if b == 60 then codes "&lt;"
+    else (if b == 62 then codes "&gt;"
+    else (if b == 38 then codes "&amp;" else encode_utf8 b))
+
+abbrev pub escaped : List ℕ → List ℕ
+escaped text = flat_map escaped_byte text

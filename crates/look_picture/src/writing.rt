@@ -1,4 +1,4 @@
-//! The elements of a picture.
+//! The elements of a picture, and the escapes of their words.
 
 ghost use Rattle.std.specs.Prelude.{◌≡◌, ◌++◌, OnOk};
 ghost use Rattle.std.specs.String.{string_bytes};
@@ -38,4 +38,30 @@ pub(crate) fn text_end(out: &mut String) -> Result<(), AllocError>
     ensures { OnOk result (string_bytes out.new ≡ string_bytes out.old ++ def.text_end) }
 {
     writeln!(out, "</text>")
+}
+
+/// A byte of a text, or its escape.
+fn escape_byte(out: &mut String, byte: u8) -> Result<(), AllocError>
+    ensures { OnOk result (string_bytes out.new
+        ≡ string_bytes out.old ++ def.escaped_byte byte) }
+{
+    if byte == b'<' {
+        out.push_str("&lt;")
+    } else if byte == b'>' {
+        out.push_str("&gt;")
+    } else if byte == b'&' {
+        out.push_str("&amp;")
+    } else {
+        out.push(byte as char)
+    }
+}
+
+/// A text, with the escapes that XML needs.
+pub(crate) fn escape(out: &mut String, text: &[u8]) -> Result<(), AllocError>
+    ensures { OnOk result (string_bytes out.new ≡ string_bytes out.old ++ def.escaped text.now) }
+{
+    for byte in text {
+        escape_byte(out, *byte)?;
+    }
+    Ok(())
 }
