@@ -9,7 +9,7 @@ The files `.rows` have the notation of the tables in crates/tests_rows/data, wit
 A TRACE is short (`0*5`), or `trace LINES`. A remark `# ---- GROUP` begins a group, and one above a text is the row's name.
 
 pictures.json has runs, and the picture of each. `sizes` are the width and the height of the picture and of its grid, and
-`foot` is where the legend begins. An element is `CLASS X Y WORDS` for a mark, `fork X FROM TO`, `number X N WORDS`,
+`foot` is where the legend begins; `titled` is the heading's form of `state`, if that has names. An element is `CLASS X Y WORDS` for a mark, `fork X FROM TO`, `number X N WORDS`,
 `idle X N WORDS`, or `value X Y WORDS` and other texts. An element with `of each` stands for these elements of each event from
 `first` to `last`: N is its number, and X its column, of which the first is at `at`. `events` is a window, if one is asked for, and
 `left_out` says in the heading which events aren't drawn. The legend has the marks that the elements have. The style is a text
@@ -47,6 +47,8 @@ MARKS = {
     "fault": ("m14-9v10m0 4v3", "a forbidden step: the run stops"),
     "idle": ("m-7 0h14", "the event changed nothing"),
 }
+# Of texts that are pressed into their room if they have more letters: how many fit, and how wide the room is.
+ROOMS = {"code": (31, 186), "value": (21, 139)}
 
 
 def tables():
@@ -86,7 +88,8 @@ def element(short):
     if kind == "fork":
         return f"<path class='fork' d='M{x} {y}V{words}'/>\n"
     if kind in ("value", "label", "name", "code", "word"):
-        fit = " textLength='186' lengthAdjust='spacingAndGlyphs'" if kind == "code" and len(html.unescape(words)) > 31 else ""
+        letters, pixels = ROOMS.get(kind, (len(words), 0))
+        fit = f" textLength='{pixels}' lengthAdjust='spacingAndGlyphs'" if len(html.unescape(words)) > letters else ""
         return f"<text class='{kind}' x='{x}' y='{y}'{fit}>{words}</text>\n"
     return mark(kind, x, y, words)
 

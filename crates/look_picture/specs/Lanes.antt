@@ -1,5 +1,5 @@
 -- The tasks in a column, and the names of the lanes (this project's own).
-use Rattle.std.specs.Prelude.{ℕ, ◌+◌, Bool, true, false, not, ◌&&◌, if◌then◌else◌, List, ◌∷◌, [], ◌++◌, Option, Some, None, codes, length, nat_lt}
+use Rattle.std.specs.Prelude.{ℕ, ◌+◌, ℤ, Bool, true, false, not, ◌&&◌, if◌then◌else◌, List, ◌∷◌, [], ◌++◌, Option, Some, None, codes, length, nat_lt}
 use Rattle.std.specs.Fmt.{decimal}
 use Rattle.sts_code.specs.Program.{Program}
 use Rattle.sts_model.specs.declared.event.End.{End}
@@ -14,8 +14,9 @@ use Rattle.look_tell.specs.Story.{Story, world_of}
 use Rattle.look_tell.specs.Words.{called_words}
 use Rattle.look_picture.specs.declared.marks.Mark.{Mark}
 use Rattle.look_picture.specs.declared.marks.Mark.TheVariants as mark
+use Rattle.look_picture.specs.declared.writing.Room.{Room}
 use Rattle.look_picture.specs.Place.{lane, over_lane}
-use Rattle.look_picture.specs.Writing.{escaped, mark_at, text_end, text_start}
+use Rattle.look_picture.specs.Writing.{fitted_text, mark_at, text_end, text_start}
 
 -- ---- how a task stands
 
@@ -39,13 +40,20 @@ rests w t = nat_lt t (length w.tasks) && not (lives (task_at w t))
 abbrev pub told : Program → World → ℕ → List ℕ
 told p w t = codes "task " ++ decimal t ++ stand_words p w t
 
--- the value or the code that it ended with, next to the mark, with the name that the text gives it
+-- the room to the right of the last column
+abbrev pub value_room : Room
+value_room = record { letters = 21; pixels = 139 }
+
+-- a value or a code next to the mark of an end, with the name that the text gives it
+abbrev pub named_value : List ℕ → ℕ → ℕ → ℤ → List ℕ
+named_value text x t v =
+    fitted_text (codes "value") (x + 22) (lane t + 4) (value_words text v) value_room
+
+-- the value or the code that it ended with
 abbrev pub value_text : List ℕ → ℕ → ℕ → Option End → List ℕ
 value_text text x t None = []
-value_text text x t (Some (Success v)) =
-    text_start (codes "value") (x + 22) (lane t + 4) ++ (escaped (value_words text v) ++ text_end)
-value_text text x t (Some (Failed c)) =
-    text_start (codes "value") (x + 22) (lane t + 4) ++ (escaped (value_words text c) ++ text_end)
+value_text text x t (Some (Success v)) = named_value text x t v
+value_text text x t (Some (Failed c)) = named_value text x t c
 
 abbrev pub life : Program → World → ℕ → ℕ → List ℕ
 life p w x t = mark_at (life_mark (can_step p w t)) x (lane t) (told p w t)
@@ -106,23 +114,14 @@ task_name t scope =
     text_start (codes "name") 196 (lane t)
     ++ (codes "task " ++ decimal t ++ codes " under " ++ (under_words scope ++ text_end))
 
--- words of more than 31 letters are pressed into the room to the left of the lanes
-abbrev pub fitted : List ℕ → List ℕ
-fitted words =
-    if nat_lt 31 (length words) then codes " textLength='186' lengthAdjust='spacingAndGlyphs'" else []
-
--- the words under the name of a lane begin, with these attributes
-abbrev pub call_start : ℕ → List ℕ → List ℕ
-call_start y fit =
-    codes "<text class='code' x='196' y='" ++ decimal y ++ codes "'" ++ fit ++ codes ">"
-
--- the words under the name of a lane
-abbrev pub call_text : ℕ → List ℕ → List ℕ
-call_text y words = call_start y (fitted words) ++ (escaped words ++ text_end)
+-- the room to the left of the lanes
+abbrev pub call_room : Room
+call_room = record { letters = 31; pixels = 186 }
 
 -- its function and the arguments that it was forked with, below
 abbrev pub call_name : List ℕ → Story → ℕ → List ℕ
-call_name text s t = call_text (lane t + 13) (called_words text s t)
+call_name text s t =
+    fitted_text (codes "code") 196 (lane t + 13) (called_words text s t) call_room
 
 abbrev pub lane_name : List ℕ → Story → ℕ → List ℕ
 lane_name text s t = task_name t (task_at (world_of s) t).scope ++ call_name text s t

@@ -128,9 +128,10 @@ svg_start wide high =
     ++ (decimal wide ++ (codes " " ++ (decimal high ++ (codes "' width='" ++ (decimal wide
     ++ (codes "' height='" ++ (decimal high ++ codes "'>\n<title>")))))))
 
--- the size of a picture of these many events, with these many keys
-abbrev pub sized : Watched → ℕ → ℕ → List ℕ
-sized m events keys = svg_start (width events) (height (length m.last.tasks) keys)
+-- the size of a picture of these many events, with a heading of these many letters and these many
+-- keys
+abbrev pub sized : Watched → ℕ → ℕ → ℕ → List ℕ
+sized m events letters keys = svg_start (width events letters) (height (length m.last.tasks) keys)
 
 -- the lines of all tasks and scopes
 unfoldable pub standing_lines : Watched → List ℕ
@@ -147,9 +148,10 @@ description_end = codes "</desc>\n"
 abbrev pub description : Watched → List ℕ
 description m = description_start ++ (standing_lines m ++ description_end)
 
--- the size, the state of the run, and all tasks and scopes
-abbrev pub head : List ℕ → Watched → Drawn → ℕ → List ℕ
-head text m d keys = sized m (windows.columns d) keys ++ (heading text m d ++ description m)
+-- the size, this heading as the title, and all tasks and scopes
+abbrev pub head : List ℕ → Watched → ℕ → ℕ → List ℕ
+head heading m events keys =
+    sized m events (length heading) keys ++ (heading ++ description m)
 
 -- the style, and the grid behind the lanes
 abbrev pub grid : List ℕ → ℕ → ℕ → List ℕ
@@ -161,11 +163,11 @@ grid style wide high =
 abbrev pub grid_of : ℕ → ℕ → List ℕ
 grid_of columns tasks = grid style (24 * columns + 24) (52 * tasks)
 
--- the grid, and the state of the run above it
-abbrev pub backdrop : List ℕ → Watched → Drawn → List ℕ
-backdrop text m d =
-    grid_of (windows.columns d) (length m.last.tasks)
-    ++ (text_start (codes "heading") 12 22 ++ (heading text m d ++ text_end))
+-- the grid, and this heading above it
+abbrev pub backdrop : List ℕ → Watched → ℕ → List ℕ
+backdrop heading m events =
+    grid_of events (length m.last.tasks)
+    ++ (text_start (codes "heading") 12 22 ++ (heading ++ text_end))
 
 -- the group of the legend, from this height on
 abbrev pub foot_start : ℕ → List ℕ
@@ -182,11 +184,17 @@ abbrev pub below : List ℕ → Story → List Mark → List ℕ
 below text s keys =
     lane_names text s (world_of s).tasks 0 ++ foot (length (world_of s).tasks) keys
 
--- these columns between the head, the grid and the legend with these keys
+-- these columns of these many events under this heading, between the grid and the legend with these
+-- keys
+abbrev pub framed_under : List ℕ → List ℕ → Story → ℕ → List ℕ → List Mark → List ℕ
+framed_under heading text s events columns keys =
+    head heading s.watched events (length keys)
+    ++ (backdrop heading s.watched events ++ (columns ++ below text s keys))
+
+-- these columns under the heading, with these keys in the legend
 abbrev pub framed_with : List ℕ → Story → Drawn → List ℕ → List Mark → List ℕ
 framed_with text s d columns keys =
-    head text s.watched d (length keys)
-    ++ (backdrop text s.watched d ++ (columns ++ below text s keys))
+    framed_under (heading text s.watched d) text s (windows.columns d) columns keys
 
 -- these columns in their frame; the legend has the marks that they have
 abbrev pub framed : List ℕ → Story → Drawn → List ℕ → List ℕ

@@ -1,8 +1,9 @@
 -- The elements of a picture, and the escapes of their words (this project's own).
-use Rattle.std.specs.Prelude.{ℕ, List, ◌++◌, ◌==◌, codes, encode_utf8, if◌then◌else◌}
+use Rattle.std.specs.Prelude.{ℕ, List, [], ◌++◌, ◌==◌, nat_lt, length, codes, encode_utf8, if◌then◌else◌}
 use Rattle.std.specs.List.{flat_map}
 use Rattle.std.specs.Fmt.{decimal}
 use Rattle.look_picture.specs.declared.marks.Mark.{Mark}
+use Rattle.look_picture.specs.declared.writing.Room.{Room}
 use Rattle.look_picture.specs.Marks.{begins, shape}
 
 -- a mark at a point, up to the words that describe it
@@ -36,3 +37,21 @@ escaped_byte b =
 
 abbrev pub escaped : List ℕ → List ℕ
 escaped text = flat_map escaped_byte text
+
+-- the attributes of words that have more letters than their room: they are pressed into its width
+abbrev pub pressed : List ℕ → Room → List ℕ
+pressed words room =
+    if nat_lt room.letters (length words)
+    then codes " textLength='" ++ decimal room.pixels ++ codes "' lengthAdjust='spacingAndGlyphs'"
+    else []
+
+-- a text of a class at a point, before its further attributes
+unfoldable pub text_place : List ℕ → ℕ → ℕ → List ℕ
+text_place class x y =
+    codes "<text class='" ++ class ++ codes "' x='" ++ decimal x
+    ++ codes "' y='" ++ decimal y ++ codes "'"
+
+-- words of a class at a point, pressed into their room
+abbrev pub fitted_text : List ℕ → ℕ → ℕ → List ℕ → Room → List ℕ
+fitted_text class x y words room =
+    text_place class x y ++ (pressed words room ++ (codes ">" ++ (escaped words ++ text_end)))

@@ -7,7 +7,7 @@ ghost use Rattle.look_picture.specs.Lanes as def;
 use crate::change::Change;
 use crate::marks::Mark;
 use crate::place::{lane, over_lane};
-use crate::writing::{escape, mark_end, mark_start, text_end, text_start};
+use crate::writing::{Room, fitted_text, mark_end, mark_start, text_end, text_start};
 use look_lines::{is_heard, stand_words, under_words};
 use look_names::{Names, say_value};
 use look_tell::{Story, say_called};
@@ -16,6 +16,18 @@ use std::fmt::Write;
 use sts_model::End;
 use sts_plain::can_step;
 use sts_world::Records;
+
+/// The room for a value to the right of the last column.
+const VALUE_ROOM: Room = Room {
+    letters: 21,
+    pixels: 139,
+};
+
+/// The room for a function and its arguments to the left of the lanes.
+const CALL_ROOM: Room = Room {
+    letters: 31,
+    pixels: 186,
+};
 
 /// The line of a task that lives.
 fn life_mark(is_ready: bool) -> Mark
@@ -70,9 +82,14 @@ fn value_text(
     };
     let mut words = Vec::new(alloc);
     say_value(alloc, &mut words, names, value)?;
-    text_start(out, "value", change.x + 22, lane(t) + 4)?;
-    escape(out, words.as_slice())?;
-    text_end(out)
+    fitted_text(
+        out,
+        "value",
+        change.x + 22,
+        lane(t) + 4,
+        words.as_slice(),
+        VALUE_ROOM,
+    )
 }
 
 /// A task that lives.
@@ -242,35 +259,6 @@ fn task_name(out: &mut String, t: u32, scope: Option<u32>) -> Result<(), AllocEr
     text_end(out)
 }
 
-/// The attributes that press long words into the room to the left of the lanes.
-fn fitted(words: &[u8]) -> &'static str
-    ensures { result.now ≡ def.fitted words.now }
-{
-    if 31 < words.len() {
-        " textLength='186' lengthAdjust='spacingAndGlyphs'"
-    } else {
-        ""
-    }
-}
-
-/// The words under the name of a lane begin, with these attributes.
-fn call_start(out: &mut String, y: u64, fit: &str) -> Result<(), AllocError>
-    ensures { OnOk result (string_bytes out.new
-        ≡ string_bytes out.old ++ def.call_start y fit.now) }
-{
-    write!(out, "<text class='code' x='196' y='{y}'{fit}>")
-}
-
-/// The words under the name of a lane.
-fn call_text(out: &mut String, y: u64, words: &[u8]) -> Result<(), AllocError>
-    ensures { OnOk result (string_bytes out.new
-        ≡ string_bytes out.old ++ def.call_text y words.now) }
-{
-    call_start(out, y, fitted(words))?;
-    escape(out, words)?;
-    text_end(out)
-}
-
 /// The function and the arguments of a task, below the name of its lane.
 fn call_name(
     alloc: Global,
@@ -284,7 +272,7 @@ fn call_name(
 {
     let mut called = Vec::new(alloc);
     say_called(alloc, &mut called, names, story, t)?;
-    call_text(out, lane(t) + 13, called.as_slice())
+    fitted_text(out, "code", 196, lane(t) + 13, called.as_slice(), CALL_ROOM)
 }
 
 fn lane_name(

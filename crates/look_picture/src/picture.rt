@@ -350,19 +350,19 @@ fn run_line(
 /// The state of the run, the steps that it took, and which events are left out.
 fn heading(
     alloc: Global,
-    out: &mut String,
     names: &Names<'_>,
     watch: &Watch<'_>,
     drawn: Drawn,
-) -> Result<(), AllocError>
+) -> Result<String, AllocError>
     requires { drawn.last ≤ drawn.all }
-    ensures { OnOk result (string_bytes out.new
-        ≡ string_bytes out.old ++ def.heading names.now watch.now drawn) }
+    ensures { IfOk result (λ words. string_bytes words ≡ def.heading names.now watch.now drawn) }
 {
-    run_line(alloc, out, names, watch)?;
-    write!(out, " ")?;
-    steps_line(out, watch.steps())?;
-    left_out(out, drawn)
+    let mut words = String::new(alloc);
+    run_line(alloc, &mut words, names, watch)?;
+    words.push_str(" ")?;
+    steps_line(&mut words, watch.steps())?;
+    left_out(&mut words, drawn)?;
+    Ok(words)
 }
 
 fn svg_start(out: &mut String, wide: u128, high: u64) -> Result<(), AllocError>
@@ -375,14 +375,21 @@ fn svg_start(out: &mut String, wide: u128, high: u64) -> Result<(), AllocError>
     )
 }
 
-/// The size of a picture of these many events, with these many keys.
-fn sized(out: &mut String, watch: &Watch<'_>, events: usize, keys: usize) -> Result<(), AllocError>
+/// The size of a picture of these many events, with a heading of these many letters and these many
+/// keys.
+fn sized(
+    out: &mut String,
+    watch: &Watch<'_>,
+    events: usize,
+    letters: usize,
+    keys: usize,
+) -> Result<(), AllocError>
     requires { keys ≤ MOST_KEYS }
     ensures { OnOk result (string_bytes out.new
-        ≡ string_bytes out.old ++ def.sized watch.now events keys) }
+        ≡ string_bytes out.old ++ def.sized watch.now events letters keys) }
 {
     let tasks = watch.world().records().tasks_born();
-    svg_start(out, width(events), height(tasks, keys))
+    svg_start(out, width(events, letters), height(tasks, keys))
 }
 
 /// The lines of all tasks and scopes.
@@ -421,22 +428,20 @@ fn description(out: &mut String, watch: &Watch<'_>) -> Result<(), AllocError>
     description_end(out)
 }
 
-/// The size, the state of the run, and all tasks and scopes.
+/// The size, this heading as the title, and all tasks and scopes.
 fn head(
-    alloc: Global,
     out: &mut String,
-    names: &Names<'_>,
+    heading: &str,
     watch: &Watch<'_>,
-    drawn: Drawn,
+    events: usize,
     keys: usize,
 ) -> Result<(), AllocError>
-    requires ordered { drawn.last ≤ drawn.all }
-    requires few { keys ≤ MOST_KEYS }
+    requires { keys ≤ MOST_KEYS }
     ensures { OnOk result (string_bytes out.new
-        ≡ string_bytes out.old ++ def.head names.now watch.now drawn keys) }
+        ≡ string_bytes out.old ++ def.head heading.now watch.now events keys) }
 {
-    sized(out, watch, drawn.columns(), keys)?;
-    heading(alloc, out, names, watch, drawn)?;
+    sized(out, watch, events, heading.len(), keys)?;
+    out.push_str(heading)?;
     description(out, watch)
 }
 
@@ -460,22 +465,20 @@ fn grid_of(out: &mut String, columns: usize, tasks: usize) -> Result<(), AllocEr
     grid(out, style(), 24 * columns as u128 + 24, 52 * tasks)
 }
 
-/// The grid, and the state of the run above it.
+/// The grid, and this heading above it.
 fn backdrop(
-    alloc: Global,
     out: &mut String,
-    names: &Names<'_>,
+    heading: &str,
     watch: &Watch<'_>,
-    drawn: Drawn,
+    events: usize,
 ) -> Result<(), AllocError>
-    requires { drawn.last ≤ drawn.all }
     ensures { OnOk result (string_bytes out.new
-        ≡ string_bytes out.old ++ def.backdrop names.now watch.now drawn) }
+        ≡ string_bytes out.old ++ def.backdrop heading.now watch.now events) }
 {
     let tasks = watch.world().records().tasks_born();
-    grid_of(out, drawn.columns(), tasks)?;
+    grid_of(out, events, tasks)?;
     text_start(out, "heading", 12, 22)?;
-    heading(alloc, out, names, watch, drawn)?;
+    out.push_str(heading)?;
     text_end(out)
 }
 
@@ -521,7 +524,29 @@ fn below(
     foot(out, tasks, keys)
 }
 
-/// Puts these columns between the head, the grid and the legend with these keys.
+/// Puts these columns of these many events under this heading, between the grid and the legend with
+/// these keys.
+fn framed_under(
+    alloc: Global,
+    out: &mut String,
+    heading: &str,
+    names: &Names<'_>,
+    story: &Story<'_>,
+    events: usize,
+    columns: &str,
+    keys: &[Mark],
+) -> Result<(), AllocError>
+    requires { length keys.now ≤ MOST_KEYS }
+    ensures { OnOk result (string_bytes out.new ≡ string_bytes out.old
+        ++ def.framed_under heading.now names.now story.now events columns.now keys.now) }
+{
+    head(out, heading, story.watch(), events, keys.len())?;
+    backdrop(out, heading, story.watch(), events)?;
+    out.push_str(columns)?;
+    below(alloc, out, names, story, keys)
+}
+
+/// Puts these columns under the heading, with these keys in the legend.
 fn framed_with(
     alloc: Global,
     out: &mut String,
@@ -536,10 +561,17 @@ fn framed_with(
     ensures { OnOk result (string_bytes out.new ≡ string_bytes out.old
         ++ def.framed_with names.now story.now drawn columns.now keys.now) }
 {
-    head(alloc, out, names, story.watch(), drawn, keys.len())?;
-    backdrop(alloc, out, names, story.watch(), drawn)?;
-    out.push_str(columns)?;
-    below(alloc, out, names, story, keys)
+    let words = heading(alloc, names, story.watch(), drawn)?;
+    framed_under(
+        alloc,
+        out,
+        words.as_str(),
+        names,
+        story,
+        drawn.columns(),
+        columns,
+        keys,
+    )
 }
 
 /// Puts these columns between the head, the grid and the legend.

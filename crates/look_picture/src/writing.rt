@@ -65,3 +65,54 @@ pub(crate) fn escape(out: &mut String, text: &[u8]) -> Result<(), AllocError>
     }
     Ok(())
 }
+
+/// Room for words: so many letters, in so many pixels.
+#[derive(Clone, Copy, Debug, PartialEq, Eq)]
+pub(crate) struct Room {
+    pub(crate) letters: usize,
+    pub(crate) pixels: u32,
+}
+
+/// The attributes of words that have more letters than their room: they are pressed into its width.
+fn press(out: &mut String, words: &[u8], room: Room) -> Result<(), AllocError>
+    ensures { OnOk result (string_bytes out.new
+        ≡ string_bytes out.old ++ def.pressed words.now room) }
+{
+    let pixels = room.pixels;
+    if room.letters < words.len() {
+        write!(
+            out,
+            " textLength='{pixels}' lengthAdjust='spacingAndGlyphs'"
+        )
+    } else {
+        Ok(())
+    }
+}
+
+/// A text of a class at a point, before its further attributes.
+#[tactic(auto, unfolding(crate::specs::Writing::text_place))]
+fn text_place(out: &mut String, class: &str, x: u128, y: u64) -> Result<(), AllocError>
+    ensures { OnOk result (string_bytes out.new
+        ≡ string_bytes out.old ++ def.text_place class.now x y) }
+{
+    write!(out, "<text class='{class}' x='{x}' y='{y}'")
+}
+
+/// Words of a class at a point, with their escapes, pressed into their room.
+pub(crate) fn fitted_text(
+    out: &mut String,
+    class: &str,
+    x: u128,
+    y: u64,
+    words: &[u8],
+    room: Room,
+) -> Result<(), AllocError>
+    ensures { OnOk result (string_bytes out.new
+        ≡ string_bytes out.old ++ def.fitted_text class.now x y words.now room) }
+{
+    text_place(out, class, x, y)?;
+    press(out, words, room)?;
+    out.push_str(">")?;
+    escape(out, words)?;
+    text_end(out)
+}
