@@ -48,7 +48,7 @@ MARKS = {
     "idle": ("m-7 0h14", "the event changed nothing"),
 }
 # Of texts that are pressed into their room if they have more letters: how many fit, and how wide the room is.
-ROOMS = {"code": (31, 186), "value": (21, 139)}
+ROOMS = {"number": (3, 22), "code": (31, 186), "value": (21, 139)}
 
 
 def tables():
@@ -79,18 +79,22 @@ def mark(kind, x, y, words):
     return f"<path class='{kind}' d='M{x} {y}{MARKS[kind][0]}'><title>{words}</title></path>\n"
 
 
+def fitted(kind, words):
+    """Returns the attributes of words that are pressed into their room."""
+    letters, pixels = ROOMS.get(kind, (len(words), 0))
+    return f" textLength='{pixels}' lengthAdjust='spacingAndGlyphs'" if len(html.unescape(words)) > letters else ""
+
+
 def element(short):
     """Returns an element of a picture from its short form."""
     kind, x, y, words = (short.replace(" / ", "\n").split(" ", 3) + [""])[:4]
     if kind in ("number", "idle"):
-        number = f"<text class='number' x='{x}' y='44'><title>{words}</title>{y}</text>\n"
+        number = f"<text class='number' x='{x}' y='44'{fitted('number', y)}><title>{words}</title>{y}</text>\n"
         return number + (mark(kind, x, 40, words) if kind == "idle" else "")
     if kind == "fork":
         return f"<path class='fork' d='M{x} {y}V{words}'/>\n"
     if kind in ("value", "label", "name", "code", "word"):
-        letters, pixels = ROOMS.get(kind, (len(words), 0))
-        fit = f" textLength='{pixels}' lengthAdjust='spacingAndGlyphs'" if len(html.unescape(words)) > letters else ""
-        return f"<text class='{kind}' x='{x}' y='{y}'{fit}>{words}</text>\n"
+        return f"<text class='{kind}' x='{x}' y='{y}'{fitted(kind, words)}>{words}</text>\n"
     return mark(kind, x, y, words)
 
 

@@ -31,7 +31,8 @@ use Rattle.look_picture.specs.Windows as windows
 use Rattle.look_picture.specs.declared.window.Drawn.{Drawn}
 use Rattle.look_picture.specs.declared.window.Window.{Window}
 use Rattle.look_picture.specs.Words.{next_word, step_word}
-use Rattle.look_picture.specs.Writing.{escaped, mark_at, text_end, text_start}
+use Rattle.look_picture.specs.Writing.{escaped, fitted_start, mark_at, text_end, text_start}
+use Rattle.look_picture.specs.declared.writing.Room.{Room}
 
 -- ---- a column
 
@@ -65,13 +66,19 @@ stepped words before x (event.Step t) true = step_mark words before x t
 stepped words before x _ _ = []
 
 -- the words of an event, then its number
-abbrev pub number_words : List ℕ → ℕ → List ℕ
-number_words words n =
-    codes "<title>" ++ words ++ codes "</title>" ++ decimal n ++ codes "</text>\n"
+abbrev pub number_words : List ℕ → List ℕ → List ℕ
+number_words words digits =
+    codes "<title>" ++ words ++ codes "</title>" ++ digits ++ codes "</text>\n"
+
+-- the room for a number above its column
+abbrev pub number_room : Room
+number_room = record { letters = 3; pixels = 22 }
 
 -- the event's number above the lanes
 abbrev pub number : List ℕ → ℕ → ℕ → List ℕ
-number words at n = text_start (codes "number") (column at) 44 ++ number_words words n
+number words at n =
+    fitted_start (codes "number") (column at) 44 (length (decimal n)) number_room
+    ++ number_words words (decimal n)
 
 -- a stroke through the number of an event that doesn't count
 abbrev pub idle_mark : List ℕ → ℕ → Bool → List ℕ

@@ -38,10 +38,10 @@ escaped_byte b =
 abbrev pub escaped : List ℕ → List ℕ
 escaped text = flat_map escaped_byte text
 
--- the attributes of words that have more letters than their room: they are pressed into its width
-abbrev pub pressed : List ℕ → Room → List ℕ
-pressed words room =
-    if nat_lt room.letters (length words)
+-- the attributes of words of more letters than their room has: they are pressed into its width
+abbrev pub pressed : ℕ → Room → List ℕ
+pressed letters room =
+    if nat_lt room.letters letters
     then codes " textLength='" ++ decimal room.pixels ++ codes "' lengthAdjust='spacingAndGlyphs'"
     else []
 
@@ -51,7 +51,12 @@ text_place class x y =
     codes "<text class='" ++ class ++ codes "' x='" ++ decimal x
     ++ codes "' y='" ++ decimal y ++ codes "'"
 
+-- a text of a class and of these many letters begins at a point, pressed into its room
+abbrev pub fitted_start : List ℕ → ℕ → ℕ → ℕ → Room → List ℕ
+fitted_start class x y letters room =
+    text_place class x y ++ (pressed letters room ++ codes ">")
+
 -- words of a class at a point, pressed into their room
 abbrev pub fitted_text : List ℕ → ℕ → ℕ → List ℕ → Room → List ℕ
 fitted_text class x y words room =
-    text_place class x y ++ (pressed words room ++ (codes ">" ++ (escaped words ++ text_end)))
+    fitted_start class x y (length words) room ++ (escaped words ++ text_end)

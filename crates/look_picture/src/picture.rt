@@ -23,7 +23,7 @@ use crate::style::style;
 use crate::told::event_words;
 use crate::window::{Drawn, Window, left_out, shown_events};
 use crate::words::{next_word, step_word};
-use crate::writing::{escape, mark_end, mark_start, text_end, text_start};
+use crate::writing::{Room, escape, fitted_start, mark_end, mark_start, text_end, text_start};
 use look_lines::{Applied, Form, Run, ViewOptions, Watch, after, view_lines, write_run};
 use look_names::Names;
 use look_tell::{Story, say_end};
@@ -38,6 +38,12 @@ use sts_output::{
 };
 use sts_plain::PlainState;
 use sts_trace::TraceError;
+
+/// The room for a number above its column.
+const NUMBER_ROOM: Room = Room {
+    letters: 3,
+    pixels: 22,
+};
 
 /// All cells of a world in a column, with the changes since the column before.
 fn cells(
@@ -151,20 +157,27 @@ fn stepped(
 }
 
 /// The words of an event, then its number.
-fn number_words(out: &mut String, words: &str, n: usize) -> Result<(), AllocError>
+fn number_words(out: &mut String, words: &str, digits: &str) -> Result<(), AllocError>
     ensures { OnOk result (string_bytes out.new
-        ≡ string_bytes out.old ++ def.number_words words.now n) }
+        ≡ string_bytes out.old ++ def.number_words words.now digits.now) }
 {
-    writeln!(out, "<title>{words}</title>{n}</text>")
+    writeln!(out, "<title>{words}</title>{digits}</text>")
 }
 
 /// The event's number above the lanes.
-fn number(out: &mut String, words: &str, at: usize, n: usize) -> Result<(), AllocError>
+fn number(
+    alloc: Global,
+    out: &mut String,
+    words: &str,
+    at: usize,
+    n: usize,
+) -> Result<(), AllocError>
     ensures { OnOk result (string_bytes out.new
         ≡ string_bytes out.old ++ def.number words.now at n) }
 {
-    text_start(out, "number", column(at), 44)?;
-    number_words(out, words, n)
+    let digits = format!(in alloc; "{n}")?;
+    fitted_start(out, "number", column(at), 44, digits.len(), NUMBER_ROOM)?;
+    number_words(out, words, digits.as_str())
 }
 
 /// A stroke through the number of an event that doesn't count.
@@ -183,6 +196,7 @@ fn idle_mark(out: &mut String, words: &str, at: usize, is_counted: bool) -> Resu
 /// The event's number above the lanes, with its stroke.
 #[tactic(auto, unfolding(crate::specs::Picture::event_number))]
 fn event_number(
+    alloc: Global,
     out: &mut String,
     words: &str,
     at: usize,
@@ -191,7 +205,7 @@ fn event_number(
     ensures { OnOk result (string_bytes out.new
         ≡ string_bytes out.old ++ def.event_number words.now at applied) }
 {
-    number(out, words, at, applied.number)?;
+    number(alloc, out, words, at, applied.number)?;
     idle_mark(out, words, at, applied.is_counted)
 }
 
@@ -209,7 +223,7 @@ fn event_column(
         ++ def.event_column names.now words.now seen.entry.before.now seen.entry.watch.now at
         applied) }
 {
-    event_number(out, words, at, applied)?;
+    event_number(alloc, out, words, at, applied)?;
     standing(alloc, out, names, seen, column(at), applied.is_counted)?;
     stepped(out, words, seen, column(at), applied)
 }

@@ -73,13 +73,13 @@ pub(crate) struct Room {
     pub(crate) pixels: u32,
 }
 
-/// The attributes of words that have more letters than their room: they are pressed into its width.
-fn press(out: &mut String, words: &[u8], room: Room) -> Result<(), AllocError>
+/// The attributes of words of more letters than their room has: they are pressed into its width.
+fn press(out: &mut String, letters: usize, room: Room) -> Result<(), AllocError>
     ensures { OnOk result (string_bytes out.new
-        ≡ string_bytes out.old ++ def.pressed words.now room) }
+        ≡ string_bytes out.old ++ def.pressed letters room) }
 {
     let pixels = room.pixels;
-    if room.letters < words.len() {
+    if room.letters < letters {
         write!(
             out,
             " textLength='{pixels}' lengthAdjust='spacingAndGlyphs'"
@@ -98,6 +98,23 @@ fn text_place(out: &mut String, class: &str, x: u128, y: u64) -> Result<(), Allo
     write!(out, "<text class='{class}' x='{x}' y='{y}'")
 }
 
+/// A text of a class and of this many letters begins at a point, pressed into its room.
+pub(crate) fn fitted_start(
+    out: &mut String,
+    class: &str,
+    x: u128,
+    y: u64,
+    letters: usize,
+    room: Room,
+) -> Result<(), AllocError>
+    ensures { OnOk result (string_bytes out.new
+        ≡ string_bytes out.old ++ def.fitted_start class.now x y letters room) }
+{
+    text_place(out, class, x, y)?;
+    press(out, letters, room)?;
+    out.push_str(">")
+}
+
 /// Words of a class at a point, with their escapes, pressed into their room.
 pub(crate) fn fitted_text(
     out: &mut String,
@@ -110,9 +127,7 @@ pub(crate) fn fitted_text(
     ensures { OnOk result (string_bytes out.new
         ≡ string_bytes out.old ++ def.fitted_text class.now x y words.now room) }
 {
-    text_place(out, class, x, y)?;
-    press(out, words, room)?;
-    out.push_str(">")?;
+    fitted_start(out, class, x, y, words.len(), room)?;
     escape(out, words)?;
     text_end(out)
 }
