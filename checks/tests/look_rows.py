@@ -9,14 +9,15 @@ The files `.rows` have the notation of the tables in crates/tests_rows/data, wit
 A TRACE is short (`0*5`), or `trace LINES`. A remark `# ---- GROUP` begins a group, and one above a text is the row's name.
 
 pictures.json has runs, and the picture of each. `sizes` are the width and the height of the picture and of its grid, and
-`foot` is where the legend begins. An element is `CLASS X Y WORDS` for a mark, `fork X FROM TO`, `number X N EVENT`,
-`idle X N EVENT`, or `value X Y WORDS` and other texts. An element with `of each` stands for these elements of each event from
+`foot` is where the legend begins; `titled` is the heading's form of `state`, if that has names. An element is `CLASS X Y WORDS` for a mark, `fork X FROM TO`, `number X N WORDS`,
+`idle X N WORDS`, or `value X Y WORDS` and other texts. An element with `of each` stands for these elements of each event from
 `first` to `last`: N is its number, and X its column, of which the first is at `at`. `events` is a window, if one is asked for, and
 `left_out` says in the heading which events aren't drawn. The legend has the marks that the elements have. The style is a text
 that was chosen; it isn't compared. In a text, a trace, `stands` and `left_out`, ` / ` is between two lines.
 The last line is `N passed, M failed`, of rows.
 """
 import glob
+import html
 import json
 import os
 import re
@@ -46,6 +47,8 @@ MARKS = {
     "fault": ("m14-9v10m0 4v3", "a forbidden step: the run stops"),
     "idle": ("m-7 0h14", "the event changed nothing"),
 }
+# Of texts that are pressed into their room if they have more letters: how many fit, and how wide the room is.
+ROOMS = {"number": (3, 22), "code": (31, 186), "value": (21, 139)}
 
 
 def tables():
@@ -76,17 +79,22 @@ def mark(kind, x, y, words):
     return f"<path class='{kind}' d='M{x} {y}{MARKS[kind][0]}'><title>{words}</title></path>\n"
 
 
+def fitted(kind, words):
+    """Returns the attributes of words that are pressed into their room."""
+    letters, pixels = ROOMS.get(kind, (len(words), 0))
+    return f" textLength='{pixels}' lengthAdjust='spacingAndGlyphs'" if len(html.unescape(words)) > letters else ""
+
+
 def element(short):
     """Returns an element of a picture from its short form."""
-    kind, x, y, words = (short.split(" ", 3) + [""])[:4]
+    kind, x, y, words = (short.replace(" / ", "\n").split(" ", 3) + [""])[:4]
     if kind in ("number", "idle"):
-        idle = " idle" if kind == "idle" else ""
-        number = f"<text class='number' x='{x}' y='44'><title>{words}{idle}</title>{y}</text>\n"
-        return number + (mark(kind, x, 40, f"{words} idle") if idle else "")
+        number = f"<text class='number' x='{x}' y='44'{fitted('number', y)}><title>{words}</title>{y}</text>\n"
+        return number + (mark(kind, x, 40, words) if kind == "idle" else "")
     if kind == "fork":
         return f"<path class='fork' d='M{x} {y}V{words}'/>\n"
     if kind in ("value", "label", "name", "code", "word"):
-        return f"<text class='{kind}' x='{x}' y='{y}'>{words}</text>\n"
+        return f"<text class='{kind}' x='{x}' y='{y}'{fitted(kind, words)}>{words}</text>\n"
     return mark(kind, x, y, words)
 
 
@@ -113,7 +121,7 @@ def legend(row):
 def picture(row):
     """Returns the picture of a row, without its style."""
     wide, high, grid_wide, grid_high = row["sizes"]
-    state = f"{row['state']}\n steps {row['steps']}\n{lines(row.get('left_out', ''))}"
+    state = f"{row.get('titled', row['state'])}\n steps {row['steps']}\n{lines(row.get('left_out', ''))}"
     described = f"{row['state']}\nsteps {row['steps']}\n{lines(row['stands'])}"
     return (
         f"<svg xmlns='http://www.w3.org/2000/svg' class='sts-run' role='img' viewBox='0 0 {wide} {high}' width='{wide}' height='{high}'>\n"

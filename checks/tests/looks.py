@@ -203,7 +203,7 @@ def large_of_look(look, folder):
     title = "success 65535\n steps 262191\n (events 1 to 260191 left out)\n"
     yield "65,536 tasks drawn", status == 0 and f"<title>{title}</title>" in printed and f"<desc>{without_lines(viewed)}</desc>" in printed
     yield "65,536 lanes", len(re.findall(r"<text class='name'", printed)) == 65_536
-    yield "2,000 columns", re.findall(r"<text class='number'[^>]*>.*?</title>(\d+)<", printed) == [*map(str, range(260_192, 262_192))]
+    yield "2,000 columns", re.findall(r"(?s)<text class='number'[^>]*>.*?</title>(\d+)<", printed) == [*map(str, range(260_192, 262_192))]
     # 64 functions of 4,096 instructions, and a comment up to the last byte that a text may have
     body = "push 0\n" + "dup\neq\n" * 2_047 + "ret\nend\n"
     largest = "".join(f"func {name} 0\n{body}" for name in [*(f"f{it}" for it in range(63)), "main"])

@@ -16,7 +16,7 @@ use look_cases::write_answers;
 use look_ends::{Listing, Progress, write_listing};
 use look_json::{write_explained, write_stories};
 use look_lines::write_run;
-use look_picture::{Picture, Window};
+use look_picture::{Window, draw};
 use look_places::{write_named, write_places};
 use look_run::explain_run;
 use look_tell::tell;
@@ -143,7 +143,7 @@ fn show<W: Write>(
     match showing {
         Showing::View(view) => show_view(alloc, view, text, trace, out),
         Showing::Run => explain_run(alloc, text, trace, out),
-        Showing::Picture(window) => write_run(alloc, &Picture { window }, text, trace, out),
+        Showing::Picture(window) => draw(alloc, window, text, trace, out),
         Showing::Story(story) => show_story(alloc, story, text, trace, out),
     }
 }

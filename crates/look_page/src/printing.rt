@@ -7,18 +7,16 @@ ghost use Rattle.look_page.specs.Printed.{Prints};
 use crate::ending::wanted;
 use look_ends::{Silent, write_ends};
 use look_lines::{ViewOptions, write_run};
-use look_picture::{Picture, Window};
+use look_picture::{Window, draw};
 use look_refusal::explain;
 use look_run::explain_run;
 use std::alloc::Global;
 use sts_output::{TextMode, WriteFailed, play_text};
 
-/// The picture of the events from the first to the last that a trace may have.
-const ALL: Picture = Picture {
-    window: Some(Window {
-        first: 1,
-        last: u32::MAX,
-    }),
+/// The events from the first to the last that a trace may have.
+const ALL: Window = Window {
+    first: 1,
+    last: u32::MAX,
 };
 
 /// The request of a caller.
@@ -53,7 +51,7 @@ pub(crate) fn print(
         Asked::View(wanted) => write_run(alloc, &wanted, text, trace, printed),
         Asked::Explanation => explain(alloc, text, printed),
         Asked::RunExplanation => explain_run(alloc, text, trace, printed),
-        Asked::Picture => write_run(alloc, &ALL, text, trace, printed),
+        Asked::Picture => draw(alloc, Some(ALL), text, trace, printed),
         Asked::Ends(most) => write_ends(alloc, wanted(most), text, &mut Silent, printed),
     }
 }

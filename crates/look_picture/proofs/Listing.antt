@@ -17,25 +17,25 @@ use Rattle.look_picture.proofs.Ranges.{kept_later, listed_below, listed_bytes}
 
 -- ---- tasks
 
-task_cells_are : (p : Program) (before w : World) (x : ℕ) (tasks : List Task) (t : ℕ) → task_cells p before w x tasks t ≡ flat_map (task_cell p before w x) (range_with_len t (length tasks))
-task_cells_are p before w x [] t = refl
-task_cells_are p before w x (task ∷ tasks) t = ap (λ (bytes : List ℕ). task_cell p before w x t ++ bytes) (task_cells_are p before w x tasks (t + 1))
+task_cells_are : (text : List ℕ) (p : Program) (before w : World) (x : ℕ) (tasks : List Task) (t : ℕ) → task_cells text p before w x tasks t ≡ flat_map (task_cell text p before w x) (range_with_len t (length tasks))
+task_cells_are text p before w x [] t = refl
+task_cells_are text p before w x (task ∷ tasks) t = ap (λ (bytes : List ℕ). task_cell text p before w x t ++ bytes) (task_cells_are text p before w x tasks (t + 1))
 
 not_both : (b : Bool) (bytes : List ℕ) → cond (b && not b) bytes [] ≡ []
 not_both true bytes = refl
 not_both false bytes = refl
 
 -- nothing is drawn of a task that doesn't live in the column before
-no_task_cell : (p : Program) (before w : World) (x t : ℕ) → Follows before w → t < length before.tasks → lives (task_at before t) ≡ false → task_cell p before w x t ≡ []
-no_task_cell p before w x t h born dead =
+no_task_cell : (text : List ℕ) (p : Program) (before w : World) (x t : ℕ) → Follows before w → t < length before.tasks → lives (task_at before t) ≡ false → task_cell text p before w x t ≡ []
+no_task_cell text p before w x t h born dead =
     let same = h.resting t born dead in
     let was_born : nat_lt t (length before.tasks) ≡ true = grind (arith, nat_tests) in
     rw (was_born, same, dead) (not_both (task_at before t).flag _)
 
-pub tasks_listed : (p : Program) (before w : World) (x : ℕ) → Follows before w → flat_map (task_cell p before w x) (shown before w).tasks ≡ task_cells p before w x w.tasks 0
-tasks_listed p before w x h =
-    listed_bytes (task_cell p before w x) (λ t. lives (task_at before t)) (length before.tasks) (length w.tasks) h.tasks (λ t born dead. no_task_cell p before w x t h born dead)
-    ∙ sym (task_cells_are p before w x w.tasks 0)
+pub tasks_listed : (text : List ℕ) (p : Program) (before w : World) (x : ℕ) → Follows before w → flat_map (task_cell text p before w x) (shown before w).tasks ≡ task_cells text p before w x w.tasks 0
+tasks_listed text p before w x h =
+    listed_bytes (task_cell text p before w x) (λ t. lives (task_at before t)) (length before.tasks) (length w.tasks) h.tasks (λ t born dead. no_task_cell text p before w x t h born dead)
+    ∙ sym (task_cells_are text p before w x w.tasks 0)
 
 pub tasks_below : (before w : World) → Follows before w → All (λ t. t < length w.tasks) (shown before w).tasks
 tasks_below before w h = listed_below (λ t. lives (task_at before t)) (length before.tasks) (length w.tasks) h.tasks

@@ -1,7 +1,7 @@
 -- The tasks in a column, and the names of the lanes (this project's own).
-use Rattle.std.specs.Prelude.{ℕ, ◌+◌, Bool, true, false, not, ◌&&◌, if◌then◌else◌, List, ◌∷◌, [], ◌++◌, Option, Some, None, codes, length, nat_lt}
-use Rattle.std.specs.Fmt.{decimal, signed_decimal}
-use Rattle.sts_code.specs.Program.{Program, routine}
+use Rattle.std.specs.Prelude.{ℕ, ◌+◌, ℤ, Bool, true, false, not, ◌&&◌, if◌then◌else◌, List, ◌∷◌, [], ◌++◌, Option, Some, None, codes, length, nat_lt}
+use Rattle.std.specs.Fmt.{decimal}
+use Rattle.sts_code.specs.Program.{Program}
 use Rattle.sts_model.specs.declared.event.End.{End}
 use Rattle.sts_model.specs.declared.event.End.TheVariants.{Success, Failed}
 use Rattle.sts_model.specs.declared.record.Task.{Task}
@@ -9,10 +9,14 @@ use Rattle.sts_model.specs.Living.{lives}
 use Rattle.sts_model.specs.Waiting.{can_step}
 use Rattle.sts_model.specs.World.{World, task_at, scope_at}
 use Rattle.look_lines.specs.Lines.{is_heard, stand_words, under_words}
+use Rattle.look_names.specs.Words.{value_words}
+use Rattle.look_tell.specs.Story.{Story, world_of}
+use Rattle.look_tell.specs.Words.{called_words}
 use Rattle.look_picture.specs.declared.marks.Mark.{Mark}
 use Rattle.look_picture.specs.declared.marks.Mark.TheVariants as mark
+use Rattle.look_picture.specs.declared.writing.Room.{Room}
 use Rattle.look_picture.specs.Place.{lane, over_lane}
-use Rattle.look_picture.specs.Writing.{mark_at, text_end, text_start}
+use Rattle.look_picture.specs.Writing.{fitted_text, mark_at, text_end, text_start}
 
 -- ---- how a task stands
 
@@ -36,13 +40,20 @@ rests w t = nat_lt t (length w.tasks) && not (lives (task_at w t))
 abbrev pub told : Program → World → ℕ → List ℕ
 told p w t = codes "task " ++ decimal t ++ stand_words p w t
 
--- the value or the code that it ended with, next to the mark
-abbrev pub value_text : ℕ → ℕ → Option End → List ℕ
-value_text x t None = []
-value_text x t (Some (Success v)) =
-    text_start (codes "value") (x + 22) (lane t + 4) ++ (signed_decimal v ++ text_end)
-value_text x t (Some (Failed c)) =
-    text_start (codes "value") (x + 22) (lane t + 4) ++ (signed_decimal c ++ text_end)
+-- the room to the right of the last column
+abbrev pub value_room : Room
+value_room = record { letters = 21; pixels = 139 }
+
+-- a value or a code next to the mark of an end, with the name that the text gives it
+abbrev pub named_value : List ℕ → ℕ → ℕ → ℤ → List ℕ
+named_value text x t v =
+    fitted_text (codes "value") (x + 22) (lane t + 4) (value_words text v) value_room
+
+-- the value or the code that it ended with
+abbrev pub value_text : List ℕ → ℕ → ℕ → Option End → List ℕ
+value_text text x t None = []
+value_text text x t (Some (Success v)) = named_value text x t v
+value_text text x t (Some (Failed c)) = named_value text x t c
 
 abbrev pub life : Program → World → ℕ → ℕ → List ℕ
 life p w x t = mark_at (life_mark (can_step p w t)) x (lane t) (told p w t)
@@ -50,15 +61,16 @@ life p w x t = mark_at (life_mark (can_step p w t)) x (lane t) (told p w t)
 abbrev pub rest_line : Program → World → ℕ → ℕ → Bool → Option End → List ℕ
 rest_line p w x t is_heard end = mark_at (rest_mark is_heard end) x (lane t) (told p w t)
 
-abbrev pub rest : Program → World → ℕ → ℕ → List ℕ
-rest p w x t =
+abbrev pub rest : List ℕ → Program → World → ℕ → ℕ → List ℕ
+rest text p w x t =
     rest_line p w x t (is_heard w t (task_at w t).scope) (task_at w t).outcome
-    ++ value_text x t (task_at w t).outcome
+    ++ value_text text x t (task_at w t).outcome
 
 -- a task that lives in this column, or that lived or wasn't born in the column before
-abbrev pub stand : Program → World → World → ℕ → ℕ → List ℕ
-stand p before w x t =
-    if lives (task_at w t) then life p w x t else (if rests before t then [] else rest p w x t)
+abbrev pub stand : List ℕ → Program → World → World → ℕ → ℕ → List ℕ
+stand text p before w x t =
+    if lives (task_at w t) then life p w x t
+    else (if rests before t then [] else rest text p w x t)
 
 -- ---- what became of it
 
@@ -84,15 +96,15 @@ interrupted before w x t =
     (codes "task " ++ decimal t ++ codes " interrupted")
     else []
 
-abbrev pub task_cell : Program → World → World → ℕ → ℕ → List ℕ
-task_cell p before w x t =
-    birth before w x t ++ (stand p before w x t ++ interrupted before w x t)
+abbrev pub task_cell : List ℕ → Program → World → World → ℕ → ℕ → List ℕ
+task_cell text p before w x t =
+    birth before w x t ++ (stand text p before w x t ++ interrupted before w x t)
 
 -- the cells of these tasks, numbered from t on
-abbrev pub task_cells : Program → World → World → ℕ → List Task → ℕ → List ℕ
-task_cells p before w x [] t = []
-task_cells p before w x (task ∷ tasks) t =
-    task_cell p before w x t ++ task_cells p before w x tasks (t + 1)
+abbrev pub task_cells : List ℕ → Program → World → World → ℕ → List Task → ℕ → List ℕ
+task_cells text p before w x [] t = []
+task_cells text p before w x (task ∷ tasks) t =
+    task_cell text p before w x t ++ task_cells text p before w x tasks (t + 1)
 
 -- ---- the names
 
@@ -102,15 +114,19 @@ task_name t scope =
     text_start (codes "name") 196 (lane t)
     ++ (codes "task " ++ decimal t ++ codes " under " ++ (under_words scope ++ text_end))
 
--- the name of its function, below
-abbrev pub function_name : ℕ → List ℕ → List ℕ
-function_name t name = text_start (codes "code") 196 (lane t + 13) ++ (name ++ text_end)
+-- the room to the left of the lanes
+abbrev pub call_room : Room
+call_room = record { letters = 31; pixels = 186 }
 
-abbrev pub lane_name : Program → World → ℕ → List ℕ
-lane_name p w t =
-    task_name t (task_at w t).scope ++ function_name t (routine p (task_at w t).frame.function).name
+-- its function and the arguments that it was forked with, below
+abbrev pub call_name : List ℕ → Story → ℕ → List ℕ
+call_name text s t =
+    fitted_text (codes "code") 196 (lane t + 13) (called_words text s t) call_room
+
+abbrev pub lane_name : List ℕ → Story → ℕ → List ℕ
+lane_name text s t = task_name t (task_at (world_of s) t).scope ++ call_name text s t
 
 -- the names of these tasks' lanes, numbered from t on
-abbrev pub lane_names : Program → World → List Task → ℕ → List ℕ
-lane_names p w [] t = []
-lane_names p w (task ∷ tasks) t = lane_name p w t ++ lane_names p w tasks (t + 1)
+abbrev pub lane_names : List ℕ → Story → List Task → ℕ → List ℕ
+lane_names text s [] t = []
+lane_names text s (task ∷ tasks) t = lane_name text s t ++ lane_names text s tasks (t + 1)

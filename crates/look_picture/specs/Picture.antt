@@ -2,14 +2,13 @@
 use Rattle.std.specs.Prelude.{ℕ, ◌+◌, ◌-◌, ◌*◌, Bool, true, false, if◌then◌else◌, List, ◌∷◌, [], ◌++◌, length, take, drop, codes, Option}
 use Rattle.std.specs.Fmt.{decimal}
 use Rattle.sts_code.specs.Program.{Program}
+use Rattle.sts_model.specs.declared.event.End.{End}
 use Rattle.sts_model.specs.declared.event.Event.{Event}
 use Rattle.sts_model.specs.declared.event.Event.TheVariants as event
-use Rattle.sts_model.specs.Run.{after}
 use Rattle.sts_model.specs.World.{World}
 use Rattle.sts_plain.specs.declared.misstep.PlainState.{PlainState}
 use Rattle.sts_plain.specs.declared.misstep.PlainState.TheVariants as plain
 use Rattle.sts_plain.specs.Seen.{shown}
-use Rattle.sts_trace.specs.Spelling.{event_text}
 use Rattle.sts_output.specs.Output.{Output, state_status}
 use Rattle.sts_output.specs.Printed.{state_line, steps_line}
 use Rattle.look_lines.specs.Form.{Form, IsShownOf, plain_form}
@@ -17,6 +16,8 @@ use Rattle.look_lines.specs.View.{view_lines}
 use Rattle.look_lines.specs.Views.{applied}
 use Rattle.look_lines.specs.Watched.{Watched, watched}
 use Rattle.look_lines.specs.declared.watch.Applied.{Applied}
+use Rattle.look_tell.specs.Outcome.{end_words}
+use Rattle.look_tell.specs.Story.{Story, after_events, world_of}
 use Rattle.look_picture.specs.declared.marks.Mark.{Mark}
 use Rattle.look_picture.specs.declared.marks.Mark.TheVariants as mark
 use Rattle.look_picture.specs.Brackets.{scope_cells}
@@ -24,98 +25,109 @@ use Rattle.look_picture.specs.Lanes.{lane_names, task_cells}
 use Rattle.look_picture.specs.Place.{column, height, lane, width}
 use Rattle.look_picture.specs.Legend.{keys, legend}
 use Rattle.look_picture.specs.Style.{style}
+use Rattle.look_picture.specs.Told.{event_words}
 use Rattle.look_picture.specs.Windows.{left_out, shown_events}
 use Rattle.look_picture.specs.Windows as windows
 use Rattle.look_picture.specs.declared.window.Drawn.{Drawn}
 use Rattle.look_picture.specs.declared.window.Window.{Window}
 use Rattle.look_picture.specs.Words.{next_word, step_word}
-use Rattle.look_picture.specs.Writing.{mark_at, text_end, text_start}
+use Rattle.look_picture.specs.Writing.{escaped, fitted_start, mark_at, text_end, text_start}
+use Rattle.look_picture.specs.declared.writing.Room.{Room}
 
 -- ---- a column
 
 -- all cells of a world in a column, with the changes since the column before
-abbrev pub cells : Program → World → World → ℕ → List ℕ
-cells p before w x = task_cells p before w x w.tasks 0 ++ scope_cells before w x w.scopes 0
+abbrev pub cells : List ℕ → Program → World → World → ℕ → List ℕ
+cells text p before w x =
+    task_cells text p before w x w.tasks 0 ++ scope_cells before w x w.scopes 0
 
 -- a step of this task that was a fault
 abbrev pub fault_mark : Watched → ℕ → ℕ → List ℕ
 fault_mark m x t = mark_at mark.Fault x (lane t) (state_line m.program (shown m.state))
 
 -- the cells of a column; a fault is drawn alone, in its own column, and nothing is drawn after it
-abbrev pub standing : Watched → Watched → ℕ → Bool → PlainState → List ℕ
-standing before m x is_counted (plain.Fault kind t f pc) =
+abbrev pub standing : List ℕ → Watched → Watched → ℕ → Bool → PlainState → List ℕ
+standing text before m x is_counted (plain.Fault kind t f pc) =
     if is_counted then fault_mark m x t else []
-standing before m x is_counted _ = cells m.program before.last m.last x
+standing text before m x is_counted _ = cells text m.program before.last m.last x
 
--- the dot of a step in its task's lane
-abbrev pub step_dot : ℕ → ℕ → List ℕ
-step_dot x t = mark_at mark.Step x (lane t) (event_text (event.Step t))
+-- the dot of a step in its task's lane, with these words
+abbrev pub step_dot : List ℕ → ℕ → ℕ → List ℕ
+step_dot words x t = mark_at mark.Step x (lane t) words
 
 -- the dot, and the word of the step's instruction
-unfoldable pub step_mark : Watched → ℕ → ℕ → List ℕ
-step_mark before x t = step_dot x t ++ step_word x t (next_word before.program before.last t)
+unfoldable pub step_mark : List ℕ → Watched → ℕ → ℕ → List ℕ
+step_mark words before x t =
+    step_dot words x t ++ step_word x t (next_word before.program before.last t)
 
 -- a step that counts
-abbrev pub stepped : Watched → ℕ → Event → Bool → List ℕ
-stepped before x (event.Step t) true = step_mark before x t
-stepped before x _ _ = []
+abbrev pub stepped : List ℕ → Watched → ℕ → Event → Bool → List ℕ
+stepped words before x (event.Step t) true = step_mark words before x t
+stepped words before x _ _ = []
 
-abbrev pub idle_word : Bool → List ℕ
-idle_word is_counted = if is_counted then [] else codes " idle"
+-- the words of an event, then its number
+abbrev pub number_words : List ℕ → List ℕ → List ℕ
+number_words words digits =
+    codes "<title>" ++ words ++ codes "</title>" ++ digits ++ codes "</text>\n"
 
--- the end of the event's words, followed by its number
-abbrev pub number_end : ℕ → List ℕ → List ℕ
-number_end n idle = idle ++ codes "</title>" ++ decimal n ++ codes "</text>\n"
+-- the room for a number above its column
+abbrev pub number_room : Room
+number_room = record { letters = 3; pixels = 22 }
 
 -- the event's number above the lanes
-abbrev pub number : ℕ → Applied → List ℕ
-number at a =
-    text_start (codes "number") (column at) 44
-    ++ (codes "<title>" ++ (event_text a.event ++ number_end a.number (idle_word a.is_counted)))
-
--- the words of an event that doesn't count
-abbrev pub idle_words : Event → List ℕ
-idle_words e = event_text e ++ codes " idle"
+abbrev pub number : List ℕ → ℕ → ℕ → List ℕ
+number words at n =
+    fitted_start (codes "number") (column at) 44 (length (decimal n)) number_room
+    ++ number_words words (decimal n)
 
 -- a stroke through the number of an event that doesn't count
-abbrev pub idle_mark : ℕ → Applied → List ℕ
-idle_mark at a =
-    if a.is_counted then [] else mark_at mark.Idle (column at) 40 (idle_words a.event)
+abbrev pub idle_mark : List ℕ → ℕ → Bool → List ℕ
+idle_mark words at is_counted =
+    if is_counted then [] else mark_at mark.Idle (column at) 40 words
 
 -- the number, with its stroke
-unfoldable pub event_number : ℕ → Applied → List ℕ
-event_number at a = number at a ++ idle_mark at a
+unfoldable pub event_number : List ℕ → ℕ → Applied → List ℕ
+event_number words at a = number words at a.number ++ idle_mark words at a.is_counted
 
--- an event in this column, from what was seen before it and what is seen after it
-abbrev pub event_column : Watched → Watched → ℕ → Applied → List ℕ
-event_column before m at a =
-    event_number at a ++ (standing before m (column at) a.is_counted (shown m.state)
-    ++ stepped before (column at) a.event a.is_counted)
+-- an event with these words in this column, from what was seen before it and what is seen after it
+abbrev pub event_column : List ℕ → List ℕ → Watched → Watched → ℕ → Applied → List ℕ
+event_column text words before m at a =
+    event_number words at a ++ (standing text before m (column at) a.is_counted (shown m.state)
+    ++ stepped words before (column at) a.event a.is_counted)
 
 -- the columns of these events, if those came before; the first ones have none
-abbrev pub columns_from : Program → ℕ → List Event → List Event → List ℕ
-columns_from p skipped done [] = []
-columns_from p skipped done (e ∷ es) =
-    event_column (watched p done) (watched p (done ++ e ∷ [])) (length done + 1 - skipped)
-    (applied p done e)
-    ++ columns_from p skipped (done ++ e ∷ []) es
+abbrev pub columns_from : List ℕ → Program → ℕ → List Event → List Event → List ℕ
+columns_from text p skipped done [] = []
+columns_from text p skipped done (e ∷ es) =
+    event_column text (event_words text (length done + 1) (after_events p done) e)
+    (watched p done) (watched p (done ++ e ∷ [])) (length done + 1 - skipped) (applied p done e)
+    ++ columns_from text p skipped (done ++ e ∷ []) es
 
 -- the column before the first event that has one; nothing changed there
-abbrev pub first_column : Watched → List ℕ
-first_column m = standing m m (column 0) false (shown m.state)
+abbrev pub first_column : List ℕ → Watched → List ℕ
+first_column text m = standing text m m (column 0) false (shown m.state)
 
 -- the column before the first event, and one after each; the first ones are skipped
-abbrev pub columns : Program → ℕ → List Event → List ℕ
-columns p skipped events =
-    first_column (watched p (take skipped events))
-    ++ columns_from p skipped (take skipped events) (drop skipped events)
+abbrev pub columns : List ℕ → Program → ℕ → List Event → List ℕ
+columns text p skipped events =
+    first_column text (watched p (take skipped events))
+    ++ columns_from text p skipped (take skipped events) (drop skipped events)
 
 -- ---- what stands round them
 
+-- the end of a run, with the name of its value or code
+abbrev pub end_line : List ℕ → End → List ℕ
+end_line text end = escaped (end_words text end) ++ codes "\n"
+
+-- the state of the run
+abbrev pub run_line : List ℕ → Program → PlainState → List ℕ
+run_line text p (plain.Ended end) = end_line text end
+run_line text p state = state_line p state
+
 -- the state of the run, the steps that it took, and which events are left out
-abbrev pub heading : Watched → Drawn → List ℕ
-heading m d =
-    state_line m.program (shown m.state) ++ (codes " " ++ (steps_line m.steps ++ left_out d))
+abbrev pub heading : List ℕ → Watched → Drawn → List ℕ
+heading text m d =
+    run_line text m.program (shown m.state) ++ (codes " " ++ (steps_line m.steps ++ left_out d))
 
 unfoldable pub svg_start : ℕ → ℕ → List ℕ
 svg_start wide high =
@@ -123,9 +135,10 @@ svg_start wide high =
     ++ (decimal wide ++ (codes " " ++ (decimal high ++ (codes "' width='" ++ (decimal wide
     ++ (codes "' height='" ++ (decimal high ++ codes "'>\n<title>")))))))
 
--- the size of a picture of these many events, with these many keys
-abbrev pub sized : Watched → ℕ → ℕ → List ℕ
-sized m events keys = svg_start (width events) (height (length m.last.tasks) keys)
+-- the size of a picture of these many events, with a heading of these many letters and these many
+-- keys
+abbrev pub sized : Watched → ℕ → ℕ → ℕ → List ℕ
+sized m events letters keys = svg_start (width events letters) (height (length m.last.tasks) keys)
 
 -- the lines of all tasks and scopes
 unfoldable pub standing_lines : Watched → List ℕ
@@ -142,9 +155,10 @@ description_end = codes "</desc>\n"
 abbrev pub description : Watched → List ℕ
 description m = description_start ++ (standing_lines m ++ description_end)
 
--- the size, the state of the run, and all tasks and scopes
-abbrev pub head : Watched → Drawn → ℕ → List ℕ
-head m d keys = sized m (windows.columns d) keys ++ (heading m d ++ description m)
+-- the size, this heading as the title, and all tasks and scopes
+abbrev pub head : List ℕ → Watched → ℕ → ℕ → List ℕ
+head heading m events keys =
+    sized m events (length heading) keys ++ (heading ++ description m)
 
 -- the style, and the grid behind the lanes
 abbrev pub grid : List ℕ → ℕ → ℕ → List ℕ
@@ -156,11 +170,11 @@ grid style wide high =
 abbrev pub grid_of : ℕ → ℕ → List ℕ
 grid_of columns tasks = grid style (24 * columns + 24) (52 * tasks)
 
--- the grid, and the state of the run above it
-abbrev pub backdrop : Watched → Drawn → List ℕ
-backdrop m d =
-    grid_of (windows.columns d) (length m.last.tasks)
-    ++ (text_start (codes "heading") 12 22 ++ (heading m d ++ text_end))
+-- the grid, and this heading above it
+abbrev pub backdrop : List ℕ → Watched → ℕ → List ℕ
+backdrop heading m events =
+    grid_of events (length m.last.tasks)
+    ++ (text_start (codes "heading") 12 22 ++ (heading ++ text_end))
 
 -- the group of the legend, from this height on
 abbrev pub foot_start : ℕ → List ℕ
@@ -173,37 +187,50 @@ abbrev pub foot : ℕ → List Mark → List ℕ
 foot tasks keys = foot_start (lane tasks) ++ (legend keys ++ foot_end)
 
 -- the names of the lanes, and the legend
-abbrev pub below : Watched → List Mark → List ℕ
-below m keys =
-    lane_names m.program m.last m.last.tasks 0 ++ foot (length m.last.tasks) keys
+abbrev pub below : List ℕ → Story → List Mark → List ℕ
+below text s keys =
+    lane_names text s (world_of s).tasks 0 ++ foot (length (world_of s).tasks) keys
 
--- these columns between the head, the grid and the legend with these keys
-abbrev pub framed_with : Watched → Drawn → List ℕ → List Mark → List ℕ
-framed_with m d columns keys =
-    head m d (length keys) ++ (backdrop m d ++ (columns ++ below m keys))
+-- these columns of these many events under this heading, between the grid and the legend with these
+-- keys
+abbrev pub framed_under : List ℕ → List ℕ → Story → ℕ → List ℕ → List Mark → List ℕ
+framed_under heading text s events columns keys =
+    head heading s.watched events (length keys)
+    ++ (backdrop heading s.watched events ++ (columns ++ below text s keys))
+
+-- these columns under the heading, with these keys in the legend
+abbrev pub framed_with : List ℕ → Story → Drawn → List ℕ → List Mark → List ℕ
+framed_with text s d columns keys =
+    framed_under (heading text s.watched d) text s (windows.columns d) columns keys
 
 -- these columns in their frame; the legend has the marks that they have
-abbrev pub framed : Watched → Drawn → List ℕ → List ℕ
-framed m d columns = framed_with m d columns (keys columns)
+abbrev pub framed : List ℕ → Story → Drawn → List ℕ → List ℕ
+framed text s d columns = framed_with text s d columns (keys columns)
 
-unfoldable pub picture : Program → Drawn → List Event → List ℕ
-picture p d events = framed (watched p events) d (columns p d.before events)
+unfoldable pub picture : List ℕ → Program → Drawn → List Event → List ℕ
+picture text p d events =
+    framed text (after_events p events) d (columns text p d.before events)
 
--- the picture of a run of these events; the status is that of the last state: 0 if the root
--- succeeded, 1 if it failed, otherwise 5
-abbrev pub drawn_output : Program → Drawn → List Event → Output
-drawn_output p d events =
-    record { bytes = picture p d events; status = state_status (shown (after p events)) }
+-- the status of the state of a story's run: 0 if the root succeeded, 1 if it failed, otherwise 5
+abbrev pub status_of : Story → ℕ
+status_of s = state_status (shown s.watched.state)
+
+-- the picture of a run of these events, with the lines and the names of the text
+abbrev pub drawn_output : List ℕ → Program → Drawn → List Event → Output
+drawn_output text p d events = record {
+  bytes = picture text p d events;
+  status = status_of (after_events p events);
+}
 
 -- the picture of a run up to the last event that is shown
-abbrev pub picture_output : Program → Option Window → List Event → Output
-picture_output p window events =
-    drawn_output p (shown_events window (length events))
+abbrev pub picture_output : List ℕ → Program → Option Window → List Event → Output
+picture_output text p window events =
+    drawn_output text p (shown_events window (length events))
     (take (shown_events window (length events)).last events)
 
-abbrev pub picture_form : Option Window → Form
-picture_form window = plain_form (λ p events. picture_output p window events)
+abbrev pub picture_form : List ℕ → Option Window → Form
+picture_form text window = plain_form (λ p events. picture_output text p window events)
 
 -- what `look draw` prints for a text and a trace, or that memory ran out
 abbrev pub IsPictureOf : Option Window → List ℕ → List ℕ → Output → Type 0
-IsPictureOf window text trace output = IsShownOf (picture_form window) text trace output
+IsPictureOf window text trace output = IsShownOf (picture_form text window) text trace output

@@ -42,9 +42,9 @@ bracket_at owner depth = lane owner + 14 + 9 * min depth 2
 abbrev pub bracket : World → ℕ → ℕ
 bracket w s = bracket_at (scope_at w s).owner (depth w s)
 
--- the width of a picture of these many events
-abbrev pub width : ℕ → ℕ
-width events = max (column events + 168) 480
+-- the width of a picture of these many events, with a heading of these many letters
+abbrev pub width : ℕ → ℕ → ℕ
+width events letters = max (column events + 168) (max 480 (24 + 9 * letters))
 
 -- the place of a key of the legend, by its number, from the legend's left and from its top; there are
 -- two in a row

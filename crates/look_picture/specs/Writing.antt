@@ -1,8 +1,9 @@
--- The elements of a picture (this project's own). Their words are numbers, words of the machine and
--- names of functions, which are letters, digits and underscores: none needs an escape.
-use Rattle.std.specs.Prelude.{ℕ, List, ◌++◌, codes}
+-- The elements of a picture, and the escapes of their words (this project's own).
+use Rattle.std.specs.Prelude.{ℕ, List, [], ◌++◌, ◌==◌, nat_lt, length, codes, encode_utf8, if◌then◌else◌}
+use Rattle.std.specs.List.{flat_map}
 use Rattle.std.specs.Fmt.{decimal}
 use Rattle.look_picture.specs.declared.marks.Mark.{Mark}
+use Rattle.look_picture.specs.declared.writing.Room.{Room}
 use Rattle.look_picture.specs.Marks.{begins, shape}
 
 -- a mark at a point, up to the words that describe it
@@ -26,3 +27,36 @@ text_start class x y =
 
 abbrev pub text_end : List ℕ
 text_end = codes "</text>\n"
+
+-- a byte of a text, or its escape if it means something in XML
+abbrev pub escaped_byte : ℕ → List ℕ
+escaped_byte b =
+    if b == 60 then codes "&lt;"
+    else (if b == 62 then codes "&gt;"
+    else (if b == 38 then codes "&amp;" else encode_utf8 b))
+
+abbrev pub escaped : List ℕ → List ℕ
+escaped text = flat_map escaped_byte text
+
+-- the attributes of words of more letters than their room has: they are pressed into its width
+abbrev pub pressed : ℕ → Room → List ℕ
+pressed letters room =
+    if nat_lt room.letters letters
+    then codes " textLength='" ++ decimal room.pixels ++ codes "' lengthAdjust='spacingAndGlyphs'"
+    else []
+
+-- a text of a class at a point, before its further attributes
+unfoldable pub text_place : List ℕ → ℕ → ℕ → List ℕ
+text_place class x y =
+    codes "<text class='" ++ class ++ codes "' x='" ++ decimal x
+    ++ codes "' y='" ++ decimal y ++ codes "'"
+
+-- a text of a class and of these many letters begins at a point, pressed into its room
+abbrev pub fitted_start : List ℕ → ℕ → ℕ → ℕ → Room → List ℕ
+fitted_start class x y letters room =
+    text_place class x y ++ (pressed letters room ++ codes ">")
+
+-- words of a class at a point, pressed into their room
+abbrev pub fitted_text : List ℕ → ℕ → ℕ → List ℕ → Room → List ℕ
+fitted_text class x y words room =
+    fitted_start class x y (length words) room ++ (escaped words ++ text_end)

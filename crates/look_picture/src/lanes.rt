@@ -7,14 +7,27 @@ ghost use Rattle.look_picture.specs.Lanes as def;
 use crate::change::Change;
 use crate::marks::Mark;
 use crate::place::{lane, over_lane};
-use crate::writing::{mark_end, mark_start, text_end, text_start};
+use crate::writing::{Room, fitted_text, mark_end, mark_start, text_end, text_start};
 use look_lines::{is_heard, stand_words, under_words};
-use std::alloc::AllocError;
+use look_names::{Names, say_value};
+use look_tell::{Story, say_called};
+use std::alloc::{AllocError, Global};
 use std::fmt::Write;
-use sts_code::{Program, name_of};
 use sts_model::End;
 use sts_plain::can_step;
 use sts_world::Records;
+
+/// The room for a value to the right of the last column.
+const VALUE_ROOM: Room = Room {
+    letters: 21,
+    pixels: 139,
+};
+
+/// The room for a function and its arguments to the left of the lanes.
+const CALL_ROOM: Room = Room {
+    letters: 31,
+    pixels: 186,
+};
 
 /// The line of a task that lives.
 fn life_mark(is_ready: bool) -> Mark
@@ -54,20 +67,29 @@ fn told(out: &mut String, change: Change<'_>, t: u32) -> Result<(), AllocError>
 
 /// The value or the code that a task ended with, next to the mark.
 fn value_text(
+    alloc: Global,
     out: &mut String,
+    names: &Names<'_>,
     change: Change<'_>,
     t: u32,
     end: Option<End>,
 ) -> Result<(), AllocError>
     ensures { OnOk result (string_bytes out.new
-        ≡ string_bytes out.old ++ def.value_text change.entry.x t end) }
+        ≡ string_bytes out.old ++ def.value_text names.now change.entry.x t end) }
 {
     let Some(End::Success(value) | End::Failed(value)) = end else {
         return Ok(());
     };
-    text_start(out, "value", change.x + 22, lane(t) + 4)?;
-    write!(out, "{value}")?;
-    text_end(out)
+    let mut words = Vec::new(alloc);
+    say_value(alloc, &mut words, names, value)?;
+    fitted_text(
+        out,
+        "value",
+        change.x + 22,
+        lane(t) + 4,
+        words.as_slice(),
+        VALUE_ROOM,
+    )
 }
 
 /// A task that lives.
@@ -101,22 +123,34 @@ fn rest_line(
 }
 
 /// A task that doesn't live.
-fn rest(out: &mut String, change: Change<'_>, t: u32) -> Result<(), AllocError>
+fn rest(
+    alloc: Global,
+    out: &mut String,
+    names: &Names<'_>,
+    change: Change<'_>,
+    t: u32,
+) -> Result<(), AllocError>
     requires { t < length change.world.now.tasks }
     ensures { OnOk result (string_bytes out.new ≡ string_bytes out.old
-        ++ def.rest change.entry.program.now change.entry.world.now change.entry.x t) }
+        ++ def.rest names.now change.entry.program.now change.entry.world.now change.entry.x t) }
 {
     let end = change.world.records().outcome(t);
     rest_line(out, change, t, is_heard(change.world, t), end)?;
-    value_text(out, change, t, end)
+    value_text(alloc, out, names, change, t, end)
 }
 
 /// A task that lives in this column, or that lived or wasn't born in the column before.
-fn stand(out: &mut String, change: Change<'_>, t: u32) -> Result<(), AllocError>
+fn stand(
+    alloc: Global,
+    out: &mut String,
+    names: &Names<'_>,
+    change: Change<'_>,
+    t: u32,
+) -> Result<(), AllocError>
     requires { t < length change.world.now.tasks }
     ensures { OnOk result (string_bytes out.new ≡ string_bytes out.old
-        ++ def.stand change.entry.program.now change.entry.before.now change.entry.world.now
-        change.entry.x t) }
+        ++ def.stand names.now change.entry.program.now change.entry.before.now
+        change.entry.world.now change.entry.x t) }
 {
     if change.world.records().lives(t) {
         return life(out, change, t);
@@ -124,7 +158,7 @@ fn stand(out: &mut String, change: Change<'_>, t: u32) -> Result<(), AllocError>
     if rests(change.before.records(), t) {
         return Ok(());
     }
-    rest(out, change, t)
+    rest(alloc, out, names, change, t)
 }
 
 /// A line from one height to another.
@@ -176,14 +210,20 @@ fn interrupted(out: &mut String, change: Change<'_>, t: u32) -> Result<(), Alloc
     mark_end(out)
 }
 
-fn task_cell(out: &mut String, change: Change<'_>, t: u32) -> Result<(), AllocError>
+fn task_cell(
+    alloc: Global,
+    out: &mut String,
+    names: &Names<'_>,
+    change: Change<'_>,
+    t: u32,
+) -> Result<(), AllocError>
     requires { t < length change.world.now.tasks }
     ensures { OnOk result (string_bytes out.new ≡ string_bytes out.old
-        ++ def.task_cell change.entry.program.now change.entry.before.now change.entry.world.now
-        change.entry.x t) }
+        ++ def.task_cell names.now change.entry.program.now change.entry.before.now
+        change.entry.world.now change.entry.x t) }
 {
     birth(out, change, t)?;
-    stand(out, change, t)?;
+    stand(alloc, out, names, change, t)?;
     interrupted(out, change, t)
 }
 
@@ -192,14 +232,19 @@ fn task_cell(out: &mut String, change: Change<'_>, t: u32) -> Result<(), AllocEr
 /// # Errors
 ///
 /// Memory ran out; `out` may then have a part of it.
-pub fn task_cells(out: &mut String, change: Change<'_>) -> Result<(), AllocError>
+pub fn task_cells(
+    alloc: Global,
+    out: &mut String,
+    names: &Names<'_>,
+    change: Change<'_>,
+) -> Result<(), AllocError>
     ensures { OnOk result (string_bytes out.new ≡ string_bytes out.old
-        ++ def.task_cells change.entry.program.now change.entry.before.now change.entry.world.now
-        change.entry.x change.entry.world.now.tasks 0) }
+        ++ def.task_cells names.now change.entry.program.now change.entry.before.now
+        change.entry.world.now change.entry.x change.entry.world.now.tasks 0) }
 {
     let tasks = change.present.tasks();
     for t in tasks {
-        task_cell(out, change, *t)?;
+        task_cell(alloc, out, names, change, *t)?;
     }
     Ok(())
 }
@@ -214,27 +259,34 @@ fn task_name(out: &mut String, t: u32, scope: Option<u32>) -> Result<(), AllocEr
     text_end(out)
 }
 
-/// The name of a task's function, below the name of its lane.
-fn function_name(out: &mut String, t: u32, name: &str) -> Result<(), AllocError>
-    ensures { OnOk result (string_bytes out.new
-        ≡ string_bytes out.old ++ def.function_name t name.now) }
-{
-    text_start(out, "code", 196, lane(t) + 13)?;
-    write!(out, "{name}")?;
-    text_end(out)
-}
-
-fn lane_name(
+/// The function and the arguments of a task, below the name of its lane.
+fn call_name(
+    alloc: Global,
     out: &mut String,
-    program: &Program,
-    records: &Records,
+    names: &Names<'_>,
+    story: &Story<'_>,
     t: u32,
 ) -> Result<(), AllocError>
     ensures { OnOk result (string_bytes out.new
-        ≡ string_bytes out.old ++ def.lane_name program.now records.now t) }
+        ≡ string_bytes out.old ++ def.call_name names.now story.now t) }
 {
-    task_name(out, t, records.parent(t))?;
-    function_name(out, t, name_of(program, records.function(t)))
+    let mut called = Vec::new(alloc);
+    say_called(alloc, &mut called, names, story, t)?;
+    fitted_text(out, "code", 196, lane(t) + 13, called.as_slice(), CALL_ROOM)
+}
+
+fn lane_name(
+    alloc: Global,
+    out: &mut String,
+    names: &Names<'_>,
+    story: &Story<'_>,
+    t: u32,
+) -> Result<(), AllocError>
+    ensures { OnOk result (string_bytes out.new
+        ≡ string_bytes out.old ++ def.lane_name names.now story.now t) }
+{
+    task_name(out, t, story.watch().world().records().parent(t))?;
+    call_name(alloc, out, names, story, t)
 }
 
 /// The names of the lanes of all tasks that were ever born.
@@ -242,12 +294,18 @@ fn lane_name(
 /// # Errors
 ///
 /// Memory ran out; `out` may then have a part of it.
-pub fn lane_names(out: &mut String, program: &Program, records: &Records) -> Result<(), AllocError>
-    ensures { OnOk result (string_bytes out.new
-        ≡ string_bytes out.old ++ def.lane_names program.now records.now records.now.tasks 0) }
+pub fn lane_names(
+    alloc: Global,
+    out: &mut String,
+    names: &Names<'_>,
+    story: &Story<'_>,
+) -> Result<(), AllocError>
+    ensures { OnOk result (string_bytes out.new ≡ string_bytes out.old
+        ++ def.lane_names names.now story.now story.now.watched.last.tasks 0) }
 {
-    for t in 0..records.tasks_born() {
-        lane_name(out, program, records, t as u32)?;
+    let tasks = story.watch().world().records().tasks_born();
+    for t in 0..tasks {
+        lane_name(alloc, out, names, story, t as u32)?;
     }
     Ok(())
 }

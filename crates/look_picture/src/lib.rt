@@ -10,10 +10,11 @@ pub mod picture;
 pub mod place;
 pub mod present;
 mod style;
+mod told;
 pub mod window;
 mod words;
 pub mod writing;
 
-pub use picture::Picture;
+pub use picture::{Picture, draw};
 pub use style::STYLE;
 pub use window::Window;

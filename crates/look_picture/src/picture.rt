@@ -4,7 +4,9 @@ ghost use Rattle.std.specs.Prelude.{◌≡◌, ◌++◌, ◌<◌, ◌≤◌, ◌
 ghost use Rattle.std.specs.String.{string_bytes};
 ghost use Rattle.sts_code.specs.declared.limits.TheConstants.{MAX_BIRTHS};
 ghost use Rattle.sts_plain.specs.Seen.{shown};
+ghost use Rattle.sts_output.specs.Output as cli;
 ghost use Rattle.look_lines.specs.Watched.{watched};
+ghost use Rattle.look_tell.specs.Story.{after_events};
 ghost use Rattle.look_picture.specs.Picture as def;
 ghost use Rattle.look_picture.specs.Present as numbers;
 ghost use Rattle.look_picture.specs.Present.{AreHeld, Follows};
@@ -18,26 +20,43 @@ use crate::marks::Mark;
 use crate::place::{column, height, lane, width};
 use crate::present::Present;
 use crate::style::style;
+use crate::told::event_words;
 use crate::window::{Drawn, Window, left_out, shown_events};
 use crate::words::{next_word, step_word};
-use crate::writing::{mark_end, mark_start, text_end, text_start};
-use look_lines::{Applied, Form, Run, ViewOptions, Watch, after, event_words, view_lines};
+use crate::writing::{Room, escape, fitted_start, mark_end, mark_start, text_end, text_start};
+use look_lines::{Applied, Form, Run, ViewOptions, Watch, after, view_lines, write_run};
+use look_names::Names;
+use look_tell::{Story, say_end};
 use std::alloc::{AllocError, Global};
 use std::fmt::Write;
+use std::io;
 use sts_asm::AsmError;
 use sts_code::Program;
-use sts_model::Event;
-use sts_output::{Output, state_line, state_status, steps_line, text_fault, trace_fault};
+use sts_model::{End, Event};
+use sts_output::{
+    Output, WriteFailed, state_line, state_status, steps_line, text_fault, trace_fault,
+};
 use sts_plain::PlainState;
 use sts_trace::TraceError;
 
+/// The room for a number above its column.
+const NUMBER_ROOM: Room = Room {
+    letters: 3,
+    pixels: 22,
+};
+
 /// All cells of a world in a column, with the changes since the column before.
-fn cells(out: &mut String, change: Change<'_>) -> Result<(), AllocError>
+fn cells(
+    alloc: Global,
+    out: &mut String,
+    names: &Names<'_>,
+    change: Change<'_>,
+) -> Result<(), AllocError>
     ensures { OnOk result (string_bytes out.new ≡ string_bytes out.old
-        ++ def.cells change.entry.program.now change.entry.before.now change.entry.world.now
-        change.entry.x) }
+        ++ def.cells names.now change.entry.program.now change.entry.before.now
+        change.entry.world.now change.entry.x) }
 {
-    task_cells(out, change)?;
+    task_cells(alloc, out, names, change)?;
     scope_cells(out, change)
 }
 
@@ -64,14 +83,16 @@ struct Seen<'s, 'p> {
 
 /// The cells of a column; after a fault only the fault, in its own column.
 fn standing(
+    alloc: Global,
     out: &mut String,
+    names: &Names<'_>,
     seen: Seen<'_, '_>,
     x: u128,
     is_counted: bool,
 ) -> Result<(), AllocError>
     requires { x < 2 ^ 127 }
     ensures { OnOk result (string_bytes out.new ≡ string_bytes out.old
-        ++ def.standing seen.entry.before.now seen.entry.watch.now x is_counted
+        ++ def.standing names.now seen.entry.before.now seen.entry.watch.now x is_counted
         (shown seen.entry.watch.now.state)) }
 {
     match seen.watch.state() {
@@ -85,148 +106,173 @@ fn standing(
                 x,
                 present: seen.present,
             };
-            cells(out, change)
+            cells(alloc, out, names, change)
         }
     }
 }
 
-/// The dot of a step in its task's lane.
-fn step_dot(out: &mut String, x: u128, t: u32) -> Result<(), AllocError>
-    ensures { OnOk result (string_bytes out.new ≡ string_bytes out.old ++ def.step_dot x t) }
+/// The dot of a step in its task's lane, with these words.
+fn step_dot(out: &mut String, words: &str, x: u128, t: u32) -> Result<(), AllocError>
+    ensures { OnOk result (string_bytes out.new
+        ≡ string_bytes out.old ++ def.step_dot words.now x t) }
 {
     mark_start(out, Mark::Step, x, lane(t))?;
-    event_words(out, Event::Step(t))?;
+    out.push_str(words)?;
     mark_end(out)
 }
 
-/// The dot of a step in its task's lane, and the word of its instruction.
+/// The dot of a step in its task's lane, with these words, and the word of its instruction.
 #[tactic(auto, unfolding(crate::specs::Picture::step_mark))]
-fn step_mark(out: &mut String, seen: Seen<'_, '_>, x: u128, t: u32) -> Result<(), AllocError>
-    ensures { OnOk result (string_bytes out.new
-        ≡ string_bytes out.old ++ def.step_mark seen.entry.before.now x t) }
+fn step_mark(
+    out: &mut String,
+    words: &str,
+    seen: Seen<'_, '_>,
+    x: u128,
+    t: u32,
+) -> Result<(), AllocError>
+    ensures { OnOk result (string_bytes out.new ≡ string_bytes out.old
+        ++ def.step_mark words.now seen.entry.before.now x t) }
 {
     let before = seen.before;
     let word = next_word(before.program(), before.world().records(), t);
-    step_dot(out, x, t)?;
+    step_dot(out, words, x, t)?;
     step_word(out, x, t, word)
 }
 
 /// A step that counts, in its task's lane.
 fn stepped(
     out: &mut String,
+    words: &str,
     seen: Seen<'_, '_>,
     x: u128,
     applied: Applied,
 ) -> Result<(), AllocError>
     ensures { OnOk result (string_bytes out.new ≡ string_bytes out.old
-        ++ def.stepped seen.entry.before.now x applied.event applied.is_counted) }
+        ++ def.stepped words.now seen.entry.before.now x applied.event applied.is_counted) }
 {
     match applied.event {
-        Event::Step(t) if applied.is_counted => step_mark(out, seen, x, t),
+        Event::Step(t) if applied.is_counted => step_mark(out, words, seen, x, t),
         Event::Step(_) | Event::Interrupt(_) | Event::Expire(_) => Ok(()),
     }
 }
 
-/// ` idle` if an event doesn't count.
-fn idle_word(is_counted: bool) -> &'static str
-    ensures { result.now ≡ def.idle_word is_counted }
-{
-    if is_counted { "" } else { " idle" }
-}
-
-/// The end of the event's words, followed by its number.
-fn number_end(out: &mut String, n: usize, idle: &str) -> Result<(), AllocError>
+/// The words of an event, then its number.
+fn number_words(out: &mut String, words: &str, digits: &str) -> Result<(), AllocError>
     ensures { OnOk result (string_bytes out.new
-        ≡ string_bytes out.old ++ def.number_end n idle.now) }
+        ≡ string_bytes out.old ++ def.number_words words.now digits.now) }
 {
-    writeln!(out, "{idle}</title>{n}</text>")
+    writeln!(out, "<title>{words}</title>{digits}</text>")
 }
 
 /// The event's number above the lanes.
-fn number(out: &mut String, at: usize, applied: Applied) -> Result<(), AllocError>
-    ensures { OnOk result (string_bytes out.new ≡ string_bytes out.old ++ def.number at applied) }
+fn number(
+    alloc: Global,
+    out: &mut String,
+    words: &str,
+    at: usize,
+    n: usize,
+) -> Result<(), AllocError>
+    ensures { OnOk result (string_bytes out.new
+        ≡ string_bytes out.old ++ def.number words.now at n) }
 {
-    text_start(out, "number", column(at), 44)?;
-    write!(out, "<title>")?;
-    event_words(out, applied.event)?;
-    number_end(out, applied.number, idle_word(applied.is_counted))
-}
-
-/// The words of an event that doesn't count.
-fn idle_words(out: &mut String, event: Event) -> Result<(), AllocError>
-    ensures { OnOk result (string_bytes out.new ≡ string_bytes out.old ++ def.idle_words event) }
-{
-    event_words(out, event)?;
-    write!(out, " idle")
+    let digits = format!(in alloc; "{n}")?;
+    fitted_start(out, "number", column(at), 44, digits.len(), NUMBER_ROOM)?;
+    number_words(out, words, digits.as_str())
 }
 
 /// A stroke through the number of an event that doesn't count.
-fn idle_mark(out: &mut String, at: usize, applied: Applied) -> Result<(), AllocError>
+fn idle_mark(out: &mut String, words: &str, at: usize, is_counted: bool) -> Result<(), AllocError>
     ensures { OnOk result (string_bytes out.new
-        ≡ string_bytes out.old ++ def.idle_mark at applied) }
+        ≡ string_bytes out.old ++ def.idle_mark words.now at is_counted) }
 {
-    if applied.is_counted {
+    if is_counted {
         return Ok(());
     }
     mark_start(out, Mark::Idle, column(at), 40)?;
-    idle_words(out, applied.event)?;
+    out.push_str(words)?;
     mark_end(out)
 }
 
 /// The event's number above the lanes, with its stroke.
 #[tactic(auto, unfolding(crate::specs::Picture::event_number))]
-fn event_number(out: &mut String, at: usize, applied: Applied) -> Result<(), AllocError>
+fn event_number(
+    alloc: Global,
+    out: &mut String,
+    words: &str,
+    at: usize,
+    applied: Applied,
+) -> Result<(), AllocError>
     ensures { OnOk result (string_bytes out.new
-        ≡ string_bytes out.old ++ def.event_number at applied) }
+        ≡ string_bytes out.old ++ def.event_number words.now at applied) }
 {
-    number(out, at, applied)?;
-    idle_mark(out, at, applied)
+    number(alloc, out, words, at, applied.number)?;
+    idle_mark(out, words, at, applied.is_counted)
 }
 
-/// An event in a column.
+/// An event with these words in a column.
 fn event_column(
+    alloc: Global,
     out: &mut String,
+    names: &Names<'_>,
+    words: &str,
     seen: Seen<'_, '_>,
     at: usize,
     applied: Applied,
 ) -> Result<(), AllocError>
     ensures { OnOk result (string_bytes out.new ≡ string_bytes out.old
-        ++ def.event_column seen.entry.before.now seen.entry.watch.now at applied) }
+        ++ def.event_column names.now words.now seen.entry.before.now seen.entry.watch.now at
+        applied) }
 {
-    event_number(out, at, applied)?;
-    standing(out, seen, column(at), applied.is_counted)?;
-    stepped(out, seen, column(at), applied)
+    event_number(alloc, out, words, at, applied)?;
+    standing(alloc, out, names, seen, column(at), applied.is_counted)?;
+    stepped(out, words, seen, column(at), applied)
 }
 
-/// Skips the first events, applies the others to two machines in order, and draws a column for
-/// each.
+/// Skips the first events, applies the others to a machine and to a story in order, and draws a
+/// column for each.
 fn event_columns(
     alloc: Global,
     out: &mut String,
+    names: &Names<'_>,
     before: &mut Watch<'_>,
-    watch: &mut Watch<'_>,
+    story: &mut Story<'_>,
     present: &mut Present,
     skipped: usize,
     events: &[Event],
 ) -> Result<(), AllocError>
-    requires behind { before.old ≡ watched watch.old.program (take skipped events.now) }
-    requires starts { watch.old ≡ watched watch.old.program (take skipped events.now) }
+    requires behind { before.old ≡ watched before.old.program (take skipped events.now) }
+    requires told { story.old ≡ after_events before.old.program (take skipped events.now) }
     requires listed { present.old ≡ numbers.present before.old.last }
     requires inside { skipped ≤ length events.now }
-    ensures stands { OnOk result (watch.new ≡ watched watch.old.program events.now) }
+    ensures told { OnOk result (story.new ≡ after_events before.old.program events.now) }
     ensures drawn { OnOk result (string_bytes out.new ≡ string_bytes out.old
-        ++ def.columns_from watch.old.program skipped (take skipped events.now)
+        ++ def.columns_from names.now before.old.program skipped (take skipped events.now)
         (drop skipped events.now)) }
 {
     for i in skipped..events.len() {
-        let applied = watch.apply_numbered(alloc, i + 1, events[i])?;
+        let is_counted = story.counts(events[i]);
+        let words = event_words(alloc, names, story, i + 1, events[i])?;
+        let watch = story.watch();
         present.add_born(before.world().records(), watch.world().records())?;
         let seen = Seen {
             before,
             watch,
             present,
         };
-        event_column(out, seen, i + 1 - skipped, applied)?;
+        let applied = Applied {
+            number: i + 1,
+            event: events[i],
+            is_counted,
+        };
+        event_column(
+            alloc,
+            out,
+            names,
+            words.as_str(),
+            seen,
+            i + 1 - skipped,
+            applied,
+        )?;
         before.apply(alloc, events[i])?;
         present.keep(before.world().records());
     }
@@ -234,60 +280,103 @@ fn event_columns(
 }
 
 /// The column before the first event that has one; nothing changed there.
-fn first_column(out: &mut String, watch: &Watch<'_>, present: &Present) -> Result<(), AllocError>
+fn first_column(
+    alloc: Global,
+    out: &mut String,
+    names: &Names<'_>,
+    watch: &Watch<'_>,
+    present: &Present,
+) -> Result<(), AllocError>
     requires held { AreHeld watch.now.last }
     requires listed { present.now ≡ numbers.present watch.now.last }
     ensures { OnOk result (string_bytes out.new
-        ≡ string_bytes out.old ++ def.first_column watch.now) }
+        ≡ string_bytes out.old ++ def.first_column names.now watch.now) }
 {
     let seen = Seen {
         before: watch,
         watch,
         present,
     };
-    standing(out, seen, column(0), false)
+    standing(alloc, out, names, seen, column(0), false)
 }
 
 /// Draws the column before the first event and one after each, but skips the first events. Returns
-/// the machine that ran them.
+/// the story of them all.
 fn columns<'p>(
     alloc: Global,
     out: &mut String,
+    names: &Names<'_>,
     program: &'p Program,
     skipped: usize,
     events: &[Event],
-) -> Result<Watch<'p>, AllocError>
+) -> Result<Story<'p>, AllocError>
     requires { skipped ≤ length events.now }
-    ensures stands { IfOk result (λ w. w ≡ watched program.now events.now) }
+    ensures told { IfOk result (λ s. s ≡ after_events program.now events.now) }
     ensures drawn { OnOk result (string_bytes out.new
-        ≡ string_bytes out.old ++ def.columns program.now skipped events.now) }
+        ≡ string_bytes out.old ++ def.columns names.now program.now skipped events.now) }
 {
     let mut before = after(alloc, program, &events[..skipped])?;
-    let mut watch = after(alloc, program, &events[..skipped])?;
-    let mut present = Present::of(alloc, watch.world().records())?;
-    first_column(out, &watch, &present)?;
+    let mut story = Story::after(alloc, program, &events[..skipped])?;
+    let mut present = Present::of(alloc, before.world().records())?;
+    first_column(alloc, out, names, &before, &present)?;
     event_columns(
         alloc,
         out,
+        names,
         &mut before,
-        &mut watch,
+        &mut story,
         &mut present,
         skipped,
         events,
     )?;
-    Ok(watch)
+    Ok(story)
+}
+
+/// The end of a run, with the name of its value or code.
+fn end_line(alloc: Global, out: &mut String, names: &Names<'_>, end: End) -> Result<(), AllocError>
+    ensures { OnOk result (string_bytes out.new
+        ≡ string_bytes out.old ++ def.end_line names.now end) }
+{
+    let mut words = Vec::new(alloc);
+    say_end(alloc, &mut words, names, end)?;
+    escape(out, words.as_slice())?;
+    writeln!(out)
+}
+
+/// The state of the run.
+fn run_line(
+    alloc: Global,
+    out: &mut String,
+    names: &Names<'_>,
+    watch: &Watch<'_>,
+) -> Result<(), AllocError>
+    ensures { OnOk result (string_bytes out.new ≡ string_bytes out.old
+        ++ def.run_line names.now watch.now.program (shown watch.now.state)) }
+{
+    match watch.state() {
+        PlainState::Ended(end) => end_line(alloc, out, names, end),
+        PlainState::Running | PlainState::Fault { .. } => {
+            state_line(out, watch.program(), watch.state())
+        }
+    }
 }
 
 /// The state of the run, the steps that it took, and which events are left out.
-fn heading(out: &mut String, watch: &Watch<'_>, drawn: Drawn) -> Result<(), AllocError>
+fn heading(
+    alloc: Global,
+    names: &Names<'_>,
+    watch: &Watch<'_>,
+    drawn: Drawn,
+) -> Result<String, AllocError>
     requires { drawn.last ≤ drawn.all }
-    ensures { OnOk result (string_bytes out.new
-        ≡ string_bytes out.old ++ def.heading watch.now drawn) }
+    ensures { IfOk result (λ words. string_bytes words ≡ def.heading names.now watch.now drawn) }
 {
-    state_line(out, watch.program(), watch.state())?;
-    write!(out, " ")?;
-    steps_line(out, watch.steps())?;
-    left_out(out, drawn)
+    let mut words = String::new(alloc);
+    run_line(alloc, &mut words, names, watch)?;
+    words.push_str(" ")?;
+    steps_line(&mut words, watch.steps())?;
+    left_out(&mut words, drawn)?;
+    Ok(words)
 }
 
 fn svg_start(out: &mut String, wide: u128, high: u64) -> Result<(), AllocError>
@@ -300,14 +389,21 @@ fn svg_start(out: &mut String, wide: u128, high: u64) -> Result<(), AllocError>
     )
 }
 
-/// The size of a picture of these many events, with these many keys.
-fn sized(out: &mut String, watch: &Watch<'_>, events: usize, keys: usize) -> Result<(), AllocError>
+/// The size of a picture of these many events, with a heading of these many letters and these many
+/// keys.
+fn sized(
+    out: &mut String,
+    watch: &Watch<'_>,
+    events: usize,
+    letters: usize,
+    keys: usize,
+) -> Result<(), AllocError>
     requires { keys ≤ MOST_KEYS }
     ensures { OnOk result (string_bytes out.new
-        ≡ string_bytes out.old ++ def.sized watch.now events keys) }
+        ≡ string_bytes out.old ++ def.sized watch.now events letters keys) }
 {
     let tasks = watch.world().records().tasks_born();
-    svg_start(out, width(events), height(tasks, keys))
+    svg_start(out, width(events, letters), height(tasks, keys))
 }
 
 /// The lines of all tasks and scopes.
@@ -346,15 +442,20 @@ fn description(out: &mut String, watch: &Watch<'_>) -> Result<(), AllocError>
     description_end(out)
 }
 
-/// The size, the state of the run, and all tasks and scopes.
-fn head(out: &mut String, watch: &Watch<'_>, drawn: Drawn, keys: usize) -> Result<(), AllocError>
-    requires ordered { drawn.last ≤ drawn.all }
-    requires few { keys ≤ MOST_KEYS }
+/// The size, this heading as the title, and all tasks and scopes.
+fn head(
+    out: &mut String,
+    heading: &str,
+    watch: &Watch<'_>,
+    events: usize,
+    keys: usize,
+) -> Result<(), AllocError>
+    requires { keys ≤ MOST_KEYS }
     ensures { OnOk result (string_bytes out.new
-        ≡ string_bytes out.old ++ def.head watch.now drawn keys) }
+        ≡ string_bytes out.old ++ def.head heading.now watch.now events keys) }
 {
-    sized(out, watch, drawn.columns(), keys)?;
-    heading(out, watch, drawn)?;
+    sized(out, watch, events, heading.len(), keys)?;
+    out.push_str(heading)?;
     description(out, watch)
 }
 
@@ -378,16 +479,20 @@ fn grid_of(out: &mut String, columns: usize, tasks: usize) -> Result<(), AllocEr
     grid(out, style(), 24 * columns as u128 + 24, 52 * tasks)
 }
 
-/// The grid, and the state of the run above it.
-fn backdrop(out: &mut String, watch: &Watch<'_>, drawn: Drawn) -> Result<(), AllocError>
-    requires { drawn.last ≤ drawn.all }
+/// The grid, and this heading above it.
+fn backdrop(
+    out: &mut String,
+    heading: &str,
+    watch: &Watch<'_>,
+    events: usize,
+) -> Result<(), AllocError>
     ensures { OnOk result (string_bytes out.new
-        ≡ string_bytes out.old ++ def.backdrop watch.now drawn) }
+        ≡ string_bytes out.old ++ def.backdrop heading.now watch.now events) }
 {
     let tasks = watch.world().records().tasks_born();
-    grid_of(out, drawn.columns(), tasks)?;
+    grid_of(out, events, tasks)?;
     text_start(out, "heading", 12, 22)?;
-    heading(out, watch, drawn)?;
+    out.push_str(heading)?;
     text_end(out)
 }
 
@@ -417,20 +522,50 @@ fn foot(out: &mut String, tasks: usize, keys: &[Mark]) -> Result<(), AllocError>
 }
 
 /// The names of the lanes, and the legend.
-fn below(out: &mut String, watch: &Watch<'_>, keys: &[Mark]) -> Result<(), AllocError>
+fn below(
+    alloc: Global,
+    out: &mut String,
+    names: &Names<'_>,
+    story: &Story<'_>,
+    keys: &[Mark],
+) -> Result<(), AllocError>
     requires { length keys.now ≤ MOST_KEYS }
     ensures { OnOk result (string_bytes out.new
-        ≡ string_bytes out.old ++ def.below watch.now keys.now) }
+        ≡ string_bytes out.old ++ def.below names.now story.now keys.now) }
 {
-    let records = watch.world().records();
-    lane_names(out, watch.program(), records)?;
-    foot(out, records.tasks_born(), keys)
+    lane_names(alloc, out, names, story)?;
+    let tasks = story.watch().world().records().tasks_born();
+    foot(out, tasks, keys)
 }
 
-/// Puts these columns between the head, the grid and the legend with these keys.
-fn framed_with(
+/// Puts these columns of these many events under this heading, between the grid and the legend with
+/// these keys.
+fn framed_under(
+    alloc: Global,
     out: &mut String,
-    watch: &Watch<'_>,
+    heading: &str,
+    names: &Names<'_>,
+    story: &Story<'_>,
+    events: usize,
+    columns: &str,
+    keys: &[Mark],
+) -> Result<(), AllocError>
+    requires { length keys.now ≤ MOST_KEYS }
+    ensures { OnOk result (string_bytes out.new ≡ string_bytes out.old
+        ++ def.framed_under heading.now names.now story.now events columns.now keys.now) }
+{
+    head(out, heading, story.watch(), events, keys.len())?;
+    backdrop(out, heading, story.watch(), events)?;
+    out.push_str(columns)?;
+    below(alloc, out, names, story, keys)
+}
+
+/// Puts these columns under the heading, with these keys in the legend.
+fn framed_with(
+    alloc: Global,
+    out: &mut String,
+    names: &Names<'_>,
+    story: &Story<'_>,
     drawn: Drawn,
     columns: &str,
     keys: &[Mark],
@@ -438,64 +573,98 @@ fn framed_with(
     requires ordered { drawn.last ≤ drawn.all }
     requires few { length keys.now ≤ MOST_KEYS }
     ensures { OnOk result (string_bytes out.new ≡ string_bytes out.old
-        ++ def.framed_with watch.now drawn columns.now keys.now) }
+        ++ def.framed_with names.now story.now drawn columns.now keys.now) }
 {
-    head(out, watch, drawn, keys.len())?;
-    backdrop(out, watch, drawn)?;
-    out.push_str(columns)?;
-    below(out, watch, keys)
+    let words = heading(alloc, names, story.watch(), drawn)?;
+    framed_under(
+        alloc,
+        out,
+        words.as_str(),
+        names,
+        story,
+        drawn.columns(),
+        columns,
+        keys,
+    )
 }
 
 /// Puts these columns between the head, the grid and the legend.
 fn framed(
     alloc: Global,
     out: &mut String,
-    watch: &Watch<'_>,
+    names: &Names<'_>,
+    story: &Story<'_>,
     drawn: Drawn,
     columns: &str,
 ) -> Result<(), AllocError>
     requires { drawn.last ≤ drawn.all }
-    ensures { OnOk result (string_bytes out.new
-        ≡ string_bytes out.old ++ def.framed watch.now drawn columns.now) }
+    ensures { OnOk result (string_bytes out.new ≡ string_bytes out.old
+        ++ def.framed names.now story.now drawn columns.now) }
 {
     let keys = keys(alloc, columns)?;
-    framed_with(out, watch, drawn, columns, keys.as_slice())
+    framed_with(alloc, out, names, story, drawn, columns, keys.as_slice())
+}
+
+/// The status of the machine's state.
+fn status_of(story: &Story<'_>) -> u8
+    ensures { result ≡ def.status_of story.now }
+{
+    state_status(story.watch().state())
 }
 
 /// The picture of a run of these events, and the status of the machine's last state.
 fn picture_of(
     alloc: Global,
+    names: &Names<'_>,
     program: &Program,
     drawn: Drawn,
     events: &[Event],
 ) -> Result<Output, AllocError>
     requires skips { drawn.before ≤ length events.now }
     requires ordered { drawn.last ≤ drawn.all }
-    ensures { IfOk result (λ o. o ≡ def.drawn_output program.now drawn events.now) }
+    ensures { IfOk result (λ o. o
+        ≡ def.drawn_output names.now program.now drawn events.now) }
 {
     let mut columns_text = String::new(alloc);
-    let watch = columns(alloc, &mut columns_text, program, drawn.before, events)?;
+    let story = columns(
+        alloc,
+        &mut columns_text,
+        names,
+        program,
+        drawn.before,
+        events,
+    )?;
     let mut text = String::new(alloc);
-    framed(alloc, &mut text, &watch, drawn, columns_text.as_str())?;
+    framed(
+        alloc,
+        &mut text,
+        names,
+        &story,
+        drawn,
+        columns_text.as_str(),
+    )?;
     Ok(Output {
         text,
-        status: state_status(watch.state()),
+        status: status_of(&story),
     })
 }
 
-/// The picture of a run, of a window of its events or of the last ones. It is the picture up to the
-/// last event that is shown, with the status of the machine's state there.
+/// The picture of a run, of a window of its events or of the last ones, with the lines and the names
+/// of this text. They are read after its program. It is the picture up to the last event that is
+/// shown, with the status of the machine's state there.
 #[derive(Clone, Copy)]
-pub struct Picture {
+pub struct Picture<'t> {
     pub window: Option<Window>,
+    pub text: &'t [u8],
 }
 
-impl Form for Picture {
-    ghost shows = { λ picture. def.picture_form picture.window };
+impl<'t> Form for Picture<'t> {
+    ghost shows = { λ picture. def.picture_form picture.text.now picture.window };
 
     fn of_run(&self, alloc: Global, run: Run<'_>) -> Result<Output, AllocError> {
+        let names = Names::read(alloc, self.text)?;
         let shown = shown_events(self.window, run.events.len());
-        picture_of(alloc, run.program, shown, &run.events[..shown.last])
+        picture_of(alloc, &names, run.program, shown, &run.events[..shown.last])
     }
 
     fn of_text_fault(&self, alloc: Global, error: AsmError) -> Result<Output, AllocError> {
@@ -505,4 +674,25 @@ impl Form for Picture {
     fn of_trace_fault(&self, alloc: Global, error: TraceError) -> Result<Output, AllocError> {
         trace_fault(alloc, error)
     }
+}
+
+/// Writes the picture of a text's run of a trace, of a window of its events or of the last ones, and
+/// returns the status.
+///
+/// It takes all its memory before the first byte is written.
+///
+/// # Errors
+///
+/// A write failed.
+pub fn draw<W: io::Write>(
+    alloc: Global,
+    window: Option<Window>,
+    text: &[u8],
+    trace: &[u8],
+    out: &mut W,
+) -> Result<u8, WriteFailed>
+    ensures { IfOk result (λ s. (o : cli.Output) × def.IsPictureOf window text.now trace.now o
+        × cli.Writes (W.contents out.old) (W.contents out.new) s o) }
+{
+    write_run(alloc, &Picture { window, text }, text, trace, out)
 }

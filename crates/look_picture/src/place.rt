@@ -42,11 +42,14 @@ pub fn bracket(owner: u32, depth: usize) -> u64
     lane(owner) + 14 + 9 * cmp::min(depth, 2) as u64
 }
 
-/// The width of a picture of `events` events.
-pub fn width(events: usize) -> u128
-    ensures { result ≡ def.width events }
+/// The width of a picture of `events` events, with a heading of `letters` letters.
+pub fn width(events: usize, letters: usize) -> u128
+    ensures { result ≡ def.width events letters }
 {
-    cmp::max(column(events) + 168, 480)
+    cmp::max(
+        column(events) + 168,
+        cmp::max(480, 24 + 9 * letters as u128),
+    )
 }
 
 /// The place of a key of the legend, by its number, from the legend's left.

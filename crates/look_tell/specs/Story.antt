@@ -1,7 +1,7 @@
 -- A story of a run: the machine, and the arguments that each task was forked with (this project's
 -- own).
 use Rattle.std.specs.Prelude.{ℕ, ◌-◌, ℤ, List, [], ◌∷◌, ◌++◌, length, drop, reverse, Bool, false}
-use Rattle.std.specs.Prelude.{◌&&◌, not, Option, Some, None, if◌then◌else◌, slice_index_or}
+use Rattle.std.specs.Prelude.{◌&&◌, not, fold, Option, Some, None, if◌then◌else◌, slice_index_or}
 use Rattle.sts_code.specs.Program.{Program, routine}
 use Rattle.sts_code.specs.declared.instr.Instr.{Instr}
 use Rattle.sts_code.specs.declared.instr.Instr.TheVariants.{Fork}
@@ -77,3 +77,7 @@ one_more strict s e = record {
 -- a story that has stopped doesn't go on
 unfoldable pub next : Bool → Story → Event → Story
 next strict s e = if s.stopped then s else one_more strict s e
+
+-- the story after these events, whether each counts or not
+abbrev pub after_events : Program → List Event → Story
+after_events p events = fold (next false) (begun p) events

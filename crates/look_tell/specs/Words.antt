@@ -32,12 +32,15 @@ abbrev pub arguments_words : List ℕ → List ℤ → List ℕ
 arguments_words text args =
     if length args == 0 then [] else listed_words text (slice_index_or args 0 (pos 0)) (drop 1 args)
 
+-- `handle(1)`
+unfoldable pub called_words : List ℕ → Story → ℕ → List ℕ
+called_words text s t =
+    shown_function text (program_of s) (function_of s t) ++ arguments_words text (given_to s t)
+
 -- `task 2, handle(1)`
 unfoldable pub task_words : List ℕ → Story → ℕ → List ℕ
 task_words text s t =
-    codes "task " ++ decimal t ++ codes ", "
-    ++ shown_function text (program_of s) (function_of s t)
-    ++ arguments_words text (given_to s t)
+    codes "task " ++ decimal t ++ codes ", " ++ called_words text s t
 
 -- `task 2, handle(1), line 5: ret`
 unfoldable pub place_words : List ℕ → Story → ℕ → List ℕ

@@ -126,7 +126,7 @@ pub(crate) fn say_idle(
     alloc: Global,
     out: &mut Vec<u8>,
     names: &Names<'_>,
-    number: u32,
+    number: usize,
     story: &Story<'_>,
     event: Event,
 ) -> Result<(), AllocError>

@@ -10,5 +10,8 @@ mod story;
 mod telling;
 mod words;
 
-pub use line::TellOptions;
+pub use line::{TellOptions, say_event};
+pub use outcome::say_end;
+pub use story::Story;
 pub use telling::tell;
+pub use words::say_called;

@@ -1,6 +1,6 @@
 //! The lines of an event.
 
-ghost use Rattle.std.specs.Prelude.{◌≡◌, ◌++◌, ◌<◌, ◌^◌, OnOk, fold, length, true};
+ghost use Rattle.std.specs.Prelude.{◌≡◌, ◌++◌, ◌<◌, OnOk, fold, length, true};
 ghost use Rattle.sts_model.specs.Living as living;
 ghost use Rattle.sts_model.specs.World as model;
 ghost use Rattle.look_tell.specs.Line as def;
@@ -34,19 +34,19 @@ pub struct TellOptions {
 pub(crate) fn say_event_number(
     alloc: Global,
     out: &mut Vec<u8>,
-    number: u32,
+    number: usize,
 ) -> Result<(), AllocError>
     ensures { OnOk result (out.new.items ≡ out.old.items ++ def.number_words number) }
 {
-    say_number(alloc, out, number)?;
-    say(out, " ")
+    let word = format!(in alloc; "{number} ")?;
+    say(out, word.as_str())
 }
 
 /// Does an event of this number have lines?
-fn is_asked(options: TellOptions, number: u32) -> bool
+fn is_asked(options: TellOptions, number: usize) -> bool
     ensures { result ≡ def.is_asked options number }
 {
-    options.first <= number
+    options.first as usize <= number
 }
 
 /// Does a step that does this have a line?
@@ -93,7 +93,7 @@ fn say_head(
     alloc: Global,
     out: &mut Vec<u8>,
     names: &Names<'_>,
-    number: u32,
+    number: usize,
     story: &Story<'_>,
     t: u32,
 ) -> Result<(), AllocError>
@@ -108,7 +108,7 @@ fn say_wait_line(
     alloc: Global,
     out: &mut Vec<u8>,
     names: &Names<'_>,
-    number: u32,
+    number: usize,
     story: &Story<'_>,
     t: u32,
 ) -> Result<(), AllocError>
@@ -128,7 +128,7 @@ fn say_wait(
     alloc: Global,
     out: &mut Vec<u8>,
     names: &Names<'_>,
-    number: u32,
+    number: usize,
     story: &Story<'_>,
     t: u32,
 ) -> Result<(), AllocError>
@@ -148,7 +148,7 @@ fn say_step_line(
     out: &mut Vec<u8>,
     names: &Names<'_>,
     options: TellOptions,
-    number: u32,
+    number: usize,
     story: &mut Story<'_>,
     t: u32,
     deed: Deed,
@@ -170,7 +170,7 @@ fn say_told_step(
     out: &mut Vec<u8>,
     names: &Names<'_>,
     options: TellOptions,
-    number: u32,
+    number: usize,
     story: &mut Story<'_>,
     t: u32,
     deed: Deed,
@@ -192,7 +192,7 @@ fn say_step(
     out: &mut Vec<u8>,
     names: &Names<'_>,
     options: TellOptions,
-    number: u32,
+    number: usize,
     story: &mut Story<'_>,
     t: u32,
 ) -> Result<(), AllocError>
@@ -209,7 +209,7 @@ fn say_interrupt(
     alloc: Global,
     out: &mut Vec<u8>,
     names: &Names<'_>,
-    number: u32,
+    number: usize,
     story: &Story<'_>,
     t: u32,
 ) -> Result<(), AllocError>
@@ -251,7 +251,7 @@ fn say_expired(
     alloc: Global,
     out: &mut Vec<u8>,
     names: &Names<'_>,
-    number: u32,
+    number: usize,
     story: &Story<'_>,
     s: u32,
     was_cancelled: bool,
@@ -271,7 +271,7 @@ fn say_expiry(
     out: &mut Vec<u8>,
     names: &Names<'_>,
     options: TellOptions,
-    number: u32,
+    number: usize,
     story: &mut Story<'_>,
     s: u32,
 ) -> Result<(), AllocError>
@@ -290,7 +290,7 @@ fn say_counted(
     out: &mut Vec<u8>,
     names: &Names<'_>,
     options: TellOptions,
-    number: u32,
+    number: usize,
     story: &mut Story<'_>,
     event: Event,
 ) -> Result<(), AllocError>
@@ -308,13 +308,17 @@ fn say_counted(
     }
 }
 
-/// An event, whether it counts or not.
-fn say_event(
+/// Appends the lines of an event, whether it counts or not, and goes on by it.
+///
+/// # Errors
+///
+/// Memory ran out; `out` may then have a part of them.
+pub fn say_event(
     alloc: Global,
     out: &mut Vec<u8>,
     names: &Names<'_>,
     options: TellOptions,
-    number: u32,
+    number: usize,
     story: &mut Story<'_>,
     event: Event,
 ) -> Result<(), AllocError>
@@ -336,7 +340,7 @@ fn say_if_asked(
     out: &mut Vec<u8>,
     names: &Names<'_>,
     options: TellOptions,
-    number: u32,
+    number: usize,
     story: &mut Story<'_>,
     event: Event,
 ) -> Result<(), AllocError>
@@ -364,14 +368,13 @@ pub(crate) fn say_events(
     story: &mut Story<'_>,
     events: &[Event],
 ) -> Result<(), AllocError>
-    requires { length events.now < 2 ^ 32 }
     ensures after { OnOk result (story.new
         ≡ fold (next options.strict) story.old events.now) }
     ensures said { OnOk result (out.new.items ≡ out.old.items
         ++ def.lines_from names.now options 1 story.old events.now) }
 {
     for i in 0..events.len() {
-        say_if_asked(alloc, out, names, options, i as u32 + 1, story, events[i])?;
+        say_if_asked(alloc, out, names, options, i + 1, story, events[i])?;
     }
     Ok(())
 }

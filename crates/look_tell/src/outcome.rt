@@ -255,7 +255,11 @@ fn say_closing(
 }
 
 /// Appends an end.
-pub(crate) fn say_end(
+///
+/// # Errors
+///
+/// Memory ran out; `out` may then have a part of it.
+pub fn say_end(
     alloc: Global,
     out: &mut Vec<u8>,
     names: &Names<'_>,

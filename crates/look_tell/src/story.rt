@@ -1,6 +1,7 @@
 //! A story: the machine, and the arguments that each task was forked with.
 
 ghost use Rattle.std.specs.Prelude.{◌≡◌, [], IfOk, OnOk, ℤ, List, option_map, slice_index_or};
+ghost use Rattle.sts_model.specs.Run.{counts};
 ghost use Rattle.sts_plain.specs.Seen.{shown};
 ghost use Rattle.look_tell.specs.Story as def;
 
@@ -29,7 +30,7 @@ impl Model for Arguments {
 
 /// A story.
 #[derive(Drop)]
-pub(crate) struct Story<'p> {
+pub struct Story<'p> {
     watch: Watch<'p>,
     given: Vec<Arguments>,
     stopped: bool,
@@ -119,7 +120,11 @@ fn keep(
 
 impl<'p> Story<'p> {
     /// The story before the first event.
-    pub(crate) fn begun(alloc: Global, program: &'p Program) -> Result<Story<'p>, AllocError>
+    ///
+    /// # Errors
+    ///
+    /// Memory ran out.
+    pub fn begun(alloc: Global, program: &'p Program) -> Result<Story<'p>, AllocError>
         ensures { IfOk result (λ s. s ≡ def.begun program.now) }
     {
         let watch = Watch::start(alloc, program)?;
@@ -132,6 +137,39 @@ impl<'p> Story<'p> {
             given,
             stopped: false,
         })
+    }
+
+    /// The story after these events, whether each counts or not.
+    ///
+    /// # Errors
+    ///
+    /// Memory ran out.
+    pub fn after(
+        alloc: Global,
+        program: &'p Program,
+        events: &[Event],
+    ) -> Result<Story<'p>, AllocError>
+        ensures { IfOk result (λ s. s ≡ def.after_events program.now events.now) }
+    {
+        let mut story = Story::begun(alloc, program)?;
+        for event in events {
+            story.apply(alloc, false, *event)?;
+        }
+        Ok(story)
+    }
+
+    /// The machine that runs.
+    pub fn watch(&self) -> &Watch<'p>
+        ensures { result.now ≡ self.now.watched }
+    {
+        &self.watch
+    }
+
+    /// Does the event count here?
+    pub fn counts(&self, event: Event) -> bool
+        ensures { result ≡ counts self.now.watched.program self.now.watched.state event }
+    {
+        self.watch.counts(event)
     }
 
     pub(crate) fn program(&self) -> &Program

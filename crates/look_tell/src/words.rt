@@ -122,6 +122,26 @@ pub(crate) fn say_if(out: &mut Vec<u8>, holds: bool, words: &str) -> Result<(), 
     if holds { say(out, words) } else { Ok(()) }
 }
 
+/// Appends the function of a task and the arguments that it was forked with: `handle(1)`.
+///
+/// # Errors
+///
+/// Memory ran out; `out` may then have a part of it.
+#[tactic(auto, unfolding(crate::specs::Words::called_words))]
+pub fn say_called(
+    alloc: Global,
+    out: &mut Vec<u8>,
+    names: &Names<'_>,
+    story: &Story<'_>,
+    t: u32,
+) -> Result<(), AllocError>
+    ensures { OnOk result (out.new.items ≡ out.old.items
+        ++ def.called_words names.now story.now t) }
+{
+    say_shown_function(out, names, story.program(), story.function_of(t))?;
+    say_arguments(alloc, out, names, story.given_to(t))
+}
+
 /// Appends a task: `task 2, handle(1)`.
 #[tactic(auto, unfolding(crate::specs::Words::task_words))]
 pub(crate) fn say_task(
@@ -137,8 +157,7 @@ pub(crate) fn say_task(
     say(out, "task ")?;
     say_number(alloc, out, t)?;
     say(out, ", ")?;
-    say_shown_function(out, names, story.program(), story.function_of(t))?;
-    say_arguments(alloc, out, names, story.given_to(t))
+    say_called(alloc, out, names, story, t)
 }
 
 /// Appends a task and the line that it is at: `task 2, handle(1), line 5: ret`.

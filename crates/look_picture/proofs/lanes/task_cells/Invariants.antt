@@ -6,4 +6,4 @@ use Rattle.look_picture.proofs.lanes.task_cells.Given as goal
 
 -- the cells of those so far
 abbrev pub invariant-loop-t : goal.invariant-loop-t
-invariant-loop-t l = string_bytes l.out ≡ string_bytes l.fn.out ++ flat_map (def.task_cell l.change.program.now l.change.before.now l.change.world.now l.change.x) (take l.t-index l.tasks)
+invariant-loop-t l = string_bytes l.out ≡ string_bytes l.fn.out ++ flat_map (def.task_cell l.names l.change.program.now l.change.before.now l.change.world.now l.change.x) (take l.t-index l.tasks)
