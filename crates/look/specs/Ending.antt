@@ -14,30 +14,17 @@ use Rattle.sts_output.specs.declared.taking.TakeError.{TakeError}
 use Rattle.sts_output.specs.declared.process_words.WordsError.{WordsError}
 use Rattle.sts_output.specs.declared.process_words.WordsError.TheVariants as words_error
 use Rattle.look_cases.specs.Lines.{IsRepliesTo}
-use Rattle.look_picture.specs.Picture.{IsPictureOf}
-use Rattle.look_places.specs.Named.{IsNamedExplanation}
-use Rattle.look_places.specs.Reports.{IsReport}
-use Rattle.look_run.specs.Output.{IsRunExplanation}
-use Rattle.look_json.specs.Explained.{IsExplainedBy}
-use Rattle.look_json.specs.Stories.{AreStoriesOf}
-use Rattle.look_tell.specs.Telling.{IsStoryOf}
-use Rattle.look_tell.specs.declared.line.TellOptions.{TellOptions}
-use Rattle.look_traces.specs.Short.{full_trace}
-use Rattle.look_lines.specs.declared.view.ViewOptions.{ViewOptions}
-use Rattle.look_view.specs.View.{IsNamedViewOf}
-use Rattle.look_views.specs.Views.{AreViewsOf}
 use Rattle.look_ends.specs.Listing.{IsListingIn, Listing}
 use Rattle.look_args.specs.Asked.{Asks, AsksForWords, IsMistaken}
 use Rattle.look_args.specs.declared.asked.Asked.{Asked}
 use Rattle.look_args.specs.declared.asked.Asked.TheVariants as asked
 use Rattle.look_args.specs.declared.asked.AskedEnds.{AskedEnds}
 use Rattle.look_args.specs.declared.asked.ExplainForm.{ExplainForm}
-use Rattle.look_args.specs.declared.asked.ExplainForm.TheVariants.{Words, Places, Json}
 use Rattle.look_args.specs.declared.asked.Kept.{Kept}
 use Rattle.look.specs.Piping.{IsPiped, form_of, piped_of}
 use Rattle.look.specs.declared.piped.Piped.{Piped}
-use Rattle.look.specs.declared.program.Showing.{Showing}
-use Rattle.look.specs.declared.program.Showing.TheVariants as showing
+use Rattle.look_shows.specs.Showing.{IsExplainedIn, ShowsInFull}
+use Rattle.look_shows.specs.declared.showing.Showing.TheVariants as showing
 
 -- the output for the bytes of a file, up to a limit, or that memory or the file failed
 pub data IsOf (most : ℕ) (Shows : List ℕ → Output → Type 0) (file : Option (List ℕ)) (o : Output)
@@ -85,33 +72,6 @@ pub data IsPrinted (ends : AskedEnds) (spares : Type 0) (text : List ℕ) (o : O
 -- what is printed of a file's text, or that the file failed
 abbrev pub IsOfEnds : AskedEnds → Type 0 → Option (List ℕ) → Output → Type 0
 IsOfEnds ends spares file o = IsOfText (IsPrinted ends spares) file o
-
--- the views of a run, as lines of JSON or not
-abbrev pub IsViewed : Bool → ViewOptions → List ℕ → List ℕ → Output → Type 0
-IsViewed true = AreViewsOf
-IsViewed false = IsNamedViewOf
-
--- the story of a run, as lines of JSON or not
-abbrev pub IsTold : Bool → TellOptions → List ℕ → List ℕ → Output → Type 0
-IsTold true = AreStoriesOf
-IsTold false = IsStoryOf
-
--- what is shown of a text and a trace
-abbrev pub Shows : Showing → List ℕ → List ℕ → Output → Type 0
-Shows (showing.View view) = IsViewed view.json view.wanted
-Shows showing.Run = IsRunExplanation
-Shows (showing.Picture window) = IsPictureOf window
-Shows (showing.Story story) = IsTold story.json story.wanted
-
--- what is shown of a text and a trace, which may be in the short form, or that memory ran out
-abbrev pub ShowsInFull : Showing → List ℕ → List ℕ → Output → Type 0
-ShowsInFull s text trace o = Shows s text (full_trace trace) o ⊎ (o ≡ memory_output)
-
--- what is wrong with the text of a file
-abbrev pub IsExplainedIn : ExplainForm → Text → List ℕ → Output → Type 0
-IsExplainedIn Words file text o = IsNamedExplanation text o
-IsExplainedIn Places file text o = IsReport (record { file = file; text = text }) o
-IsExplainedIn Json file text o = IsExplainedBy text o
 
 -- what is wrong with a file's text, or the state of its run after the trace, if one is named
 abbrev pub IsExplained : Files → Text → Option (Bor Text) → ExplainForm → Output → Type 0

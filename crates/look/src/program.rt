@@ -5,24 +5,17 @@ ghost use Rattle.std.specs.Prelude.{◌≡◌, IfOk, map};
 ghost use Rattle.sts_output.specs.Output.{Output, Writes};
 ghost use Rattle.sts_output.specs.Streams.{same_file};
 ghost use Rattle.look_cases.specs.Lines.{IsRepliesTo};
+ghost use Rattle.look_shows.specs.Showing.{IsExplainedIn, ShowsInFull};
 ghost use Rattle.look.specs.Ending as def;
 
 use crate::dashed::Dashed;
 use crate::ends::{listed_by, write_ends_by};
 use crate::piped::{on_piped, piped_of};
-use look_args::asked::{Asked, AskedEnds, AskedTell, AskedView, ExplainForm};
+use look_args::asked::{Asked, AskedEnds, ExplainForm};
 use look_args::line;
 use look_cases::write_answers;
 use look_ends::{Listing, Progress, write_listing};
-use look_json::{write_explained, write_stories};
-use look_lines::write_run;
-use look_picture::{Window, draw};
-use look_places::{write_named, write_places};
-use look_run::explain_run;
-use look_tell::tell;
-use look_traces::in_full;
-use look_view::write_view;
-use look_views::JsonViews;
+use look_shows::{Showing, explain_in, show_in_full};
 use std::alloc::Global;
 use std::io::{Input, Write};
 use std::rt::{Env, Files};
@@ -37,135 +30,6 @@ use sts_remarks::{Remarks, Watched};
 /// The name that the program goes by.
 const NAME: &str = "look";
 
-/// The output for a text and a trace.
-#[derive(Clone, Copy)]
-enum Showing {
-    View(AskedView),
-    Run,
-    Picture(Option<Window>),
-    Story(AskedTell),
-}
-
-impl Showing {
-    /// Does the output say where the text or the trace has its fault?
-    fn says_faults(self) -> bool {
-        match self {
-            Showing::Run => true,
-            Showing::Story(story) => !story.json,
-            Showing::View(_) | Showing::Picture(_) => false,
-        }
-    }
-
-    /// Does the output say which events did nothing?
-    fn says_idle(self) -> bool {
-        match self {
-            Showing::View(view) => view.wanted.each,
-            Showing::Run => false,
-            Showing::Picture(_) | Showing::Story(_) => true,
-        }
-    }
-
-    /// Adds where the text or the trace has its fault, and which event did nothing, if the output
-    /// doesn't say it.
-    fn remark(self, status: u8, text: Named<'_>, trace: Named<'_>, remarks: &mut Remarks) {
-        if !self.says_faults() {
-            remarks.notes.status(status, text, Events::Trace(trace));
-        }
-        if !self.says_idle() {
-            remark_idle(status, text, trace, remarks);
-        }
-    }
-}
-
-/// Adds which event of a trace, which may be in the short form, is the first that did nothing.
-fn remark_idle(status: u8, text: Named<'_>, trace: Named<'_>, remarks: &mut Remarks) {
-    match in_full(remarks.alloc, trace.text) {
-        Ok(Some(full)) => {
-            let trace = Named::new(trace.name, full.as_slice());
-            remarks.idle(status, "event", text.text, trace);
-        }
-        Ok(None) => remarks.idle(status, "event", text.text, trace),
-        Err(_) => {}
-    }
-}
-
-/// Writes the views of a run, in lines or as JSON.
-fn show_view<W: Write>(
-    alloc: Global,
-    view: AskedView,
-    text: &[u8],
-    trace: &[u8],
-    out: &mut W,
-) -> Result<u8, WriteFailed>
-    ensures { IfOk result (λ s. (o : Output)
-        × def.IsViewed view.json view.wanted text.now trace.now o
-        × Writes (W.contents out.old) (W.contents out.new) s o) }
-{
-    if view.json {
-        let views = JsonViews {
-            wanted: view.wanted,
-        };
-        write_run(alloc, &views, text, trace, out)
-    } else {
-        write_view(alloc, view.wanted, text, trace, out)
-    }
-}
-
-/// Writes the story of a run, in lines or as JSON.
-fn show_story<W: Write>(
-    alloc: Global,
-    story: AskedTell,
-    text: &[u8],
-    trace: &[u8],
-    out: &mut W,
-) -> Result<u8, WriteFailed>
-    ensures { IfOk result (λ s. (o : Output)
-        × def.IsTold story.json story.wanted text.now trace.now o
-        × Writes (W.contents out.old) (W.contents out.new) s o) }
-{
-    if story.json {
-        write_stories(alloc, story.wanted, text, trace, out)
-    } else {
-        tell(alloc, story.wanted, text, trace, out)
-    }
-}
-
-fn show<W: Write>(
-    alloc: Global,
-    showing: Showing,
-    text: &[u8],
-    trace: &[u8],
-    out: &mut W,
-) -> Result<u8, WriteFailed>
-    ensures { IfOk result (λ s. (o : Output) × def.Shows showing text.now trace.now o
-        × Writes (W.contents out.old) (W.contents out.new) s o) }
-{
-    match showing {
-        Showing::View(view) => show_view(alloc, view, text, trace, out),
-        Showing::Run => explain_run(alloc, text, trace, out),
-        Showing::Picture(window) => draw(alloc, window, text, trace, out),
-        Showing::Story(story) => show_story(alloc, story, text, trace, out),
-    }
-}
-
-/// Writes what is shown of a text and a trace, which may be in the short form.
-fn show_in_full<W: Write>(
-    alloc: Global,
-    showing: Showing,
-    text: &[u8],
-    trace: &[u8],
-    out: &mut W,
-) -> Result<u8, WriteFailed>
-    ensures { IfOk result (λ s. (o : Output) × def.ShowsInFull showing text.now trace.now o
-        × Writes (W.contents out.old) (W.contents out.new) s o) }
-{
-    match in_full(alloc, trace) {
-        Ok(Some(full)) => show(alloc, showing, text, full.as_slice(), out),
-        Ok(None) => show(alloc, showing, text, trace, out),
-        Err(_) => failed(TakeError::Memory, out),
-    }
-}
-
 /// Writes what is shown for two files.
 fn on_texts<S: Sources, W: Write>(
     alloc: Global,
@@ -177,7 +41,7 @@ fn on_texts<S: Sources, W: Write>(
     remarks: &mut Remarks,
 ) -> Result<u8, WriteFailed>
     ensures { IfOk result (λ s. (o : Output)
-        × def.IsOfTexts (def.ShowsInFull showing) (S.held sources.now path.now)
+        × def.IsOfTexts (ShowsInFull showing) (S.held sources.now path.now)
         (S.held sources.now trace.now) o
         × Writes (W.contents out.old) (W.contents out.new) s o) }
 {
@@ -197,24 +61,6 @@ fn on_texts<S: Sources, W: Write>(
     }
 }
 
-/// Explains what is wrong with the text of a file.
-fn explain_by<W: Write>(
-    alloc: Global,
-    form: ExplainForm,
-    path: &str,
-    text: &[u8],
-    out: &mut W,
-) -> Result<u8, WriteFailed>
-    ensures { IfOk result (λ s. (o : Output) × def.IsExplainedIn form path.now text.now o
-        × Writes (W.contents out.old) (W.contents out.new) s o) }
-{
-    match form {
-        ExplainForm::Words => write_named(alloc, text, out),
-        ExplainForm::Places => write_places(alloc, path, text, out),
-        ExplainForm::Json => write_explained(alloc, text, out),
-    }
-}
-
 /// Explains what is wrong with a text.
 fn on_text<S: Sources, W: Write>(
     alloc: Global,
@@ -225,11 +71,11 @@ fn on_text<S: Sources, W: Write>(
     notes: &mut Notes,
 ) -> Result<u8, WriteFailed>
     ensures { IfOk result (λ s. (o : Output)
-        × def.IsOfText (def.IsExplainedIn form path.now) (S.held sources.now path.now) o
+        × def.IsOfText (IsExplainedIn form path.now) (S.held sources.now path.now) o
         × Writes (W.contents out.old) (W.contents out.new) s o) }
 {
     match read_text(alloc, sources, path) {
-        Ok(text) => explain_by(alloc, form, path, text.as_slice(), out),
+        Ok(text) => explain_in(alloc, form, path, text.as_slice(), out),
         Err(error) => file_failed(error, out, notes),
     }
 }

@@ -2,8 +2,8 @@ use Rattle.std.proofs.Common.{inl, inr, refl, sym, subst, ◌∙◌, ap}
 use Rattle.std.proofs.lemmas.Result.{IfOk-weaker}
 use Rattle.std.specs.Prelude.{unwrap_or}
 use Rattle.sts_output.specs.Output.{memory_output}
-use Rattle.look.specs.Ending as def
-use Rattle.look.proofs.program.show_in_full.Goals as goal
+use Rattle.look_shows.specs.Showing as def
+use Rattle.look_shows.proofs.showing.show_in_full.Goals as goal
 
 pub returns-in-Ok-Some : goal.returns-in-Ok-Some
 returns-in-Ok-Some g c =
