@@ -42,7 +42,7 @@ case ${1-} in
   --unproved)
     shift
     case ${1-} in
-      --version | -V)
+      -V | --version)
         printf '%s ' "$name"
         exec sed 's/^proved with/built without proofs, by/' "$root/VERSION"
         ;;
