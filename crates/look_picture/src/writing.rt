@@ -66,7 +66,7 @@ pub(crate) fn escape(out: &mut String, text: &[u8]) -> Result<(), AllocError>
     Ok(())
 }
 
-/// Room for words: so many letters, in so many pixels.
+/// Room for words: how many letters fit, and its width in pixels.
 #[derive(Clone, Copy, Debug, PartialEq, Eq)]
 pub(crate) struct Room {
     pub(crate) letters: usize,
