@@ -1,4 +1,3 @@
 pub mod Marks
 pub mod Faults
-pub mod Named
 pub mod Reports
