@@ -12,7 +12,7 @@ use Rattle.ends_plain.specs.declared.config.Found.{Found}
 use Rattle.look_cases.proofs.FloatLemmas.{integer_plain, maybe_plain}
 use Rattle.look_names.specs.Names.{value_name}
 use Rattle.look_views.specs.Named.{line_at}
-use Rattle.look_views.proofs.NamedFloats.{named_plain, placed_plain}
+use Rattle.look_views.proofs.NamedFloatLemmas.{named_plain, placed_plain}
 use Rattle.look_json.specs.Ends as def
 
 -- ---- an end

@@ -1,3 +1,3 @@
 pub mod Floats
 pub mod Lines
-pub mod NamedFloats
+pub mod NamedFloatLemmas
