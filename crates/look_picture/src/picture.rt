@@ -554,8 +554,9 @@ fn framed_under(
     ensures { OnOk result (string_bytes out.new ≡ string_bytes out.old
         ++ def.framed_under heading.now names.now story.now events columns.now keys.now) }
 {
-    head(out, heading, story.watch(), events, keys.len())?;
-    backdrop(out, heading, story.watch(), events)?;
+    let watch = story.watch();
+    head(out, heading, watch, events, keys.len())?;
+    backdrop(out, heading, watch, events)?;
     out.push_str(columns)?;
     below(alloc, out, names, story, keys)
 }
