@@ -2,11 +2,12 @@
 use Rattle.std.proofs.Common.{◌≡◌, ℕ, List, Option, Some, None, Bool, false, refl, Ordering, Less, Equal, Greater}
 use Rattle.std.specs.Cmp.Lexicographic.{slice_cmp}
 use Rattle.std.specs.Ordering.{match_ordering, nat_cmp}
+use Rattle.std.specs.Prelude.{codes, option_and_then}
 use Rattle.std.proofs.lemmas.Bool.{or_from, or_parts}
 use Rattle.serde_json.specs.Data.{Data, object, string, Members, no_members, member, put}
 use Rattle.serde_json.specs.Written.{has_float, members_have_float}
-use Rattle.look_names.specs.Names.{function_name}
-use Rattle.look_views.specs.Named.{named, placed, with_member}
+use Rattle.look_names.specs.Names.{function_name, line_name}
+use Rattle.look_views.specs.Named.{line_at, named, placed, with_member}
 
 either_plain : (o : Ordering) (a b c : Members) → members_have_float a ≡ false → members_have_float b ≡ false → members_have_float c ≡ false → members_have_float (match_ordering o a b c) ≡ false
 either_plain Less a b c h k l = h
@@ -28,4 +29,6 @@ named_plain key None d h = h
 named_plain key (Some name) d h = with_member_plain key name d h
 
 pub placed_plain : (text : List ℕ) (f pc : ℕ) (d : Data) → has_float d ≡ false → has_float (placed text f pc d) ≡ false
-placed_plain text f pc d h = named_plain _ _ _ (named_plain _ (function_name text f) d h)
+placed_plain text f pc d h =
+    let function = named (codes "function_name") (function_name text f) d in
+    named_plain (codes "line_name") (option_and_then (line_name text) (line_at text f pc)) function (named_plain (codes "function_name") (function_name text f) d h)
