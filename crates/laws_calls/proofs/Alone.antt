@@ -69,7 +69,7 @@ changes_frame_alone _ = true
 -- a step of the table, to a state that fits the frame g in the state before
 pub record StepsTo (p : Program) (t : Table) (rows : ℕ → Row) (w : World) (u : ℕ) (own : Own) (i : Instr) (g : Frame) : Type 0 where
   pub next : Own
-  pub step : Steps p t (rows u).call own i next
+  pub step : Steps p (rows u).call own i next
   pub fits : FrameFits rows w g next
 
 pub instr_of : (p : Program) (f : Frame) (own : Own) (i : Instr) → bare f ≡ own.frame → instr_at p f ≡ Some i → instr_at p own.frame ≡ Some i
@@ -171,7 +171,7 @@ module _ (p : Program) (t : Table) (root : Row) (is : IsTable p t root) (w : Wor
         }
 
     -- a state that differs in an operand alone
-    to_pushes : (i : Instr) (n : ℕ) (a b : _) → a ≡ b → Steps p t (rows u).call own i (pushes own n b) → StepsTo p t rows w u own i (steps f n (a ∷ []))
+    to_pushes : (i : Instr) (n : ℕ) (a b : _) → a ≡ b → Steps p (rows u).call own i (pushes own n b) → StepsTo p t rows w u own i (steps f n (a ∷ []))
     to_pushes i n a b e step =
         record {
           next = pushes own n b;
@@ -259,7 +259,7 @@ module _ (p : Program) (t : Table) (root : Row) (is : IsTable p t root) (w : Wor
     to_cancelled timely alive watched x legal = by (slot f x) refl legal
       where
         -- the scope is cancelled
-        pushed : (s : ℕ) (o : OwnScope rows w f own x s) (y : Seen) → SeenFits rows w s y → Steps p t (rows u).call own (Cancelled x) (pushes (with_seen own o.place y) 0 (truth true)) → StepsTo p t rows w u own (Cancelled x) (steps f 0 (truth true ∷ []))
+        pushed : (s : ℕ) (o : OwnScope rows w f own x s) (y : Seen) → SeenFits rows w s y → Steps p (rows u).call own (Cancelled x) (pushes (with_seen own o.place y) 0 (truth true)) → StepsTo p t rows w u own (Cancelled x) (steps f 0 (truth true ∷ []))
         pushed s o y new step =
             record {
               next = pushes (with_seen own o.place y) 0 (truth true);
@@ -321,7 +321,7 @@ module _ (p : Program) (t : Table) (root : Row) (is : IsTable p t root) (w : Wor
     -- the same, with another part
     to_part : lives (task_at w u) ≡ true → (i : Instr) (x : ℕ) (o : OwnSub rows w f own x (named (slot f x))) (part : Part) (g next : Frame) → (is_joined o.seen.phase ≡ false → InOrder o.seen.has_failure (scope_at w o.scope) (subs w o.scope) (set o.seen.parts o.i part)) → Leaves f g → bare g ≡ next
         → PartFits rows (alive_in w) (scope_at w o.scope) (named (slot f x)) part
-        → Steps p t (rows u).call own i (to (with_part own o.place o.seen o.i part) next) → StepsTo p t rows w u own i g
+        → Steps p (rows u).call own i (to (with_part own o.place o.seen o.i part) next) → StepsTo p t rows w u own i g
     to_part alive i x o part g next order same e new step =
         record {
           next = to (with_part own o.place o.seen o.i part) next;
@@ -377,7 +377,7 @@ module _ (p : Program) (t : Table) (root : Row) (is : IsTable p t root) (w : Wor
         where
           -- the part has ended by an end that counts, or by another
           to_told : (to_pc : ℕ) (test : End → Bool) (end : End) (y : Seen) → SeenFits rows w o.scope y → slice_get y.parts o.i ≡ Some o.part → state ≡ Some end → test end ≡ true
-              → Steps p t (rows u).call own (Case x success failed) (to (with_seen own o.place (told y o.i o.part (is_trigger y.joiner end) test)) (goes own.frame to_pc 0 []))
+              → Steps p (rows u).call own (Case x success failed) (to (with_seen own o.place (told y o.i o.part (is_trigger y.joiner end) test)) (goes own.frame to_pc 0 []))
               → StepsTo p t rows w u own (Case x success failed) (goes f to_pc 0 [])
           to_told to_pc test end y seen known e passes step =
               let counting : Bool = is_trigger y.joiner end in
@@ -473,7 +473,7 @@ module _ (p : Program) (t : Table) (root : Row) (is : IsTable p t root) (w : Wor
     seen_counted U n s x k2 joined answers = seen_asked s x (counted U n x).asked k2 joined answers
 
     -- the value is pushed, and the scope changes
-    to_answer : lives (task_at w u) ≡ true → (i : Instr) (place s : ℕ) (x : Seen) (a b : _) → a ≡ b → at_place opened place ≡ Some s → SeenFits rows w s x → Steps p t (rows u).call own i (pushes (with_seen own place x) 0 b) → StepsTo p t rows w u own i (steps f 0 (a ∷ []))
+    to_answer : lives (task_at w u) ≡ true → (i : Instr) (place s : ℕ) (x : Seen) (a b : _) → a ≡ b → at_place opened place ≡ Some s → SeenFits rows w s x → Steps p (rows u).call own i (pushes (with_seen own place x) 0 b) → StepsTo p t rows w u own i (steps f 0 (a ∷ []))
     to_answer alive i place s x a b e at new step =
         record {
           next = pushes (with_seen own place x) 0 b;

@@ -33,7 +33,7 @@ use Rattle.laws_runs.proofs.FrameLemmas.{own_slot, at_own-is}
 use Rattle.laws_runs.proofs.BirthLemmas.{born_alive}
 use Rattle.laws_calls.specs.Held as held
 use Rattle.laws_calls.specs.Tasks.{Among, AllTwo, Call, HasWay, Part, May, Seen, Own, bare, begin, births_in, Way, Knowledge, Unseen, ByJoiner, Heard, nothing, Late}
-use Rattle.laws_calls.specs.Steps.{Row, Table, IsTable, IsRowOf, call_of, with_handle, forked, fork_step, Steps, is_cancelled, unstarted_step, new_part}
+use Rattle.laws_calls.specs.Steps.{Row, Table, IsTable, IsRowOf, Leads, Forks, call_of, with_handle, forked, is_cancelled, unstarted_step, new_part}
 use Rattle.laws_calls.specs.Covers.{subs, PartFits, ScopeFits, SeenFits, HeldFits, FrameFits, TaskFits}
 use Rattle.laws_calls.specs.Covers.{Watched, Covers, alive_in, IsRight, IsTimely}
 use Rattle.laws_calls.proofs.Lists.{all_map, all_set, all_length, all_append, all_put_place, Apart, filter_agree, range_last}
@@ -68,7 +68,7 @@ record Forker (p : Program) (t : Table) (w : World) (u x g : ℕ) (q : Option �
   pub old : TaskFits rows w u own
   pub scope : OwnScope rows w (task_at w u).frame own x (named (slot (task_at w u).frame x))
   pub ways : List Way
-  pub step : Steps p t (rows u).call own (Fork x g q) (forked p own scope.place scope.seen ways g q)
+  pub leads : Leads (rows u).states (forked p own scope.place scope.seen ways g q)
   pub unasked : scope.seen.asked ≡ nothing
   -- if the new task runs, the row is that of its call, and each way of it is one of the new part
   pub is_row : (scope_at w (named (slot (task_at w u).frame x))).cancelled ≡ false → IsRowOf t row (call_of p own scope.seen g)
@@ -298,13 +298,13 @@ module _ (p : Program) (t : Table) (root : Row) (is : IsTable p t root) (w : Wor
   -- whether the owner has seen that the scope is cancelled
   by_knowledge : (c : Covers p t root w) → Watched w u → (own : Own) → TaskFits c.rows w u own → (o : OwnScope c.rows w (task_at w u).frame own x (s p w h u x g q)) → (b : Bool) → is_cancelled o.seen.knowledge ≡ b → Chosen p t w u x g q c.rows
   by_knowledge c watched own k o false e =
-      let r : (to_row : Row) × IsRowOf t to_row (call_of p own o.seen g) =
+      let r : Forks p t (c.rows u).states own x g q o.place o.seen =
       is.forks (c.rows u) own x g o.place q o.seen (c.listed u) k.there (instr_of p (task_at w u).frame own (Fork x g q) k.fits.frame d.at) o.owns e
       in
       record {
-        row = r.0;
-        listed = r.1.there;
-        forker = λ seen. record { own = own; old = k; scope = o; ways = r.0.ways; step = fork_step o.place o.seen r.0 o.owns e r.1; unasked = unasked c.rows own o; is_row = λ free. r.1; told = λ free end way. way };
+        row = r.row;
+        listed = r.is_row.there;
+        forker = λ seen. record { own = own; old = k; scope = o; ways = r.row.ways; leads = r.leads; unasked = unasked c.rows own o; is_row = λ free. r.is_row; told = λ free end way. way };
       }
   by_knowledge c watched own k o true e =
       let gone : (scope_at w (s p w h u x g q)).cancelled ≡ true = known_gone o.seen.knowledge (scope_at w (s p w h u x g q)) e o.fits.known in
@@ -316,7 +316,7 @@ module _ (p : Program) (t : Table) (root : Row) (is : IsTable p t root) (w : Wor
           old = k;
           scope = o;
           ways = [];
-          step = unstarted_step o.place o.seen o.owns e;
+          leads = is.closed (c.rows u) own (forked p own o.place o.seen [] g q) (Fork x g q) (c.listed u) k.there (instr_of p (task_at w u).frame own (Fork x g q) k.fits.frame d.at) (unstarted_step o.place o.seen o.owns e);
           unasked = unasked c.rows own o;
           is_row = λ free. absurd (no (sym gone ∙ free));
           told = λ free. absurd (no (sym gone ∙ free));
@@ -354,9 +354,7 @@ module _ (p : Program) (t : Table) (root : Row) (is : IsTable p t root) (w : Wor
         let k = o.forker (watched_before w v h nx u born watched) in
         let next_own : Own = forked p k.own k.scope.place k.scope.seen k.ways g q in
         let fits : FrameFits later v (next p w h u x g q) next_own = forker_fits p w h u x g q nx born d.alive t c.rows later o.row agree (row_new c.rows m o.row) k in
-        let there : Among (c.rows u).states next_own =
-        is.closed (c.rows u) k.own next_own (Fork x g q) (c.listed u) k.old.there (instr_of p (task_at w u).frame k.own (Fork x g q) k.old.fits.frame d.at)
-        k.step (are_possible later v nx.right (births_in (task_at w u).frame.entries) next_own.scopes fits.scopes)
+        let there : Among (c.rows u).states next_own = k.leads (are_possible later v nx.right (births_in (task_at w u).frame.entries) next_own.scopes fits.scopes)
         in (
           next_own,
           record {

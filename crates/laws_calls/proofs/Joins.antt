@@ -129,7 +129,7 @@ module _ (p : Program) (t : Table) (root : Row) (is : IsTable p t root) (w : Wor
     pub answer : Verdict
     pub seen : Seen
     pub same : told ≡ answer
-    pub step : Steps p t (rows u).call own (Join x failed timeout to_i) (joined own o.place seen answer (unwrap_or failed 0))
+    pub step : Steps p (rows u).call own (Join x failed timeout to_i) (joined own o.place seen answer (unwrap_or failed 0))
     pub fits : ScopeFits rows (alive_in w) after_join (subs w s) (record seen { phase = Joined })
 
   module _ (g : Frame) (v : World) (nx : Next w v) (re : Rescoped w v u s g after_join) where

@@ -22,6 +22,7 @@ use Rattle.laws_calls.specs.Fitting.{heard_in, Answers, most, MayCount, Fits, Ar
 use Rattle.laws_calls.specs.Steps.{Row, is_heard, is_cancelled, is_sure, settled, after_cancel, may_decide, is_unseen}
 use Rattle.laws_calls.specs.Covers.{subs, PartFits, SeenFits, alive_in, IsRight}
 use Rattle.laws_calls.proofs.Counts.{states_in}
+use Rattle.laws_calls.proofs.SureLemmas.{sure_few}
 use Rattle.laws_calls.proofs.Totals.{count_states}
 use Rattle.laws_calls.proofs.TriggerLemmas.{cancels_by_count, going_on, stops_at_limit}
 
@@ -130,50 +131,6 @@ pick_fits rows w o s x k =
       asked = answers_of x.asked (states_in w s) k.asked;
       counts = subst (λ n. MayCount x.knowledge x.phase x.joiner n) (count_states w o s (is_trigger x.joiner)) k.counts;
     }
-
--- ---- parts that have ended by an end that counts
-
-sure_way : (j : Joiner) (ways : List Way) (e : End) → list_any (λ (way : Way). not (is_trigger j way.end)) ways ≡ false → HasWay ways e → is_trigger j e ≡ true
-sure_way j [] e none at = absurd at
-sure_way j (way ∷ ways) e none (inl same) = by (is_trigger j way.end) refl (or_parts (not (is_trigger j way.end)) _ none).0
-  where
-    by : (b : Bool) → is_trigger j way.end ≡ b → not b ≡ false → is_trigger j e ≡ true
-    by true is k = subst (λ z. is_trigger j z ≡ true) same is
-    by false is k = cc
-sure_way j (way ∷ ways) e none (inr at) = sure_way j ways e (or_parts (not (is_trigger j way.end)) _ none).1 at
-
-sure_end : (j : Joiner) (part : Part) (e : End) → is_sure j part ≡ true → HasWay part.ways e → is_trigger j e ≡ true
-sure_end j part e sure way = sure_way j part.ways e (by (list_any (λ (y : Way). not (is_trigger j y.end)) part.ways) (and_parts (not part.is_open) _ sure).1) way
-  where
-    by : (b : Bool) → not b ≡ true → b ≡ false
-    by true k = cc
-    by false k = refl
-
-never_sure : (j : Joiner) (part : Part) → part.is_open ≡ true → is_sure j part ≡ false
-never_sure j part is_open = ap (λ b. not b && not (list_any (λ (y : Way). not (is_trigger j y.end)) part.ways)) is_open
-
-sure_one : (a b : Bool) → (a ≡ true → b ≡ true) → cond {A = ℕ} a 1 0 ≤ cond b 1 0
-sure_one true true h = omega arith
-sure_one true false h = let never = h refl in cc
-sure_one false true h = omega arith
-sure_one false false h = omega arith
-
--- at least as many ends count as parts are sure
-sure_few : (j : Joiner) (parts : List Part) (pick : List (Option End)) → AllTwo May parts pick → count_by (is_sure j) parts ≤ triggers j (heard_in pick)
-sure_few j [] [] h = omega arith
-sure_few j (part ∷ parts) (None ∷ pick) h =
-    let n = sum_by-cons (λ (y : Part). cond (is_sure j y) 1 0) part parts in
-    let none : cond {A = ℕ} (is_sure j part) 1 0 ≡ 0 = ap (λ b. cond b 1 0) (never_sure j part h.0) in
-    let rest = sure_few j parts pick h.1 in
-    omega (arith, n, none, rest)
-sure_few j (part ∷ parts) (Some e ∷ pick) h =
-    let n = sum_by-cons (λ (y : Part). cond (is_sure j y) 1 0) part parts in
-    let m = sum_by-cons (λ (y : End). cond (is_trigger j y) 1 0) e (heard_in pick) in
-    let one = sure_one (is_sure j part) (is_trigger j e) (λ sure. sure_end j part e sure h.0) in
-    let rest = sure_few j parts pick h.1 in
-    omega (arith, n, m, one, rest)
-sure_few j [] (q ∷ pick) h = absurd h
-sure_few j (part ∷ parts) [] h = absurd h
 
 -- what a `case` told of a scope
 pub settled_fits : (rows : ℕ → Row) (w : World) → Facts w → (s : ℕ) → s < length w.scopes → (x : Seen) → SeenFits rows w s x → SeenFits rows w s (settled x)

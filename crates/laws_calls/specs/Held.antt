@@ -2,12 +2,8 @@
 -- place among the open scopes of the task, the outermost first. A subtask goes by its place among
 -- those of its scope, in fork order.
 use Rattle.std.specs.Prelude.{ℕ, Bool, false, ◌==◌}
-
-pub data Held : Type 0 where
-  Empty : Held
-  Lent : Held
-  Own : (place : ℕ) → Held
-  Sub : (place part : ℕ) → Held
+pub use Rattle.laws_calls.specs.declared.table.Held.{Held}
+pub use Rattle.laws_calls.specs.declared.table.Held.TheVariants.{Empty, Lent, Own, Sub}
 
 -- is it the scope at this place, or a subtask of it?
 abbrev pub is_at : ℕ → Held → Bool

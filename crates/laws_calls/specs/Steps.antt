@@ -34,16 +34,11 @@ use Rattle.laws_calls.specs.Held as held
 use Rattle.laws_calls.specs.Tasks.{Among, at_place, put_place, Call, Way, HasWay, Part, Knowledge}
 use Rattle.laws_calls.specs.Tasks.{nothing, Unseen, ByJoiner, Late, Heard, Seen, Own, begin}
 use Rattle.laws_calls.specs.Tasks.{bindings, held_at}
+pub use Rattle.laws_calls.specs.declared.table.Row.{Row}
 use Rattle.laws_calls.specs.Fitting.{Fits, ArePossible, heard_in, most}
 use Rattle.laws_calls.specs.Triggers.{is_trigger, triggers}
 
 -- ---- tables
-
--- a call with the states that its task may be in, and the ways that it may end
-pub record Row : Type 0 where
-  pub call : Call
-  pub states : List Own
-  pub ways : List Way
 
 abbrev pub Table : Type 0
 Table = List Row
@@ -286,118 +281,126 @@ pub record IsRowOf (t : Table) (row : Row) (c : Call) : Type 0 where
 -- ---- steps
 
 -- from a state of a call by an instruction to another state
-pub data Steps (p : Program) (t : Table) (c : Call) (own : Own) : Instr → Own → Type 0 where
+pub data Steps (p : Program) (c : Call) (own : Own) : Instr → Own → Type 0 where
   -- the frame alone
   local_step : {i : Instr} → is_local i ≡ true
-      → Steps p t c own i (to own (local.local (code p own.frame) i own.frame))
+      → Steps p c own i (to own (local.local (code p own.frame) i own.frame))
   read_step : {k : ℕ}
-      → Steps p t c own (Read k) (pushes own 0 (unwrap_or (read (bindings c own) k) (pos 0)))
+      → Steps p c own (Read k) (pushes own 0 (unwrap_or (read (bindings c own) k) (pos 0)))
   bound_step : {k : ℕ}
-      → Steps p t c own (Bound k) (pushes own 0 (truth (is_some (read (bindings c own) k))))
-  or_else_step : {k : ℕ} → Steps p t c own (OrElse k)
+      → Steps p c own (Bound k) (pushes own 0 (truth (is_some (read (bindings c own) k))))
+  or_else_step : {k : ℕ} → Steps p c own (OrElse k)
       (pushes own 1 (unwrap_or (read (bindings c own) k) (operand own.frame 0)))
-  bind_step : {k : ℕ} → Steps p t c own (Bind k) (to own (record (steps own.frame 1 []) {
+  bind_step : {k : ℕ} → Steps p c own (Bind k) (to own (record (steps own.frame 1 []) {
     entries = entry.Binding k (operand own.frame 0) ∷ own.frame.entries;
   }))
-  unbind_step : Steps p t c own Unbind
+  unbind_step : Steps p c own Unbind
       (to own (record (steps own.frame 0 []) { entries = drop 1 own.frame.entries }))
-  forget_step : {h : ℕ} → Steps p t c own (Forget h)
+  forget_step : {h : ℕ} → Steps p c own (Forget h)
       (record own { frame = steps own.frame 0 []; held = slice_set own.held h held.Empty })
   -- no interrupt comes
-  interrupted_step : Steps p t c own Interrupted (pushes own 0 (truth false))
+  interrupted_step : Steps p c own Interrupted (pushes own 0 (truth false))
   -- the task's own scope: if it was cancelled, nobody sees what the task does
   lent_step : {x : ℕ} → held_at own x ≡ held.Lent
-      → Steps p t c own (Cancelled x) (pushes own 0 (truth false))
+      → Steps p c own (Cancelled x) (pushes own 0 (truth false))
   going_step : {x : ℕ} (place : ℕ) (seen : Seen) (pick : List (Option End))
       → Owns own x place seen → is_cancelled seen.knowledge ≡ false → Fits seen pick
       → triggers seen.joiner (heard_in pick) < most seen.joiner
-      → Steps p t c own (Cancelled x) (pushes own 0 (truth false))
+      → Steps p c own (Cancelled x) (pushes own 0 (truth false))
   cancelled_step : {x : ℕ} (place : ℕ) (seen : Seen) → Owns own x place seen
       → may_decide seen.knowledge ≡ true
-      → Steps p t c own (Cancelled x)
+      → Steps p c own (Cancelled x)
       (pushes (with_seen own place (after_cancel seen)) 0 (truth true))
   expired_step : {x : ℕ} (place : ℕ) (seen : Seen) → Owns own x place seen
       → may_be_late seen.knowledge ≡ true → seen.timed ≡ true
-      → Steps p t c own (Cancelled x)
+      → Steps p c own (Cancelled x)
       (pushes (with_seen own place (after_expiry seen)) 0 (truth true))
   -- scopes
   open_step : {x : ℕ} {joiner : Joiner} {timed : Bool}
-      → Steps p t c own (Open x joiner timed) (opened c own x joiner timed)
-  -- a new part; no subtask runs in a scope that is known to be cancelled
-  fork_step : {x g : ℕ} {h : Option ℕ} (place : ℕ) (seen : Seen) (row : Row)
-      → Owns own x place seen → is_cancelled seen.knowledge ≡ false
-      → IsRowOf t row (call_of p own seen g)
-      → Steps p t c own (Fork x g h) (forked p own place seen row.ways g h)
+      → Steps p c own (Open x joiner timed) (opened c own x joiner timed)
+  -- no subtask runs in a scope that is known to be cancelled; in another one, see `IsTable`
   unstarted_step : {x g : ℕ} {h : Option ℕ} (place : ℕ) (seen : Seen)
       → Owns own x place seen → is_cancelled seen.knowledge ≡ true
-      → Steps p t c own (Fork x g h) (forked p own place seen [] g h)
-  close_step : {x : ℕ} → Steps p t c own (Close x) (closed own)
+      → Steps p c own (Fork x g h) (forked p own place seen [] g h)
+  close_step : {x : ℕ} → Steps p c own (Close x) (closed own)
   -- `join` of a scope that has expired
   timeout_step : {x to_i : ℕ} {failed timeout : Option ℕ} (place : ℕ) (seen : Seen)
       → Owns own x place seen → is_heard seen.knowledge ≡ false → seen.timed ≡ true
-      → Steps p t c own (Join x failed timeout to_i)
+      → Steps p c own (Join x failed timeout to_i)
       (timed_out own place seen (unwrap_or timeout 0))
   -- `join` of a cancelled scope: one end decided, or as many as the joiner waits for
   by_one_step : {x to_i : ℕ} {failed timeout : Option ℕ} (place : ℕ) (seen : Seen) (i : ℕ)
       (part : Part) (e : End)
       → Owns own x place seen → may_decide seen.knowledge ≡ true → is_by_one seen.joiner ≡ true
       → MayEnd seen i part e → is_trigger seen.joiner e ≡ true
-      → Steps p t c own (Join x failed timeout to_i)
+      → Steps p c own (Join x failed timeout to_i)
       (joined own place (decided (after_cancel seen) i e part)
       (result_of seen.joiner (e ∷ []) (length seen.parts)) (unwrap_or failed 0))
   by_count_step : {x to_i : ℕ} {failed timeout : Option ℕ} (place : ℕ) (seen : Seen)
       → Owns own x place seen → may_decide seen.knowledge ≡ true → is_until seen.joiner ≡ true
-      → Steps p t c own (Join x failed timeout to_i)
+      → Steps p c own (Join x failed timeout to_i)
       (joined own place (after_cancel seen) (result_of seen.joiner [] (length seen.parts))
       (unwrap_or failed 0))
   -- `join` after all subtasks ended: nothing decided; under `any` one failure is reported
   heard_step : {x to_i : ℕ} {failed timeout : Option ℕ} (place : ℕ) (seen : Seen)
       → Owns own x place seen → is_cancelled seen.knowledge ≡ false
       → (is_any seen.joiner ≡ true → seen.parts ≡ [])
-      → Steps p t c own (Join x failed timeout to_i)
+      → Steps p c own (Join x failed timeout to_i)
       (joined own place (after_all seen) (result_of seen.joiner [] (length seen.parts))
       (unwrap_or failed 0))
   none_step : {x to_i : ℕ} {failed timeout : Option ℕ} (place : ℕ) (seen : Seen) (i : ℕ)
       (part : Part) (e : End)
       → Owns own x place seen → is_cancelled seen.knowledge ≡ false → is_any seen.joiner ≡ true
       → MayEnd seen i part e → is_failure e ≡ true → part.is_early ≡ true
-      → Steps p t c own (Join x failed timeout to_i)
+      → Steps p c own (Join x failed timeout to_i)
       (joined own place (decided (after_all seen) i e part)
       (result_of seen.joiner (e ∷ []) (length seen.parts)) (unwrap_or failed 0))
   -- a subtask
   success_step : {h succeeded failed : ℕ} (place : ℕ) (seen : Seen) (i : ℕ) (part : Part)
       (counting : Bool) → Knows own h place seen i part
-      → Steps p t c own (Case h succeeded failed)
+      → Steps p c own (Case h succeeded failed)
       (to (with_seen own place (told seen i part counting is_success))
       (goes own.frame succeeded 0 []))
   failure_step : {h succeeded failed : ℕ} (place : ℕ) (seen : Seen) (i : ℕ) (part : Part)
       (counting : Bool) → Knows own h place seen i part
-      → Steps p t c own (Case h succeeded failed)
+      → Steps p c own (Case h succeeded failed)
       (to (with_seen own place (told (saw_failure seen) i part counting is_failure))
       (goes own.frame failed 0 []))
   missed_step : {h succeeded failed : ℕ} (place : ℕ) (seen : Seen) (i : ℕ) (part : Part)
       → Knows own h place seen i part → part.is_open ≡ true
-      → Steps p t c own (Case h succeeded failed)
+      → Steps p c own (Case h succeeded failed)
       (to (with_part own place seen i (missed seen.knowledge seen.has_failure part))
       (goes own.frame (own.frame.pc + 1) 0 []))
   get_step : {h : ℕ} (place : ℕ) (seen : Seen) (i : ℕ) (part : Part) (v : ℤ)
       → Knows own h place seen i part → HasWay part.ways (Success v)
-      → Steps p t c own (Get h) (pushes (with_part own place seen i (only (Success v) part)) 0 v)
+      → Steps p c own (Get h) (pushes (with_part own place seen i (only (Success v) part)) 0 v)
   except_step : {h : ℕ} (place : ℕ) (seen : Seen) (i : ℕ) (part : Part) (v : ℤ)
       → Knows own h place seen i part → HasWay part.ways (Failed v)
-      → Steps p t c own (Except h) (pushes (with_part own place seen i (only (Failed v) part)) 0 v)
+      → Steps p c own (Except h) (pushes (with_part own place seen i (only (Failed v) part)) 0 v)
   -- a count, a sum: of some pick
   tally_step : {x : ℕ} {kind : Kind} (place : ℕ) (seen : Seen) (pick : List (Option End))
       → Owns own x place seen → Fits seen pick
-      → Steps p t c own (Tally x kind) (pushes
+      → Steps p c own (Tally x kind) (pushes
       (with_seen own place (counted kind (count_by (is_kind kind) pick) seen)) 0
       (pos (count_by (is_kind kind) pick)))
   total_step : {x : ℕ} (place : ℕ) (seen : Seen) (pick : List (Option End))
       → Owns own x place seen → Fits seen pick
-      → Steps p t c own (Total x) (pushes
+      → Steps p c own (Total x) (pushes
       (with_seen own place (summed (total_of (heard_in pick)) seen)) 0 (total_of (heard_in pick)))
 
 -- ---- a table that has all steps
+
+-- a state that is possible is among these
+abbrev pub Leads : List Own → Own → Type 0
+Leads states next = ArePossible next.scopes → Among states next
+
+-- a `fork`: the call has a row, and the state with a new part, which has the ways of that row, is
+-- among these
+pub record Forks (p : Program) (t : Table) (states : List Own) (own : Own) (x g : ℕ)
+    (h : Option ℕ) (place : ℕ) (seen : Seen) : Type 0 where
+  pub row : Row
+  pub is_row : IsRowOf t row (call_of p own seen g)
+  pub leads : Leads states (forked p own place seen row.ways g h)
 
 -- the end of a task by its last instruction
 abbrev pub end_by : Instr → Frame → Option End
@@ -417,12 +420,10 @@ pub record IsTable (p : Program) (t : Table) (root : Row) : Type 0 where
   -- each fork has a row for its call, unless its scope is known to be cancelled
   pub forks : (row : Row) (own : Own) (x g place : ℕ) (h : Option ℕ) (seen : Seen) → Among t row
       → Among row.states own → instr_at p own.frame ≡ Some (Fork x g h) → Owns own x place seen
-      → is_cancelled seen.knowledge ≡ false
-      → (to_row : Row) × IsRowOf t to_row (call_of p own seen g)
+      → is_cancelled seen.knowledge ≡ false → Forks p t row.states own x g h place seen
   -- each step to a state that is possible leads to a state of the row
   pub closed : (row : Row) (own next : Own) (i : Instr) → Among t row → Among row.states own
-      → instr_at p own.frame ≡ Some i → Steps p t row.call own i next → ArePossible next.scopes
-      → Among row.states next
+      → instr_at p own.frame ≡ Some i → Steps p row.call own i next → Leads row.states next
   -- each end is a way of the row
   pub ends : (row : Row) (own : Own) (i : Instr) (e : End) → Among t row → Among row.states own
       → instr_at p own.frame ≡ Some i → end_by i own.frame ≡ Some e → HasWay row.ways e

@@ -4,9 +4,7 @@ use Rattle.std.specs.Prelude.{◌≡◌, ℕ, ℤ, ◌⊎◌, List, [], ◌∷�
 use Rattle.std.specs.Prelude.{true}
 use Rattle.std.specs.Prelude.{Option, Some, None, replicate, ◌==◌, if◌then◌else◌}
 use Rattle.std.specs.Prelude.{slice_index_or}
-use Rattle.sts_code.specs.declared.instr.Joiner.{Joiner}
 use Rattle.sts_model.specs.declared.event.End.{End}
-use Rattle.sts_model.specs.declared.event.Phase.{Phase}
 use Rattle.sts_model.specs.declared.record.Bound.{Bound}
 use Rattle.sts_model.specs.declared.record.Entry.{Entry}
 use Rattle.sts_model.specs.declared.record.Entry.TheVariants as entry
@@ -16,6 +14,14 @@ use Rattle.sts_model.specs.Environment.{bound_of}
 use Rattle.sts_model.specs.World.{entry_frame}
 use Rattle.laws_calls.specs.Held.{Held}
 use Rattle.laws_calls.specs.Held as held
+pub use Rattle.laws_calls.specs.declared.table.Call.{Call}
+pub use Rattle.laws_calls.specs.declared.table.Way.{Way}
+pub use Rattle.laws_calls.specs.declared.table.Part.{Part}
+pub use Rattle.laws_calls.specs.declared.table.Knowledge.{Knowledge}
+pub use Rattle.laws_calls.specs.declared.table.Knowledge.TheVariants.{Unseen, ByJoiner, Late, Heard}
+pub use Rattle.laws_calls.specs.declared.table.Asked.{Asked}
+pub use Rattle.laws_calls.specs.declared.table.Seen.{Seen}
+pub use Rattle.laws_calls.specs.declared.table.Own.{Own}
 
 -- ---- lists
 
@@ -42,17 +48,6 @@ put_place (x ∷ xs) place y = if place == length xs then y ∷ xs else x ∷ pu
 
 -- ---- calls
 
--- all that the ends of a task depend on
-pub record Call : Type 0 where
-  pub function : ℕ
-  pub args : List ℤ
-  -- the bindings that it inherits
-  pub environment : List Bound
-
--- a way that a task may come to its end
-pub record Way : Type 0 where
-  pub end : End
-
 -- one of the ways comes to this end
 abbrev pub HasWay : List Way → End → Type 0
 HasWay [] e = ⊥
@@ -60,44 +55,9 @@ HasWay (way ∷ ways) e = (way.end ≡ e) ⊎ HasWay ways e
 
 -- ---- scopes
 
--- A subtask, as the owner of its scope knows it: the ways that are still possible, whether it may
--- be unavailable, and whether it may have failed before all others.
-pub record Part : Type 0 where
-  pub ways : List Way
-  pub is_open : Bool
-  pub is_early : Bool
-
--- What an owner knows of a cancel of its scope. It knows nothing. Or its joiner has cancelled the
--- scope. Or the scope has expired. Or all subtasks have ended, and the scope is not cancelled.
-pub data Knowledge : Type 0 where
-  Unseen : Knowledge
-  ByJoiner : Knowledge
-  Late : Knowledge
-  Heard : Knowledge
-
--- The answers that an owner got to `tally` and `total`: how many succeeded, failed and are
--- unavailable, and the sum.
-pub record Asked : Type 0 where
-  pub successes : Option ℕ
-  pub failures : Option ℕ
-  pub unavailable : Option ℕ
-  pub total : Option ℤ
-
+-- no answer yet
 abbrev pub nothing : Asked
 nothing = record { successes = None; failures = None; unavailable = None; total = None }
-
--- a scope, as its owner knows it
-pub record Seen : Type 0 where
-  pub joiner : Joiner
-  pub timed : Bool
-  pub environment : List Bound
-  pub phase : Phase
-  pub knowledge : Knowledge
-  pub asked : Asked
-  -- has its owner seen a failure?
-  pub has_failure : Bool
-  -- its subtasks, in fork order
-  pub parts : List Part
 
 -- the subtask may be in this state; none means unavailable
 abbrev pub May : Part → Option End → Type 0
@@ -110,21 +70,14 @@ Picks parts pick = AllTwo May parts pick
 
 -- ---- tasks
 
--- A state of one task. Its frame has no slots, and no births. Its open scopes are in the order of
--- the frame's entries, the last opened first.
-pub record Own : Type 0 where
-  pub frame : Frame
-  pub held : List Held
-  pub scopes : List Seen
-
 -- an entry without the birth of its scope
 abbrev pub blank : Entry → Entry
 blank (entry.Scope s) = entry.Scope 0
 blank (entry.Binding k v) = entry.Binding k v
 
--- a frame without slots and births
+-- a frame with empty slots, and without births
 abbrev pub bare : Frame → Frame
-bare f = record f { entries = map blank f.entries; slots = [] }
+bare f = record f { entries = map blank f.entries; slots = replicate 16 slots.Empty }
 
 abbrev pub scope_of_entry : Entry → Option ℕ
 scope_of_entry (entry.Scope s) = Some s

@@ -1,0 +1,96 @@
+//! Tables of calls: the states that the task of a call may be in, and the ways that it may end.
+
+use sts_code::Joiner;
+use sts_model::{Bound, End, Frame, Items, Phase};
+
+/// What a slot of a task holds, under local names. An open scope goes by its place among the open
+/// scopes of the task, the outermost first. A subtask goes by its place among those of its scope,
+/// in fork order.
+#[derive(Clone, Copy, Debug, PartialEq, Eq)]
+pub enum Held {
+    Empty,
+    Lent,
+    Own(u32),
+    Sub(u32, u32),
+}
+
+/// All that the ends of a task depend on.
+#[derive(Drop)]
+pub struct Call {
+    pub function: u32,
+    pub args: Items<i64>,
+    /// The bindings that it inherits.
+    pub environment: Items<Bound>,
+}
+
+/// A way that a task may come to its end.
+#[derive(Clone, Copy, Debug, PartialEq, Eq)]
+pub struct Way {
+    pub end: End,
+}
+
+/// A subtask, as the owner of its scope knows it.
+#[derive(Drop)]
+pub struct Part {
+    /// The ways that are still possible.
+    pub ways: Items<Way>,
+    /// May it be unavailable?
+    pub is_open: bool,
+    /// May it have failed before all others?
+    pub is_early: bool,
+}
+
+/// What an owner knows of a cancel of its scope.
+#[derive(Clone, Copy, Debug, PartialEq, Eq)]
+pub enum Knowledge {
+    /// It knows nothing.
+    Unseen,
+    /// The joiner has cancelled the scope.
+    ByJoiner,
+    /// The scope has expired.
+    Late,
+    /// All subtasks have ended, and the scope is not cancelled.
+    Heard,
+}
+
+/// The answers that an owner got to `tally` and `total`: how many succeeded, failed and are
+/// unavailable, and the sum.
+#[derive(Clone, Copy, Debug, PartialEq, Eq)]
+pub struct Asked {
+    pub successes: Option<u32>,
+    pub failures: Option<u32>,
+    pub unavailable: Option<u32>,
+    pub total: Option<i64>,
+}
+
+/// A scope, as its owner knows it.
+#[derive(Drop)]
+pub struct Seen {
+    pub joiner: Joiner,
+    pub timed: bool,
+    pub environment: Items<Bound>,
+    pub phase: Phase,
+    pub knowledge: Knowledge,
+    pub asked: Asked,
+    /// Has its owner seen a failure?
+    pub has_failure: bool,
+    /// Its subtasks, in fork order.
+    pub parts: Items<Part>,
+}
+
+/// A state of one task. Its frame has empty slots, and no births. Its open scopes are in the order
+/// of the frame's entries, the last opened first.
+#[derive(Drop)]
+pub struct Own {
+    pub frame: Frame,
+    pub held: [Held; 16],
+    pub scopes: Items<Seen>,
+}
+
+/// A call with the states that its task may be in, and the ways that it may end.
+#[derive(Drop)]
+pub struct Row {
+    pub call: Call,
+    pub states: Items<Own>,
+    pub ways: Items<Way>,
+}
