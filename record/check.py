@@ -36,7 +36,7 @@ AFTER_RESULT = "an interrupt after a result"  # which no machine of known.py has
 # The known differences of docs/JDK.md that recordings of a program may show.
 KNOWN = {
     "join_again": {known.SECOND_JOIN}, "second_join": {known.SECOND_JOIN},
-    "Clash": {AFTER_RESULT}, "Outside": {AFTER_RESULT}, "interrupt_behind_a_result": {AFTER_RESULT},
+    "Clash": {AFTER_RESULT}, "Edge": {AFTER_RESULT}, "Outside": {AFTER_RESULT}, "interrupt_behind_a_result": {AFTER_RESULT},
     "first_binding": {known.FIRST_BINDING},
     "other_bindings_in_a_cancelled_scope": {known.OTHER_BINDING},
     "close_without_a_join": {known.CLOSE_ORDER},
