@@ -37,8 +37,8 @@ class Calls {
     return this.call("sts_view", [Number(each), Number(full)], [text, trace]);
   }
 
-  draw(text, trace) {
-    return this.call("sts_draw", [], [text, trace]);
+  draw(text, trace, { brief = false } = {}) {
+    return this.call("sts_draw", [Number(brief)], [text, trace]);
   }
 
   explain(text) {

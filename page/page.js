@@ -210,7 +210,7 @@ function run() {
   const text = element("text").value;
   const viewed = calls.view(text, trace(), { each: true, full: element("full").checked });
   hasRun = !HAS_NO_RUN.includes(viewed.status);
-  drawn = hasRun ? calls.draw(text, trace()).text : "";
+  drawn = hasRun ? calls.draw(text, trace(), { brief: element("brief").checked }).text : "";
   shareRun();
   parts = partsOf(viewed.text, hasRun ? "before the first event" : "");
   element("course-words").textContent = viewed.text;
@@ -286,6 +286,7 @@ function connect() {
   element("text").onblur = guarded(revealMark);
   element("trace").oninput = guarded(run);
   element("full").onchange = guarded(run);
+  element("brief").onchange = guarded(run);
   element("save-png").onclick = guarded(savePng);
   window.onhashchange = guarded(takeLink);
   element("more").textContent = `Search ${STATES_ON_REQUEST} states`;

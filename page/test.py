@@ -37,6 +37,7 @@ ROOT = os.path.dirname(HERE)
 sys.path.append(ROOT)
 from checks.programs import taken  # noqa: E402
 from checks.tests import ends, look_rows  # noqa: E402
+from checks.tests.looks import untitled  # noqa: E402
 
 PAGE = os.path.join(HERE, "out", "index.html")
 EXAMPLES = sorted(glob.glob(os.path.join(ROOT, "examples", "*.sts")))
@@ -122,8 +123,10 @@ class Programs:
     def explain(self, text, trace):
         return self.says(self.look, "explain", [text, trace])
 
-    def draw(self, text, trace):
-        return self.says(self.look, "draw", [text, trace])
+    def draw(self, text, trace, *options):
+        """Returns the status and the picture without what depends on the names of the files: the page has none."""
+        status, printed = self.says(self.look, "draw", [text, trace], *options)
+        return [status, untitled(printed)]
 
     def ends(self, text, most=AT_ONCE):
         return self.says(self.look, "ends", [text], "--most", str(most))
@@ -250,8 +253,9 @@ def same_calls(page, programs, name, text, traces):
         yield f"plain of {name} after {events}", page.call("plain", text, trace) == plain
         explained = programs.explain(text, trace)
         yield f"explain of {name} after {events}", page.call("explainRun", text, trace) == explained
-        drawn = programs.says(programs.look, "draw", [text, trace])
-        yield f"draw of {name} after {events}", page.call("draw", text, trace) == drawn
+        for words, options in (([], {}), (["--brief"], {"brief": True})):
+            status, drawn = page.call("draw", text, trace, options)
+            yield f"draw of {name} after {events} {words}", [status, untitled(drawn)] == programs.draw(text, trace, *words)
         for option in ("each", "full"):
             viewed = programs.view(text, trace, f"--{option}")
             yield f"view of {name} after {events}, {option}", page.call("view", text, trace, {option: True}) == viewed
@@ -370,7 +374,7 @@ def stands(page, programs, what, text, trace, whole):
     """Yields whether the page shows how the run of a whole trace stands after a beginning of it."""
     yield f"{what}: what stands", page.shown() == programs.view(text, trace)[1]
     yield f"{what}: what is told", page.text_of("told") == programs.explain(text, trace)[1]
-    yield f"{what}: the picture", page.drawn() == programs.draw(text, whole)[1]
+    yield f"{what}: the picture", untitled(page.drawn()) == programs.draw(text, whole)[1]
     yield f"{what}: the numbers next to the listing", sorted(page.marks()) == sorted(programs.marks(text, trace))
 
 
@@ -430,6 +434,14 @@ def in_full(page, programs, name, text, trace):
     page.click("#full")
 
 
+def in_brief(page, programs, name, text, trace):
+    """Yields whether the picture has the events that `tell` lists alone if that is asked for."""
+    page.click("#brief")
+    yield f"{name}: in brief", untitled(page.drawn()) == programs.draw(text, trace, "--brief")[1]
+    page.click("#brief")
+    yield f"{name}: not in brief", untitled(page.drawn()) == programs.draw(text, trace)[1]
+
+
 def played(page, programs, number, path):
     """Plays an example by the buttons, event by event, and back."""
     name, text, trace = os.path.basename(path), read(path), read(f"{path[:-4]}.trace")
@@ -444,6 +456,7 @@ def played(page, programs, number, path):
     yield from columns(page, programs, name, text, trace)
     yield from by_steps(page, programs, name, text, trace)
     yield from in_full(page, programs, name, text, trace)
+    yield from in_brief(page, programs, name, text, trace)
 
 
 def all_played(page, programs):

@@ -224,7 +224,7 @@ def windows(look):
         ended = (5, "running\n steps 1\n") if words == "1..1" else (0, "success 7\n steps 2\n")
         for line in (["draw", "text", "trace", "--events", words], ["draw", f"--events={words}", "text", "trace"]):
             status, printed, told = look.says(*line)
-            yield f"{line}", (status, printed.split("<title>")[1].split("</title>")[0], told), (ended[0], ended[1] + left_out, "")
+            yield f"{line}", (status, printed.split("<title>")[1].split("</title>")[0], told), (ended[0], f"text, trace: {ended[1]}{left_out}", "")
 
 
 def mistaken(program, lines):

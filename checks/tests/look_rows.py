@@ -11,9 +11,9 @@ A TRACE is short (`0*5`), or `trace LINES`. A remark `# ---- GROUP` begins a gro
 pictures.json has runs, and the picture of each. `sizes` are the width and the height of the picture and of its grid, and
 `foot` is where the legend begins; `titled` is the heading's form of `state`, if that has names. An element is `CLASS X Y WORDS` for a mark, `fork X FROM TO`, `number X N WORDS`,
 `idle X N WORDS`, or `value X Y WORDS` and other texts. An element with `of each` stands for these elements of each event from
-`first` to `last`: N is its number, and X its column, of which the first is at `at`. `events` is a window, if one is asked for, and
-`left_out` says in the heading which events aren't drawn. The legend has the marks that the elements have. The style is a text
-that was chosen; it isn't compared. In a text, a trace, `stands` and `left_out`, ` / ` is between two lines.
+`first` to `last`: N is its number, and X its column, of which the first is at `at`. `events` and `brief` are the options, if
+they are given, and `left_out` says in the heading which events aren't drawn. The legend has the marks that the elements have.
+The style is a text that was chosen; it isn't compared. In a text, a trace, `stands` and `left_out`, ` / ` is between two lines.
 The last line is `N passed, M failed`, of rows.
 """
 import glob
@@ -47,8 +47,8 @@ MARKS = {
     "fault": ("m14-9v10m0 4v3", "a forbidden step: the run stops"),
     "idle": ("m-7 0h14", "the event changed nothing"),
 }
-# Of texts that are pressed into their room if they have more letters: how many fit, and how wide the room is.
-ROOMS = {"number": (3, 22), "code": (31, 186), "value": (21, 139)}
+# Of texts that are smaller if they have more letters than fit: how many fit, and their size in pixels.
+ROOMS = {"number": (3, 10), "code": (31, 10), "value": (21, 11)}
 
 
 def tables():
@@ -66,9 +66,10 @@ def tables():
 def asks(look, words, text, trace):
     """Returns the status and what `look` prints."""
     with tempfile.TemporaryDirectory() as folder:
-        files = [programs.kept(folder, name, it) for name, it in (("text", text), ("trace", trace)) if it is not None]
-        status, printed = programs.says(look, words[0], *files, *words[1:], seconds=60, is_text=False)
-        return status, printed.replace(f"{folder}/".encode(), b"")
+        files = {name: it for name, it in (("text", text), ("trace", trace)) if it is not None}
+        for name, it in files.items():
+            programs.kept(folder, name, it)
+        return programs.says(look, words[0], *files, *words[1:], seconds=60, is_text=False, cwd=folder)
 
 
 def lines(short):
@@ -80,9 +81,9 @@ def mark(kind, x, y, words):
 
 
 def fitted(kind, words):
-    """Returns the attributes of words that are pressed into their room."""
-    letters, pixels = ROOMS.get(kind, (len(words), 0))
-    return f" textLength='{pixels}' lengthAdjust='spacingAndGlyphs'" if len(html.unescape(words)) > letters else ""
+    """Returns the attribute of words that are smaller, so that they fit into their room."""
+    count, (letters, size) = len(html.unescape(words)), ROOMS.get(kind, (len(words), 0))
+    return f" style='font-size:{max(1, letters * size // count)}px'" if count > letters else ""
 
 
 def element(short):
@@ -121,7 +122,7 @@ def legend(row):
 def picture(row):
     """Returns the picture of a row, without its style."""
     wide, high, grid_wide, grid_high = row["sizes"]
-    state = f"{row.get('titled', row['state'])}\n steps {row['steps']}\n{lines(row.get('left_out', ''))}"
+    state = f"text, trace: {row.get('titled', row['state'])}\n steps {row['steps']}\n{lines(row.get('left_out', ''))}"
     described = f"{row['state']}\nsteps {row['steps']}\n{lines(row['stands'])}"
     return (
         f"<svg xmlns='http://www.w3.org/2000/svg' class='sts-run' role='img' viewBox='0 0 {wide} {high}' width='{wide}' height='{high}'>\n"
@@ -143,7 +144,7 @@ def tried(look):
         yield f"{where}: {group}, {name}", asks(look, words, text, trace), (status, printed)
     with open(f"{HERE}/pictures.json") as file:
         for row in json.load(file):
-            window = ["--events", row["events"]] if "events" in row else []
+            window = [*(["--events", row["events"]] if "events" in row else []), *(["--brief"] if "brief" in row else [])]
             trace = notation.meant(row["trace"]) if row["trace"] else b""
             status, printed = asks(look, ["draw", *window], lines(row["text"]).encode(), trace)
             yield f"the picture of {row['name']}", (status, without_style(printed.decode())), (row["status"], picture(row))

@@ -133,7 +133,7 @@ def drawing(look, sts, folder, text):
         return
     title, described = (picture.find(SVG + it).text for it in ("title", "desc"))
     yield f"{name} drawn, status", status == ended
-    yield f"{name} drawn, title", title.split() == plain.split()
+    yield f"{name} drawn, title", title.split() == f"{text}, {trace}: {plain}".split()
     yield f"{name} drawn, description", described == without_lines(last)
     yield f"{name} drawn, lanes", len(of_class(picture, "name")) == len(re.findall("^task ", last, flags=re.M))
     yield f"{name} drawn, columns", len(of_class(picture, "number")) == len(heads)
@@ -158,6 +158,11 @@ def left_out(first, last):
     return f" (event {first} left out)\n" if first == last else f" (events {first} to {last} left out)\n"
 
 
+def untitled(printed):
+    """Returns a picture without its heading's names of files, and without its width, which depends on them."""
+    return re.sub(r"(?<=viewBox='0 0 )\d+|(?<= width=')\d+(?=' height='\d+'>)|(?<=>)[^<>\n]*, [^<>\n]*: (?=\S.*\n steps )", "", printed)
+
+
 def halves(look, folder, text, picture):
     """Yields whether the first events of an example, and the others, are drawn as they have to be, and whether all are."""
     name, trace = os.path.basename(text), text[:-4] + ".trace"
@@ -168,7 +173,8 @@ def halves(look, folder, text, picture):
     status, printed = says(look, "draw", text, trace, "--events", f"1..{half}")
     later = left_out(half + 1, count)
     yield f"{name}, its first half", printed.count(later) == 2
-    yield f"{name}, its first half drawn", (status, printed.replace(later, "")) == says(look, "draw", text, path)
+    drawn_half = says(look, "draw", text, path)
+    yield f"{name}, its first half drawn", (status, untitled(printed.replace(later, ""))) == (drawn_half[0], untitled(drawn_half[1]))
     other = ElementTree.fromstring(says(look, "draw", text, trace, "--events", f"{half + 1}..{count}")[1])
     yield f"{name}, its other half drawn", in_columns(other, 0) == in_columns(picture, half)
     yield f"{name}, its other half", other.find(SVG + "title").text == picture.find(SVG + "title").text + left_out(1, half)
@@ -200,7 +206,7 @@ def large_of_look(look, folder):
     yield "65,536 tasks told", status == 0 and ended == [*told, "task 0, main, line 16: ret, success 65535"]
     yield "65,536 tasks explained", says(look, "explain", text, trace) == (0, "success 65535\n")
     status, printed = says(look, "draw", text, trace)
-    title = "success 65535\n steps 262191\n (events 1 to 260191 left out)\n"
+    title = f"{text}, {trace}: success 65535\n steps 262191\n (events 1 to 260191 left out)\n"
     yield "65,536 tasks drawn", status == 0 and f"<title>{title}</title>" in printed and f"<desc>{without_lines(viewed)}</desc>" in printed
     yield "65,536 lanes", len(re.findall(r"<text class='name'", printed)) == 65_536
     yield "2,000 columns", re.findall(r"(?s)<text class='number'[^>]*>.*?</title>(\d+)<", printed) == [*map(str, range(260_192, 262_192))]

@@ -20,8 +20,8 @@ RUNS = {"run_sum.svg": "sum", "run_failure.svg": "failure_stops_siblings", "run_
 def runs(look):
     """Yields the path of each picture, and what `look draw` prints of its example."""
     for name, example in RUNS.items():
-        files = [os.path.join(ROOT, "examples", f"{example}.{it}") for it in ("sts", "trace")]
-        done = subprocess.run([look, "draw", *files], stdin=subprocess.DEVNULL, capture_output=True, timeout=120)
+        files = [f"examples/{example}.{it}" for it in ("sts", "trace")]
+        done = subprocess.run([look, "draw", *files], stdin=subprocess.DEVNULL, capture_output=True, timeout=120, cwd=ROOT)
         yield os.path.join(HERE, name), done.stdout
 
 

@@ -84,8 +84,9 @@ abbrev pub IsShown : Asked → Files → SameFile → Output → Type 0
 IsShown (asked.View file trace view) files same o =
     IsOfTexts (ShowsInFull (showing.View view)) (files file.now) (files trace.now) o
 IsShown (asked.Explain file trace form) files same o = IsExplained files file.now trace form o
-IsShown (asked.Draw file trace window) files same o =
-    IsOfTexts (ShowsInFull (showing.Picture window)) (files file.now) (files trace.now) o
+IsShown (asked.Draw file trace draw) files same o =
+    IsOfTexts (ShowsInFull (showing.Picture draw (record { text = file; trace = trace })))
+    (files file.now) (files trace.now) o
 IsShown (asked.Tell file trace tell) files same o =
     IsOfTexts (ShowsInFull (showing.Story tell)) (files file.now) (files trace.now) o
 IsShown (asked.Ends file ends) files same o =

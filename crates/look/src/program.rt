@@ -15,6 +15,7 @@ use look_args::asked::{Asked, AskedEnds, ExplainForm};
 use look_args::line;
 use look_cases::write_answers;
 use look_ends::{Listing, Progress, write_listing};
+use look_picture::FileNames;
 use look_shows::{Showing, explain_in, show_in_full};
 use std::alloc::Global;
 use std::io::{Input, Write};
@@ -34,14 +35,14 @@ const NAME: &str = "look";
 fn on_texts<S: Sources, W: Write>(
     alloc: Global,
     sources: &S,
-    showing: Showing,
+    showing: Showing<'_>,
     path: &str,
     trace: &str,
     out: &mut W,
     remarks: &mut Remarks,
 ) -> Result<u8, WriteFailed>
     ensures { IfOk result (λ s. (o : Output)
-        × def.IsOfTexts (ShowsInFull showing) (S.held sources.now path.now)
+        × def.IsOfTexts (ShowsInFull showing.entry) (S.held sources.now path.now)
         (S.held sources.now trace.now) o
         × Writes (W.contents out.old) (W.contents out.new) s o) }
 {
@@ -236,11 +237,14 @@ fn on_line<S: Sources + Sinks, P: Progress, W: Write>(
         Asked::Draw {
             file,
             trace,
-            window,
+            draw: options,
         } => on_texts(
             alloc,
             &*sources,
-            Showing::Picture(window),
+            Showing::Picture {
+                options,
+                files: FileNames { text: file, trace },
+            },
             file,
             trace,
             out,

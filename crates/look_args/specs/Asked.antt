@@ -11,14 +11,14 @@ use Rattle.clap.specs.declared.error.kind.ErrorKind.TheVariants as kind
 use Rattle.sts_args.specs.declared.asked.LineError.{LineError}
 use Rattle.sts_args.specs.declared.asked.LineError.TheVariants as error
 use Rattle.look_lines.specs.declared.view.ViewOptions.{ViewOptions}
-use Rattle.look_picture.specs.declared.window.Window.{Window}
+use Rattle.look_picture.specs.declared.window.DrawOptions.{DrawOptions}
 use Rattle.look_args.specs.declared.asked.Asked.{Asked}
 use Rattle.look_args.specs.declared.asked.AskedTell.{AskedTell}
 use Rattle.look_args.specs.declared.asked.AskedView.{AskedView}
 use Rattle.look_args.specs.declared.asked.Asked.TheVariants as asked
 use Rattle.look_args.specs.declared.asked.ExplainForm.{ExplainForm}
 use Rattle.look_args.specs.declared.asked.ExplainForm.TheVariants.{Words, Places, Json}
-use Rattle.look_args.specs.AskedDraw.{window_at}
+use Rattle.look_args.specs.AskedDraw.{draw_at}
 use Rattle.look_args.specs.AskedEnds.{SaidEnds, ends_at, is_true, said_ends}
 use Rattle.look_args.specs.AskedTell.{tell_at}
 use Rattle.look_args.specs.Command.{program}
@@ -30,7 +30,7 @@ pub record Said : Type 0 where
   pub files : List Text
   pub view : Option AskedView
   pub form : Option ExplainForm
-  pub draw : Option (Option Window)
+  pub draw : Option DrawOptions
   pub tell : Option AskedTell
   pub ends : Option SaidEnds
 
@@ -58,12 +58,12 @@ said (asked.Explain file trace form) = record {
   tell = None;
   ends = None;
 }
-said (asked.Draw file trace window) = record {
+said (asked.Draw file trace draw) = record {
   name = codes "draw";
   files = file.now ∷ trace.now ∷ [];
   view = None;
   form = None;
-  draw = Some window;
+  draw = Some draw;
   tell = None;
   ends = None;
 }
@@ -158,7 +158,7 @@ given (name, rows) = record {
   files = files_at name rows;
   view = if is_view name then Some (view_at rows) else None;
   form = if is_explain name then form_at rows else None;
-  draw = if is_draw name then window_at rows else None;
+  draw = if is_draw name then draw_at rows else None;
   tell = if is_tell name then tell_at rows else None;
   ends = if is_ends name then ends_at rows else None;
 }
@@ -191,7 +191,7 @@ has_numbers name rows = if is_ends name then is_some (ends_at rows) else true
 
 -- the option of `draw` has the form of a window
 abbrev pub has_window : Text → List Row → Bool
-has_window name rows = if is_draw name then is_some (window_at rows) else true
+has_window name rows = if is_draw name then is_some (draw_at rows) else true
 
 -- `explain` has one form
 abbrev pub has_form : Text → List Row → Bool

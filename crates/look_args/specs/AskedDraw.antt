@@ -4,7 +4,8 @@ use Rattle.std.specs.Prelude.{None, if◌then◌else◌, codes, option_map, opti
 use Rattle.std.specs.List.{after_first, before_first}
 use Rattle.clap.specs.Words.{Text, Row, first_of}
 use Rattle.look_picture.specs.declared.window.Window.{Window}
-use Rattle.look_args.specs.AskedEnds.{number}
+use Rattle.look_picture.specs.declared.window.DrawOptions.{DrawOptions}
+use Rattle.look_args.specs.AskedEnds.{is_true, number}
 
 abbrev pub is_dot : ℕ → Bool
 is_dot b = b == 46
@@ -32,3 +33,11 @@ window_by (Some text) = option_map Some (window_of text)
 
 abbrev pub window_at : List Row → Option (Option Window)
 window_at rows = window_by (first_of (codes "events") rows)
+
+-- the options of `draw`, if the window is one
+abbrev pub draw_at : List Row → Option DrawOptions
+draw_at rows =
+    option_map (λ window. record {
+      window = window;
+      brief = is_true (first_of (codes "brief") rows);
+    }) (window_at rows)

@@ -22,8 +22,8 @@ explain = with_rule (with_rule (with_rule (with_rule (new_app (codes "explain"))
     maybe_trace_rule) (flag_rule (codes "lines"))) (flag_rule (codes "json"))
 
 abbrev pub draw : App
-draw = with_rule (with_rule (with_rule (new_app (codes "draw")) file_rule) trace_rule)
-    (option_rule (codes "events"))
+draw = with_rule (with_rule (with_rule (with_rule (new_app (codes "draw")) file_rule) trace_rule)
+    (option_rule (codes "events"))) (flag_rule (codes "brief"))
 
 -- a number in its place among the words, which may be left out
 abbrev pub tell_by_events : App

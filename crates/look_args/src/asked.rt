@@ -2,7 +2,7 @@
 
 use look_ends::EndsOptions;
 use look_lines::ViewOptions;
-use look_picture::Window;
+use look_picture::DrawOptions;
 use look_tell::TellOptions;
 
 /// The seed of random schedules if no other one is asked for.
@@ -73,11 +73,11 @@ pub enum Asked<'a> {
     Cases {
         file: &'a str,
     },
-    /// A run as a picture, or a window of it.
+    /// A run as a picture.
     Draw {
         file: &'a str,
         trace: &'a str,
-        window: Option<Window>,
+        draw: DrawOptions,
     },
     /// The story of a run.
     Tell {

@@ -110,6 +110,11 @@ fn draw<'a>(alloc: Global) -> Result<Command<'a>, AllocError>
         "events",
         "A..B",
         "draws the events from line A to line B of the trace (the last 2000)",
+    ))?
+    .arg(flag(
+        alloc,
+        "brief",
+        "a column only for each event that `tell` lists",
     ))
 }
 

@@ -6,7 +6,7 @@ ghost use Rattle.clap.specs.declared.error.kind.ErrorKind.TheVariants as kind;
 ghost use Rattle.sts_args.specs.Refused.{BlamesUnless};
 ghost use Rattle.look_args.specs.Asked.{Asks, IsGiven, IsLineOf, Refuses, TellsKind, is_set, is_whole};
 ghost use Rattle.look_args.specs.Asked.{form_by, view_at, wanted_at};
-ghost use Rattle.look_args.specs.AskedDraw.{window_at};
+ghost use Rattle.look_args.specs.AskedDraw.{draw_at, window_at};
 ghost use Rattle.look_args.specs.AskedEnds.{ends_at, ends_wanted_at, kept_of, kept_words, manner_at};
 ghost use Rattle.look_args.specs.AskedEnds.{limits_at, maybe_number, number_at, said_ends};
 ghost use Rattle.look_args.specs.AskedTell.{tell_at, tell_wanted_at};
@@ -20,7 +20,7 @@ use clap::error::ErrorKind;
 use clap::{ArgMatches, Error};
 use look_ends::{EndsOptions, Limits, Manner};
 use look_lines::ViewOptions;
-use look_picture::Window;
+use look_picture::{DrawOptions, Window};
 use look_tell::TellOptions;
 use std::alloc::{AllocError, Global};
 use sts_args::{LineError, text_of, told, trace_of, unknown};
@@ -117,12 +117,8 @@ fn asked_of<'a>(
                 }
             } else if name == "draw" {
                 let trace = trace_of(alloc, inner)?;
-                match asked_window(inner) {
-                    Some(window) => Ok(Asked::Draw {
-                        file,
-                        trace,
-                        window,
-                    }),
+                match asked_draw(inner) {
+                    Some(draw) => Ok(Asked::Draw { file, trace, draw }),
                     None => Err(usage(alloc, NO_WINDOW)),
                 }
             } else if name == "tell" {
@@ -201,6 +197,17 @@ fn asked_window(inner: &ArgMatches<'_>) -> Option<Option<Window>>
         None => Some(None),
         Some(text) => Some(Some(window_of(text.as_bytes())?)),
     }
+}
+
+/// What `draw` is asked for; nothing if the events aren't written as `A..B`.
+fn asked_draw(inner: &ArgMatches<'_>) -> Option<DrawOptions>
+    ensures { result ≡ draw_at (rows_of (found_of inner.now)) }
+{
+    let window = asked_window(inner)?;
+    Some(DrawOptions {
+        window,
+        brief: is_set(inner, "brief"),
+    })
 }
 
 /// The number that an option is given, or another one if the option isn't given.

@@ -1,9 +1,9 @@
 -- The output for a text and a trace (this project's own).
-use Rattle.std.specs.Prelude.{ℕ, List, Some}
+use Rattle.std.specs.Prelude.{ℕ, Bool, List, Some, None}
 use Rattle.sts_output.specs.Output.{IsOutputOf, Output}
 use Rattle.sts_output.specs.TextMode.{mode_of}
 use Rattle.look_picture.specs.Picture.{IsPictureOf}
-use Rattle.look_picture.specs.declared.window.Window.{Window}
+use Rattle.look_picture.specs.declared.window.DrawOptions.{DrawOptions}
 use Rattle.look_refusal.specs.Output.{IsExplanation}
 use Rattle.look_run.specs.Output.{IsRunExplanation}
 use Rattle.look_lines.specs.View.{IsViewOf}
@@ -11,14 +11,14 @@ use Rattle.look_page.specs.Ends.{IsListing}
 use Rattle.look_page.specs.declared.printing.Asked.{Asked}
 use Rattle.look_page.specs.declared.printing.Asked.TheVariants as asked
 
--- the events from the first to the last that a trace may have
-abbrev pub all_events : Window
-all_events = record { first = 1; last = 4294967295 }
+-- the events from the first to the last that a trace may have, or of them those that `tell` lists
+abbrev pub all_events : Bool → DrawOptions
+all_events brief = record { window = Some (record { first = 1; last = 4294967295 }); brief = brief }
 
 abbrev pub Prints : Asked → List ℕ → List ℕ → Output → Type 0
 Prints (asked.Mode mode) text trace o = IsOutputOf (mode_of mode) text trace o
 Prints (asked.View wanted) text trace o = IsViewOf wanted text trace o
 Prints asked.Explanation text trace o = IsExplanation text o
 Prints asked.RunExplanation text trace o = IsRunExplanation text trace o
-Prints asked.Picture text trace o = IsPictureOf (Some all_events) text trace o
+Prints (asked.Picture brief) text trace o = IsPictureOf (all_events brief) None text trace o
 Prints (asked.Ends most) text trace o = IsListing most text o

@@ -2,7 +2,7 @@
 //! into memory.
 #![tactic(auto)]
 
-ghost use Rattle.std.specs.Prelude.{[], Some, false};
+ghost use Rattle.std.specs.Prelude.{[], None, false};
 ghost use Rattle.sts_output.specs.Output.{IsOutputOf};
 ghost use Rattle.look_picture.specs.Picture.{IsPictureOf};
 ghost use Rattle.look_refusal.specs.Output.{IsExplanation};
@@ -146,19 +146,21 @@ pub extern "C" fn sts_explain_run(
     shown(alloc, Asked::RunExplanation, text, trace, out, size)
 }
 
-/// What `look draw` prints with all events drawn, handed over as by `sts_verify`.
+/// What `look draw` prints with all events drawn, with `--brief` by choice, handed over as by
+/// `sts_verify`.
 #[unsafe(no_mangle)]
 pub extern "C" fn sts_draw(
     alloc: Global,
+    brief: bool,
     text: &[u8],
     trace: &[u8],
     out: &mut [u8],
     size: &mut usize,
 ) -> u8
-    ensures { Hands (IsPictureOf (Some all_events) text.now trace.now)
+    ensures { Hands (IsPictureOf (all_events brief) None text.now trace.now)
         (record { status = result; size = size.new; before = out.old; after = out.new }) }
 {
-    shown(alloc, Asked::Picture, text, trace, out, size)
+    shown(alloc, Asked::Picture { brief }, text, trace, out, size)
 }
 
 /// Every end that a text can come to, as `look ends --most N` prints them, handed over as by

@@ -7,7 +7,7 @@ ghost use Rattle.look_page.specs.Printed.{Prints};
 use crate::ending::wanted;
 use look_ends::{Silent, write_ends};
 use look_lines::{ViewOptions, write_run};
-use look_picture::{Window, draw};
+use look_picture::{DrawOptions, Window, draw};
 use look_refusal::explain;
 use look_run::explain_run;
 use std::alloc::Global;
@@ -26,7 +26,8 @@ pub(crate) enum Asked {
     View(ViewOptions),
     Explanation,
     RunExplanation,
-    Picture,
+    /// Of all events, or of those that the story of the run lists.
+    Picture { brief: bool },
     /// Every end, with at most this number of states.
     Ends(u32),
 }
@@ -51,7 +52,13 @@ pub(crate) fn print(
         Asked::View(wanted) => write_run(alloc, &wanted, text, trace, printed),
         Asked::Explanation => explain(alloc, text, printed),
         Asked::RunExplanation => explain_run(alloc, text, trace, printed),
-        Asked::Picture => draw(alloc, Some(ALL), text, trace, printed),
+        Asked::Picture { brief } => {
+            let options = DrawOptions {
+                window: Some(ALL),
+                brief,
+            };
+            draw(alloc, options, None, text, trace, printed)
+        }
         Asked::Ends(most) => write_ends(alloc, wanted(most), text, &mut Silent, printed),
     }
 }

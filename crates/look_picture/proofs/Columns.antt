@@ -1,5 +1,5 @@
 -- The columns of a list of events, one after another.
-use Rattle.std.proofs.Common.{◌≡◌, ℕ, ◌+◌, ◌-◌, ◌<◌, List, Bool, ◌++◌, length, arith, ap, ap₂, sym, ◌∙◌, take, drop, get_or}
+use Rattle.std.proofs.Common.{◌≡◌, ℕ, ◌+◌, ◌<◌, ◌≤◌, List, [], ◌∷◌, Bool, ◌++◌, length, arith, ap, ap₂, sym, ◌∙◌, take, drop, get_or}
 use Rattle.std.proofs.lemmas.List.{take_more, length-take-le, drop_more}
 use Rattle.sts_code.specs.Program.{Program}
 use Rattle.sts_model.specs.declared.event.Event.{Event}
@@ -7,7 +7,7 @@ use Rattle.sts_model.specs.Run.{counts}
 use Rattle.look_lines.specs.Watched.{Watched, watched}
 use Rattle.look_lines.specs.declared.watch.Applied.{Applied}
 use Rattle.look_tell.specs.Story.{after_events}
-use Rattle.look_picture.specs.Picture.{columns_from, event_column}
+use Rattle.look_picture.specs.Picture.{columns_from, count_from, maybe_column, one_more}
 use Rattle.look_picture.specs.Told.{event_words}
 
 -- an event with this number, which counts or not
@@ -22,10 +22,24 @@ numbered_at w n e = applied_of n e (counts w.program w.state e)
 abbrev pub numbered : Program → List Event → ℕ → Event → Applied
 numbered p done n e = numbered_at (watched p done) n e
 
--- the columns of the rest begin with that of the first event
-pub columns_next : (text : List ℕ) (p : Program) (skipped : ℕ) (es : List Event) (i : ℕ) (d : Event) → i < length es → columns_from text p skipped (take i es) (drop i es) ≡ event_column text (event_words text (i + 1) (after_events p (take i es)) (get_or es i d)) (watched p (take i es)) (watched p (take (i + 1) es)) (i + 1 - skipped) (numbered p (take i es) (i + 1) (get_or es i d)) ++ columns_from text p skipped (take (i + 1) es) (drop (i + 1) es)
-columns_next text p skipped es i d inside =
-    let n : length (take i es) ≡ i = length-take-le i es (omega (arith, inside)) in
+-- the columns of the rest begin with that of the first event, if it has one
+pub columns_next : (text : List ℕ) (brief : Bool) (p : Program) (n : ℕ) (es : List Event) (i : ℕ) (d : Event) → i < length es → columns_from text brief p n (take i es) (drop i es) ≡ maybe_column text (event_words text brief (i + 1) (after_events p (take i es)) (get_or es i d)) (watched p (take i es)) (watched p (take (i + 1) es)) n (numbered p (take i es) (i + 1) (get_or es i d)) ++ columns_from text brief p (one_more (event_words text brief (i + 1) (after_events p (take i es)) (get_or es i d)) n) (take (i + 1) es) (drop (i + 1) es)
+columns_next text brief p n es i d inside =
+    let long : length (take i es) ≡ i = length-take-le i es (omega (arith, inside)) in
     let e = get_or es i d in
-    ap (columns_from text p skipped (take i es)) (drop_more es i d inside)
-    ∙ ap₂ (λ (m : ℕ) done. event_column text (event_words text (m + 1) (after_events p (take i es)) e) (watched p (take i es)) (watched p done) (m + 1 - skipped) (numbered p (take i es) (m + 1) e) ++ columns_from text p skipped done (drop (i + 1) es)) n (sym (take_more es i d inside))
+    let line = λ (m : ℕ). event_words text brief (m + 1) (after_events p (take i es)) e in
+    ap (columns_from text brief p n (take i es)) (drop_more es i d inside)
+    ∙ ap₂ (λ (m : ℕ) done. maybe_column text (line m) (watched p (take i es)) (watched p done) n (numbered p (take i es) (m + 1) e) ++ columns_from text brief p (one_more (line m) n) done (drop (i + 1) es)) long (sym (take_more es i d inside))
+
+-- the number of columns after one event more
+pub count_next : (text : List ℕ) (brief : Bool) (p : Program) (n : ℕ) (es : List Event) (i : ℕ) (d : Event) → i < length es → count_from text brief p n (take i es) (drop i es) ≡ count_from text brief p (one_more (event_words text brief (i + 1) (after_events p (take i es)) (get_or es i d)) n) (take (i + 1) es) (drop (i + 1) es)
+count_next text brief p n es i d inside =
+    let long : length (take i es) ≡ i = length-take-le i es (omega (arith, inside)) in
+    let e = get_or es i d in
+    ap (count_from text brief p n (take i es)) (drop_more es i d inside)
+    ∙ ap₂ (λ (m : ℕ) done. count_from text brief p (one_more (event_words text brief (m + 1) (after_events p (take i es)) e) n) done (drop (i + 1) es)) long (sym (take_more es i d inside))
+
+-- one column more at most
+pub one_more_few : (words : List ℕ) (n : ℕ) → one_more words n ≤ n + 1
+one_more_few [] n = omega arith
+one_more_few (b ∷ bs) n = omega arith

@@ -42,7 +42,7 @@ told p w t = codes "task " ++ decimal t ++ stand_words p w t
 
 -- the room to the right of the last column
 abbrev pub value_room : Room
-value_room = record { letters = 21; pixels = 139 }
+value_room = record { letters = 21; size = 11 }
 
 -- a value or a code next to the mark of an end, with the name that the text gives it
 abbrev pub named_value : List ℕ → ℕ → ℕ → ℤ → List ℕ
@@ -116,7 +116,7 @@ task_name t scope =
 
 -- the room to the left of the lanes
 abbrev pub call_room : Room
-call_room = record { letters = 31; pixels = 186 }
+call_room = record { letters = 31; size = 10 }
 
 -- its function and the arguments that it was forked with, below
 abbrev pub call_name : List ℕ → Story → ℕ → List ℕ

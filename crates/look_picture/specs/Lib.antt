@@ -6,6 +6,7 @@ pub mod Picture
 pub mod Place
 pub mod Present
 pub mod Style
+pub mod Title
 pub mod Told
 pub mod Windows
 pub mod Words

@@ -1,5 +1,5 @@
 -- A run as a picture: a lane for each task, a column for each event (this project's own).
-use Rattle.std.specs.Prelude.{ℕ, ◌+◌, ◌-◌, ◌*◌, Bool, true, false, if◌then◌else◌, List, ◌∷◌, [], ◌++◌, length, take, drop, codes, Option}
+use Rattle.std.specs.Prelude.{ℕ, ◌+◌, ◌*◌, ◌==◌, Bool, true, false, if◌then◌else◌, List, ◌∷◌, [], ◌++◌, length, take, drop, codes, Option}
 use Rattle.std.specs.Fmt.{decimal}
 use Rattle.sts_code.specs.Program.{Program}
 use Rattle.sts_model.specs.declared.event.End.{End}
@@ -25,11 +25,12 @@ use Rattle.look_picture.specs.Lanes.{lane_names, task_cells}
 use Rattle.look_picture.specs.Place.{column, height, lane, width}
 use Rattle.look_picture.specs.Legend.{keys, legend}
 use Rattle.look_picture.specs.Style.{style}
+use Rattle.look_picture.specs.Title.{title_words}
 use Rattle.look_picture.specs.Told.{event_words}
 use Rattle.look_picture.specs.Windows.{left_out, shown_events}
-use Rattle.look_picture.specs.Windows as windows
+use Rattle.look_picture.specs.declared.title.FileNames.{FileNames}
 use Rattle.look_picture.specs.declared.window.Drawn.{Drawn}
-use Rattle.look_picture.specs.declared.window.Window.{Window}
+use Rattle.look_picture.specs.declared.window.DrawOptions.{DrawOptions}
 use Rattle.look_picture.specs.Words.{next_word, step_word}
 use Rattle.look_picture.specs.Writing.{escaped, fitted_start, mark_at, text_end, text_start}
 use Rattle.look_picture.specs.declared.writing.Room.{Room}
@@ -72,7 +73,7 @@ number_words words digits =
 
 -- the room for a number above its column
 abbrev pub number_room : Room
-number_room = record { letters = 3; pixels = 22 }
+number_room = record { letters = 3; size = 10 }
 
 -- the event's number above the lanes
 abbrev pub number : List ℕ → ℕ → ℕ → List ℕ
@@ -95,23 +96,47 @@ event_column text words before m at a =
     event_number words at a ++ (standing text before m (column at) a.is_counted (shown m.state)
     ++ stepped words before (column at) a.event a.is_counted)
 
--- the columns of these events, if those came before; the first ones have none
-abbrev pub columns_from : List ℕ → Program → ℕ → List Event → List Event → List ℕ
-columns_from text p skipped done [] = []
-columns_from text p skipped done (e ∷ es) =
-    event_column text (event_words text (length done + 1) (after_events p done) e)
-    (watched p done) (watched p (done ++ e ∷ [])) (length done + 1 - skipped) (applied p done e)
-    ++ columns_from text p skipped (done ++ e ∷ []) es
+-- an event after these many columns, unless it has no words
+abbrev pub maybe_column : List ℕ → List ℕ → Watched → Watched → ℕ → Applied → List ℕ
+maybe_column text words before m n a =
+    if length words == 0 then [] else event_column text words before m (n + 1) a
+
+-- the number of columns then
+abbrev pub one_more : List ℕ → ℕ → ℕ
+one_more words n = if length words == 0 then n else n + 1
+
+-- the columns of these events, after n columns and if those events came before
+abbrev pub columns_from : List ℕ → Bool → Program → ℕ → List Event → List Event → List ℕ
+columns_from text brief p n done [] = []
+columns_from text brief p n done (e ∷ es) =
+    maybe_column text (event_words text brief (length done + 1) (after_events p done) e)
+    (watched p done) (watched p (done ++ e ∷ [])) n (applied p done e)
+    ++ columns_from text brief p
+    (one_more (event_words text brief (length done + 1) (after_events p done) e) n)
+    (done ++ e ∷ []) es
+
+-- the number of columns after them
+abbrev pub count_from : List ℕ → Bool → Program → ℕ → List Event → List Event → ℕ
+count_from text brief p n done [] = n
+count_from text brief p n done (e ∷ es) =
+    count_from text brief p
+    (one_more (event_words text brief (length done + 1) (after_events p done) e) n)
+    (done ++ e ∷ []) es
 
 -- the column before the first event that has one; nothing changed there
 abbrev pub first_column : List ℕ → Watched → List ℕ
 first_column text m = standing text m m (column 0) false (shown m.state)
 
--- the column before the first event, and one after each; the first ones are skipped
-abbrev pub columns : List ℕ → Program → ℕ → List Event → List ℕ
-columns text p skipped events =
+-- the column before the first event, and one after each that has words; the first events are skipped
+abbrev pub columns : List ℕ → Bool → Program → ℕ → List Event → List ℕ
+columns text brief p skipped events =
     first_column text (watched p (take skipped events))
-    ++ columns_from text p skipped (take skipped events) (drop skipped events)
+    ++ columns_from text brief p 0 (take skipped events) (drop skipped events)
+
+-- how many events have a column
+abbrev pub count : List ℕ → Bool → Program → ℕ → List Event → ℕ
+count text brief p skipped events =
+    count_from text brief p 0 (take skipped events) (drop skipped events)
 
 -- ---- what stands round them
 
@@ -124,10 +149,11 @@ abbrev pub run_line : List ℕ → Program → PlainState → List ℕ
 run_line text p (plain.Ended end) = end_line text end
 run_line text p state = state_line p state
 
--- the state of the run, the steps that it took, and which events are left out
-abbrev pub heading : List ℕ → Watched → Drawn → List ℕ
-heading text m d =
-    run_line text m.program (shown m.state) ++ (codes " " ++ (steps_line m.steps ++ left_out d))
+-- the files, the state of the run, the steps that it took, and which events are left out
+abbrev pub heading : Option FileNames → List ℕ → Watched → Drawn → List ℕ
+heading files text m d =
+    title_words files
+    ++ (run_line text m.program (shown m.state) ++ (codes " " ++ (steps_line m.steps ++ left_out d)))
 
 unfoldable pub svg_start : ℕ → ℕ → List ℕ
 svg_start wide high =
@@ -135,10 +161,10 @@ svg_start wide high =
     ++ (decimal wide ++ (codes " " ++ (decimal high ++ (codes "' width='" ++ (decimal wide
     ++ (codes "' height='" ++ (decimal high ++ codes "'>\n<title>")))))))
 
--- the size of a picture of these many events, with a heading of these many letters and these many
+-- the size of a picture of these many columns, with a heading of these many letters and these many
 -- keys
 abbrev pub sized : Watched → ℕ → ℕ → ℕ → List ℕ
-sized m events letters keys = svg_start (width events letters) (height (length m.last.tasks) keys)
+sized m columns letters keys = svg_start (width columns letters) (height (length m.last.tasks) keys)
 
 -- the lines of all tasks and scopes
 unfoldable pub standing_lines : Watched → List ℕ
@@ -157,8 +183,8 @@ description m = description_start ++ (standing_lines m ++ description_end)
 
 -- the size, this heading as the title, and all tasks and scopes
 abbrev pub head : List ℕ → Watched → ℕ → ℕ → List ℕ
-head heading m events keys =
-    sized m events (length heading) keys ++ (heading ++ description m)
+head heading m columns keys =
+    sized m columns (length heading) keys ++ (heading ++ description m)
 
 -- the style, and the grid behind the lanes
 abbrev pub grid : List ℕ → ℕ → ℕ → List ℕ
@@ -170,10 +196,10 @@ grid style wide high =
 abbrev pub grid_of : ℕ → ℕ → List ℕ
 grid_of columns tasks = grid style (24 * columns + 24) (52 * tasks)
 
--- the grid, and this heading above it
+-- the grid behind these many columns, and this heading above it
 abbrev pub backdrop : List ℕ → Watched → ℕ → List ℕ
-backdrop heading m events =
-    grid_of events (length m.last.tasks)
+backdrop heading m columns =
+    grid_of columns (length m.last.tasks)
     ++ (text_start (codes "heading") 12 22 ++ (heading ++ text_end))
 
 -- the group of the legend, from this height on
@@ -191,46 +217,50 @@ abbrev pub below : List ℕ → Story → List Mark → List ℕ
 below text s keys =
     lane_names text s (world_of s).tasks 0 ++ foot (length (world_of s).tasks) keys
 
--- these columns of these many events under this heading, between the grid and the legend with these
--- keys
+-- these many columns under this heading, between the grid and the legend with these keys
 abbrev pub framed_under : List ℕ → List ℕ → Story → ℕ → List ℕ → List Mark → List ℕ
-framed_under heading text s events columns keys =
-    head heading s.watched events (length keys)
-    ++ (backdrop heading s.watched events ++ (columns ++ below text s keys))
+framed_under heading text s n columns keys =
+    head heading s.watched n (length keys)
+    ++ (backdrop heading s.watched n ++ (columns ++ below text s keys))
 
--- these columns under the heading, with these keys in the legend
-abbrev pub framed_with : List ℕ → Story → Drawn → List ℕ → List Mark → List ℕ
-framed_with text s d columns keys =
-    framed_under (heading text s.watched d) text s (windows.columns d) columns keys
+-- these many columns under the heading, with these keys in the legend
+abbrev pub framed_with
+    : Option FileNames → List ℕ → Story → Drawn → ℕ → List ℕ → List Mark → List ℕ
+framed_with files text s d n columns keys =
+    framed_under (heading files text s.watched d) text s n columns keys
 
--- these columns in their frame; the legend has the marks that they have
-abbrev pub framed : List ℕ → Story → Drawn → List ℕ → List ℕ
-framed text s d columns = framed_with text s d columns (keys columns)
+-- these many columns in their frame; the legend has the marks that they have
+abbrev pub framed : Option FileNames → List ℕ → Story → Drawn → ℕ → List ℕ → List ℕ
+framed files text s d n columns = framed_with files text s d n columns (keys columns)
 
-unfoldable pub picture : List ℕ → Program → Drawn → List Event → List ℕ
-picture text p d events =
-    framed text (after_events p events) d (columns text p d.before events)
+unfoldable pub picture
+    : Option FileNames → List ℕ → Bool → Program → Drawn → List Event → List ℕ
+picture files text brief p d events =
+    framed files text (after_events p events) d (count text brief p d.before events)
+    (columns text brief p d.before events)
 
 -- the status of the state of a story's run: 0 if the root succeeded, 1 if it failed, otherwise 5
 abbrev pub status_of : Story → ℕ
 status_of s = state_status (shown s.watched.state)
 
 -- the picture of a run of these events, with the lines and the names of the text
-abbrev pub drawn_output : List ℕ → Program → Drawn → List Event → Output
-drawn_output text p d events = record {
-  bytes = picture text p d events;
+abbrev pub drawn_output
+    : Option FileNames → List ℕ → Bool → Program → Drawn → List Event → Output
+drawn_output files text brief p d events = record {
+  bytes = picture files text brief p d events;
   status = status_of (after_events p events);
 }
 
 -- the picture of a run up to the last event that is shown
-abbrev pub picture_output : List ℕ → Program → Option Window → List Event → Output
-picture_output text p window events =
-    drawn_output text p (shown_events window (length events))
-    (take (shown_events window (length events)).last events)
+abbrev pub picture_output
+    : Option FileNames → List ℕ → DrawOptions → Program → List Event → Output
+picture_output files text o p events =
+    drawn_output files text o.brief p (shown_events o.window (length events))
+    (take (shown_events o.window (length events)).last events)
 
-abbrev pub picture_form : List ℕ → Option Window → Form
-picture_form text window = plain_form (λ p events. picture_output text p window events)
+abbrev pub picture_form : Option FileNames → List ℕ → DrawOptions → Form
+picture_form files text o = plain_form (λ p events. picture_output files text o p events)
 
--- what `look draw` prints for a text and a trace, or that memory ran out
-abbrev pub IsPictureOf : Option Window → List ℕ → List ℕ → Output → Type 0
-IsPictureOf window text trace output = IsShownOf (picture_form text window) text trace output
+-- what `look draw` prints for a text and a trace, which may be files, or that memory ran out
+abbrev pub IsPictureOf : DrawOptions → Option FileNames → List ℕ → List ℕ → Output → Type 0
+IsPictureOf o files text trace output = IsShownOf (picture_form files text o) text trace output

@@ -6,7 +6,7 @@ use Rattle.sts_model.specs.declared.record.Entry.TheVariants as entry
 use Rattle.sts_model.specs.Living.{is_closed}
 use Rattle.sts_model.specs.World.{World, scope_at}
 
--- the middle of the n-th event's column; column 0 is before the first event
+-- the middle of the n-th column; column 0 is before the first event
 abbrev pub column : ℕ → ℕ
 column n = 208 + 24 * n
 
@@ -42,9 +42,9 @@ bracket_at owner depth = lane owner + 14 + 9 * min depth 2
 abbrev pub bracket : World → ℕ → ℕ
 bracket w s = bracket_at (scope_at w s).owner (depth w s)
 
--- the width of a picture of these many events, with a heading of these many letters
+-- the width of a picture of these many columns, with a heading of these many letters
 abbrev pub width : ℕ → ℕ → ℕ
-width events letters = max (column events + 168) (max 480 (24 + 9 * letters))
+width columns letters = max (column columns + 168) (max 480 (24 + 9 * letters))
 
 -- the place of a key of the legend, by its number, from the legend's left and from its top; there are
 -- two in a row

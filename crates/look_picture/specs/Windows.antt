@@ -16,10 +16,6 @@ shown_events (Some window) n = record {
   all = n;
 }
 
--- how many events are shown
-abbrev pub columns : Drawn → ℕ
-columns d = d.last - d.before
-
 -- one event is left out
 unfoldable pub one_left_out : ℕ → List ℕ
 one_left_out n = codes " (event " ++ (decimal n ++ codes " left out)\n")

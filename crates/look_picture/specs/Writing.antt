@@ -1,5 +1,5 @@
 -- The elements of a picture, and the escapes of their words (this project's own).
-use Rattle.std.specs.Prelude.{ℕ, List, [], ◌++◌, ◌==◌, nat_lt, length, codes, encode_utf8, if◌then◌else◌}
+use Rattle.std.specs.Prelude.{ℕ, List, [], ◌++◌, ◌*◌, ◌/◌, ◌==◌, nat_lt, max, length, codes, encode_utf8, chars, if◌then◌else◌}
 use Rattle.std.specs.List.{flat_map}
 use Rattle.std.specs.Fmt.{decimal}
 use Rattle.look_picture.specs.declared.marks.Mark.{Mark}
@@ -28,21 +28,27 @@ text_start class x y =
 abbrev pub text_end : List ℕ
 text_end = codes "</text>\n"
 
--- a byte of a text, or its escape if it means something in XML
-abbrev pub escaped_byte : ℕ → List ℕ
-escaped_byte b =
-    if b == 60 then codes "&lt;"
-    else (if b == 62 then codes "&gt;"
-    else (if b == 38 then codes "&amp;" else encode_utf8 b))
+-- a character of a text, or its escape if it means something in XML
+abbrev pub escaped_char : ℕ → List ℕ
+escaped_char c =
+    if c == 60 then codes "&lt;"
+    else (if c == 62 then codes "&gt;"
+    else (if c == 38 then codes "&amp;" else encode_utf8 c))
 
+-- a text of one byte for each character
 abbrev pub escaped : List ℕ → List ℕ
-escaped text = flat_map escaped_byte text
+escaped text = flat_map escaped_char text
 
--- the attributes of words of more letters than their room has: they are pressed into its width
-abbrev pub pressed : ℕ → Room → List ℕ
-pressed letters room =
+-- any text
+abbrev pub escaped_words : List ℕ → List ℕ
+escaped_words text = escaped (chars text)
+
+-- the attribute of words of more letters than their room has: they are written so small that they fit
+abbrev pub shrunk : ℕ → Room → List ℕ
+shrunk letters room =
     if nat_lt room.letters letters
-    then codes " textLength='" ++ decimal room.pixels ++ codes "' lengthAdjust='spacingAndGlyphs'"
+    then codes " style='font-size:" ++ decimal (max 1 (room.letters * room.size / letters))
+    ++ codes "px'"
     else []
 
 -- a text of a class at a point, before its further attributes
@@ -51,12 +57,12 @@ text_place class x y =
     codes "<text class='" ++ class ++ codes "' x='" ++ decimal x
     ++ codes "' y='" ++ decimal y ++ codes "'"
 
--- a text of a class and of these many letters begins at a point, pressed into its room
+-- a text of a class and of these many letters begins at a point, and fits into its room
 abbrev pub fitted_start : List ℕ → ℕ → ℕ → ℕ → Room → List ℕ
 fitted_start class x y letters room =
-    text_place class x y ++ (pressed letters room ++ codes ">")
+    text_place class x y ++ (shrunk letters room ++ codes ">")
 
--- words of a class at a point, pressed into their room
+-- words of a class at a point, which fit into their room
 abbrev pub fitted_text : List ℕ → ℕ → ℕ → List ℕ → Room → List ℕ
 fitted_text class x y words room =
     fitted_start class x y (length words) room ++ (escaped words ++ text_end)

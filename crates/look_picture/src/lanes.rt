@@ -20,13 +20,13 @@ use sts_world::Records;
 /// The room for a value to the right of the last column.
 const VALUE_ROOM: Room = Room {
     letters: 21,
-    pixels: 139,
+    size: 11,
 };
 
 /// The room for a function and its arguments to the left of the lanes.
 const CALL_ROOM: Room = Room {
     letters: 31,
-    pixels: 186,
+    size: 10,
 };
 
 /// The line of a task that lives.

@@ -10,6 +10,7 @@ pub mod picture;
 pub mod place;
 pub mod present;
 mod style;
+mod title;
 mod told;
 pub mod window;
 mod words;
@@ -17,4 +18,5 @@ pub mod writing;
 
 pub use picture::{Picture, draw};
 pub use style::STYLE;
-pub use window::Window;
+pub use title::FileNames;
+pub use window::{DrawOptions, Window};

@@ -1,6 +1,6 @@
 //! A run as a picture: a lane for each task, a column for each event.
 
-ghost use Rattle.std.specs.Prelude.{◌≡◌, ◌++◌, ◌<◌, ◌≤◌, ◌^◌, OnOk, IfOk, length, take, drop, false};
+ghost use Rattle.std.specs.Prelude.{◌≡◌, ◌++◌, ◌<◌, ◌≤◌, ◌-◌, ◌^◌, OnOk, IfOk, length, take, drop, false};
 ghost use Rattle.std.specs.String.{string_bytes};
 ghost use Rattle.sts_code.specs.declared.limits.TheConstants.{MAX_BIRTHS};
 ghost use Rattle.sts_plain.specs.Seen.{shown};
@@ -20,8 +20,9 @@ use crate::marks::Mark;
 use crate::place::{column, height, lane, width};
 use crate::present::Present;
 use crate::style::style;
+use crate::title::{FileNames, say_title};
 use crate::told::event_words;
-use crate::window::{Drawn, Window, left_out, shown_events};
+use crate::window::{DrawOptions, Drawn, left_out, shown_events};
 use crate::words::{next_word, step_word};
 use crate::writing::{Room, escape, fitted_start, mark_end, mark_start, text_end, text_start};
 use look_lines::{Applied, Form, Run, ViewOptions, Watch, after, view_lines, write_run};
@@ -42,7 +43,7 @@ use sts_trace::TraceError;
 /// The room for a number above its column.
 const NUMBER_ROOM: Room = Room {
     letters: 3,
-    pixels: 22,
+    size: 10,
 };
 
 /// All cells of a world in a column, with the changes since the column before.
@@ -228,30 +229,58 @@ fn event_column(
     stepped(out, words, seen, column(at), applied)
 }
 
+/// Draws an event after this many columns, unless it has no words. Returns the number of columns
+/// then.
+fn maybe_column(
+    alloc: Global,
+    out: &mut String,
+    names: &Names<'_>,
+    words: &str,
+    seen: Seen<'_, '_>,
+    columns: usize,
+    applied: Applied,
+) -> Result<usize, AllocError>
+    requires { columns < 2 ^ 64 - 1 }
+    ensures counted { IfOk result (λ n. n ≡ def.one_more words.now columns) }
+    ensures drawn { OnOk result (string_bytes out.new ≡ string_bytes out.old
+        ++ def.maybe_column names.now words.now seen.entry.before.now seen.entry.watch.now
+        columns applied) }
+{
+    if words.len() == 0 {
+        return Ok(columns);
+    }
+    event_column(alloc, out, names, words, seen, columns + 1, applied)?;
+    Ok(columns + 1)
+}
+
 /// Skips the first events, applies the others to a machine and to a story in order, and draws a
-/// column for each.
+/// column for each that has words. Returns the number of columns.
 fn event_columns(
     alloc: Global,
     out: &mut String,
     names: &Names<'_>,
+    brief: bool,
     before: &mut Watch<'_>,
     story: &mut Story<'_>,
     present: &mut Present,
     skipped: usize,
     events: &[Event],
-) -> Result<(), AllocError>
+) -> Result<usize, AllocError>
     requires behind { before.old ≡ watched before.old.program (take skipped events.now) }
     requires told { story.old ≡ after_events before.old.program (take skipped events.now) }
     requires listed { present.old ≡ numbers.present before.old.last }
     requires inside { skipped ≤ length events.now }
     ensures told { OnOk result (story.new ≡ after_events before.old.program events.now) }
+    ensures counted { IfOk result (λ n. n ≡ def.count_from names.now brief before.old.program 0
+        (take skipped events.now) (drop skipped events.now)) }
     ensures drawn { OnOk result (string_bytes out.new ≡ string_bytes out.old
-        ++ def.columns_from names.now before.old.program skipped (take skipped events.now)
+        ++ def.columns_from names.now brief before.old.program 0 (take skipped events.now)
         (drop skipped events.now)) }
 {
+    let mut columns = 0;
     for i in skipped..events.len() {
         let is_counted = story.counts(events[i]);
-        let words = event_words(alloc, names, story, i + 1, events[i])?;
+        let words = event_words(alloc, names, story, brief, i + 1, events[i])?;
         let watch = story.watch();
         present.add_born(before.world().records(), watch.world().records())?;
         let seen = Seen {
@@ -264,19 +293,12 @@ fn event_columns(
             event: events[i],
             is_counted,
         };
-        event_column(
-            alloc,
-            out,
-            names,
-            words.as_str(),
-            seen,
-            i + 1 - skipped,
-            applied,
-        )?;
+        let more = maybe_column(alloc, out, names, words.as_str(), seen, columns, applied)?;
+        columns = more;
         before.apply(alloc, events[i])?;
         present.keep(before.world().records());
     }
-    Ok(())
+    Ok(columns)
 }
 
 /// The column before the first event that has one; nothing changed there.
@@ -300,36 +322,47 @@ fn first_column(
     standing(alloc, out, names, seen, column(0), false)
 }
 
-/// Draws the column before the first event and one after each, but skips the first events. Returns
-/// the story of them all.
+/// The story of the events, and how many of them have a column.
+#[derive(Drop)]
+struct Drawing<'p> {
+    story: Story<'p>,
+    count: usize,
+}
+
+/// Draws the column before the first event and one after each that has words, but skips the first
+/// events.
 fn columns<'p>(
     alloc: Global,
     out: &mut String,
     names: &Names<'_>,
+    brief: bool,
     program: &'p Program,
     skipped: usize,
     events: &[Event],
-) -> Result<Story<'p>, AllocError>
+) -> Result<Drawing<'p>, AllocError>
     requires { skipped ≤ length events.now }
-    ensures told { IfOk result (λ s. s ≡ after_events program.now events.now) }
+    ensures told { IfOk result (λ r. r.story ≡ after_events program.now events.now) }
+    ensures counted { IfOk result (λ r. r.count
+        ≡ def.count names.now brief program.now skipped events.now) }
     ensures drawn { OnOk result (string_bytes out.new
-        ≡ string_bytes out.old ++ def.columns names.now program.now skipped events.now) }
+        ≡ string_bytes out.old ++ def.columns names.now brief program.now skipped events.now) }
 {
     let mut before = after(alloc, program, &events[..skipped])?;
     let mut story = Story::after(alloc, program, &events[..skipped])?;
     let mut present = Present::of(alloc, before.world().records())?;
     first_column(alloc, out, names, &before, &present)?;
-    event_columns(
+    let count = event_columns(
         alloc,
         out,
         names,
+        brief,
         &mut before,
         &mut story,
         &mut present,
         skipped,
         events,
     )?;
-    Ok(story)
+    Ok(Drawing { story, count })
 }
 
 /// The end of a run, with the name of its value or code.
@@ -361,17 +394,20 @@ fn run_line(
     }
 }
 
-/// The state of the run, the steps that it took, and which events are left out.
+/// The files, the state of the run, the steps that it took, and which events are left out.
 fn heading(
     alloc: Global,
+    files: Option<FileNames<'_>>,
     names: &Names<'_>,
     watch: &Watch<'_>,
     drawn: Drawn,
 ) -> Result<String, AllocError>
     requires { drawn.last ≤ drawn.all }
-    ensures { IfOk result (λ words. string_bytes words ≡ def.heading names.now watch.now drawn) }
+    ensures { IfOk result (λ words. string_bytes words
+        ≡ def.heading files.entry names.now watch.now drawn) }
 {
     let mut words = String::new(alloc);
+    say_title(&mut words, files)?;
     run_line(alloc, &mut words, names, watch)?;
     words.push_str(" ")?;
     steps_line(&mut words, watch.steps())?;
@@ -389,21 +425,21 @@ fn svg_start(out: &mut String, wide: u128, high: u64) -> Result<(), AllocError>
     )
 }
 
-/// The size of a picture of these many events, with a heading of these many letters and these many
+/// The size of a picture of these many columns, with a heading of these many letters and these many
 /// keys.
 fn sized(
     out: &mut String,
     watch: &Watch<'_>,
-    events: usize,
+    columns: usize,
     letters: usize,
     keys: usize,
 ) -> Result<(), AllocError>
     requires { keys ≤ MOST_KEYS }
     ensures { OnOk result (string_bytes out.new
-        ≡ string_bytes out.old ++ def.sized watch.now events letters keys) }
+        ≡ string_bytes out.old ++ def.sized watch.now columns letters keys) }
 {
     let tasks = watch.world().records().tasks_born();
-    svg_start(out, width(events, letters), height(tasks, keys))
+    svg_start(out, width(columns, letters), height(tasks, keys))
 }
 
 /// The lines of all tasks and scopes.
@@ -447,14 +483,14 @@ fn head(
     out: &mut String,
     heading: &str,
     watch: &Watch<'_>,
-    events: usize,
+    columns: usize,
     keys: usize,
 ) -> Result<(), AllocError>
     requires { keys ≤ MOST_KEYS }
     ensures { OnOk result (string_bytes out.new
-        ≡ string_bytes out.old ++ def.head heading.now watch.now events keys) }
+        ≡ string_bytes out.old ++ def.head heading.now watch.now columns keys) }
 {
-    sized(out, watch, events, heading.len(), keys)?;
+    sized(out, watch, columns, heading.len(), keys)?;
     out.push_str(heading)?;
     description(out, watch)
 }
@@ -479,18 +515,18 @@ fn grid_of(out: &mut String, columns: usize, tasks: usize) -> Result<(), AllocEr
     grid(out, style(), 24 * columns as u128 + 24, 52 * tasks)
 }
 
-/// The grid, and this heading above it.
+/// The grid behind these many columns, and this heading above it.
 fn backdrop(
     out: &mut String,
     heading: &str,
     watch: &Watch<'_>,
-    events: usize,
+    columns: usize,
 ) -> Result<(), AllocError>
     ensures { OnOk result (string_bytes out.new
-        ≡ string_bytes out.old ++ def.backdrop heading.now watch.now events) }
+        ≡ string_bytes out.old ++ def.backdrop heading.now watch.now columns) }
 {
     let tasks = watch.world().records().tasks_born();
-    grid_of(out, events, tasks)?;
+    grid_of(out, columns, tasks)?;
     text_start(out, "heading", 12, 22)?;
     out.push_str(heading)?;
     text_end(out)
@@ -538,72 +574,85 @@ fn below(
     foot(out, tasks, keys)
 }
 
-/// Puts these columns of these many events under this heading, between the grid and the legend with
-/// these keys.
+/// Puts these many columns under this heading, between the grid and the legend with these keys.
 fn framed_under(
     alloc: Global,
     out: &mut String,
     heading: &str,
     names: &Names<'_>,
     story: &Story<'_>,
-    events: usize,
+    count: usize,
     columns: &str,
     keys: &[Mark],
 ) -> Result<(), AllocError>
     requires { length keys.now ≤ MOST_KEYS }
     ensures { OnOk result (string_bytes out.new ≡ string_bytes out.old
-        ++ def.framed_under heading.now names.now story.now events columns.now keys.now) }
+        ++ def.framed_under heading.now names.now story.now count columns.now keys.now) }
 {
     let watch = story.watch();
-    head(out, heading, watch, events, keys.len())?;
-    backdrop(out, heading, watch, events)?;
+    head(out, heading, watch, count, keys.len())?;
+    backdrop(out, heading, watch, count)?;
     out.push_str(columns)?;
     below(alloc, out, names, story, keys)
 }
 
-/// Puts these columns under the heading, with these keys in the legend.
+/// Puts these many columns under the heading, with these keys in the legend.
 fn framed_with(
     alloc: Global,
     out: &mut String,
+    files: Option<FileNames<'_>>,
     names: &Names<'_>,
     story: &Story<'_>,
     drawn: Drawn,
+    count: usize,
     columns: &str,
     keys: &[Mark],
 ) -> Result<(), AllocError>
     requires ordered { drawn.last ≤ drawn.all }
     requires few { length keys.now ≤ MOST_KEYS }
     ensures { OnOk result (string_bytes out.new ≡ string_bytes out.old
-        ++ def.framed_with names.now story.now drawn columns.now keys.now) }
+        ++ def.framed_with files.entry names.now story.now drawn count columns.now keys.now) }
 {
-    let words = heading(alloc, names, story.watch(), drawn)?;
+    let words = heading(alloc, files, names, story.watch(), drawn)?;
     framed_under(
         alloc,
         out,
         words.as_str(),
         names,
         story,
-        drawn.columns(),
+        count,
         columns,
         keys,
     )
 }
 
-/// Puts these columns between the head, the grid and the legend.
+/// Puts these many columns in their frame. The legend has the marks that they have.
 fn framed(
     alloc: Global,
     out: &mut String,
+    files: Option<FileNames<'_>>,
     names: &Names<'_>,
     story: &Story<'_>,
     drawn: Drawn,
+    count: usize,
     columns: &str,
 ) -> Result<(), AllocError>
     requires { drawn.last ≤ drawn.all }
     ensures { OnOk result (string_bytes out.new ≡ string_bytes out.old
-        ++ def.framed names.now story.now drawn columns.now) }
+        ++ def.framed files.entry names.now story.now drawn count columns.now) }
 {
     let keys = keys(alloc, columns)?;
-    framed_with(alloc, out, names, story, drawn, columns, keys.as_slice())
+    framed_with(
+        alloc,
+        out,
+        files,
+        names,
+        story,
+        drawn,
+        count,
+        columns,
+        keys.as_slice(),
+    )
 }
 
 /// The status of the machine's state.
@@ -616,7 +665,9 @@ fn status_of(story: &Story<'_>) -> u8
 /// The picture of a run of these events, and the status of the machine's last state.
 fn picture_of(
     alloc: Global,
+    files: Option<FileNames<'_>>,
     names: &Names<'_>,
+    brief: bool,
     program: &Program,
     drawn: Drawn,
     events: &[Event],
@@ -624,13 +675,14 @@ fn picture_of(
     requires skips { drawn.before ≤ length events.now }
     requires ordered { drawn.last ≤ drawn.all }
     ensures { IfOk result (λ o. o
-        ≡ def.drawn_output names.now program.now drawn events.now) }
+        ≡ def.drawn_output files.entry names.now brief program.now drawn events.now) }
 {
     let mut columns_text = String::new(alloc);
-    let story = columns(
+    let found = columns(
         alloc,
         &mut columns_text,
         names,
+        brief,
         program,
         drawn.before,
         events,
@@ -639,14 +691,16 @@ fn picture_of(
     framed(
         alloc,
         &mut text,
+        files,
         names,
-        &story,
+        &found.story,
         drawn,
+        found.count,
         columns_text.as_str(),
     )?;
     Ok(Output {
         text,
-        status: status_of(&story),
+        status: status_of(&found.story),
     })
 }
 
@@ -655,17 +709,26 @@ fn picture_of(
 /// shown, with the status of the machine's state there.
 #[derive(Clone, Copy)]
 pub struct Picture<'t> {
-    pub window: Option<Window>,
+    pub options: DrawOptions,
+    pub files: Option<FileNames<'t>>,
     pub text: &'t [u8],
 }
 
 impl<'t> Form for Picture<'t> {
-    ghost shows = { λ picture. def.picture_form picture.text.now picture.window };
+    ghost shows = { λ picture. def.picture_form picture.files picture.text.now picture.options };
 
     fn of_run(&self, alloc: Global, run: Run<'_>) -> Result<Output, AllocError> {
         let names = Names::read(alloc, self.text)?;
-        let shown = shown_events(self.window, run.events.len());
-        picture_of(alloc, &names, run.program, shown, &run.events[..shown.last])
+        let shown = shown_events(self.options.window, run.events.len());
+        picture_of(
+            alloc,
+            self.files,
+            &names,
+            self.options.brief,
+            run.program,
+            shown,
+            &run.events[..shown.last],
+        )
     }
 
     fn of_text_fault(&self, alloc: Global, error: AsmError) -> Result<Output, AllocError> {
@@ -677,8 +740,8 @@ impl<'t> Form for Picture<'t> {
     }
 }
 
-/// Writes the picture of a text's run of a trace, of a window of its events or of the last ones, and
-/// returns the status.
+/// Writes the picture of a text's run of a trace, and returns the status. The heading has the names
+/// of their files, if they are files.
 ///
 /// It takes all its memory before the first byte is written.
 ///
@@ -687,13 +750,19 @@ impl<'t> Form for Picture<'t> {
 /// A write failed.
 pub fn draw<W: io::Write>(
     alloc: Global,
-    window: Option<Window>,
+    options: DrawOptions,
+    files: Option<FileNames<'_>>,
     text: &[u8],
     trace: &[u8],
     out: &mut W,
 ) -> Result<u8, WriteFailed>
-    ensures { IfOk result (λ s. (o : cli.Output) × def.IsPictureOf window text.now trace.now o
+    ensures { IfOk result (λ s. (o : cli.Output) × def.IsPictureOf options files.entry text.now trace.now o
         × cli.Writes (W.contents out.old) (W.contents out.new) s o) }
 {
-    write_run(alloc, &Picture { window, text }, text, trace, out)
+    let picture = Picture {
+        options,
+        files,
+        text,
+    };
+    write_run(alloc, &picture, text, trace, out)
 }

@@ -7,7 +7,7 @@ ghost use Rattle.look_picture.specs.declared.legend.TheConstants.{MOST_KEYS};
 
 use std::cmp;
 
-/// The middle of the n-th event's column. Column 0 is before the first event.
+/// The middle of the n-th column. Column 0 is before the first event.
 pub fn column(n: usize) -> u128
     ensures { result ≡ def.column n }
 {
@@ -42,12 +42,12 @@ pub fn bracket(owner: u32, depth: usize) -> u64
     lane(owner) + 14 + 9 * cmp::min(depth, 2) as u64
 }
 
-/// The width of a picture of `events` events, with a heading of `letters` letters.
-pub fn width(events: usize, letters: usize) -> u128
-    ensures { result ≡ def.width events letters }
+/// The width of a picture of `columns` columns, with a heading of `letters` letters.
+pub fn width(columns: usize, letters: usize) -> u128
+    ensures { result ≡ def.width columns letters }
 {
     cmp::max(
-        column(events) + 168,
+        column(columns) + 168,
         cmp::max(480, 24 + 9 * letters as u128),
     )
 }

@@ -11,22 +11,23 @@ use look_tell::{Story, TellOptions, say_event};
 use std::alloc::{AllocError, Global};
 use sts_model::Event;
 
-/// Appends the lines of an event, and goes on by it.
+/// Appends the lines of an event, if it has any, and goes on by it.
 #[tactic(auto, unfolding(crate::specs::Told::lines))]
 fn say_lines(
     alloc: Global,
     out: &mut Vec<u8>,
     names: &Names<'_>,
     story: &mut Story<'_>,
+    brief: bool,
     number: usize,
     event: Event,
 ) -> Result<(), AllocError>
     ensures after { OnOk result (story.new ≡ next false story.old event) }
     ensures said { OnOk result (out.new.items
-        ≡ out.old.items ++ def.lines names.now number story.old event) }
+        ≡ out.old.items ++ def.lines names.now brief number story.old event) }
 {
     let options = TellOptions {
-        each: true,
+        each: !brief,
         strict: false,
         first: 1,
         last: u32::MAX,
@@ -41,7 +42,8 @@ fn but_last(bytes: &[u8]) -> &[u8]
     &bytes[..bytes.len().saturating_sub(1)]
 }
 
-/// The words of an event. The story goes on by it.
+/// The words of an event. They are empty if the picture is brief and the story in brief doesn't list
+/// the event. The story goes on by it.
 ///
 /// # Errors
 ///
@@ -51,15 +53,16 @@ pub(crate) fn event_words(
     alloc: Global,
     names: &Names<'_>,
     story: &mut Story<'_>,
+    brief: bool,
     number: usize,
     event: Event,
 ) -> Result<String, AllocError>
     ensures after { OnOk result (story.new ≡ next false story.old event) }
     ensures said { IfOk result (λ words. string_bytes words
-        ≡ def.event_words names.now number story.old event) }
+        ≡ def.event_words names.now brief number story.old event) }
 {
     let mut lines = Vec::new(alloc);
-    say_lines(alloc, &mut lines, names, story, number, event)?;
+    say_lines(alloc, &mut lines, names, story, brief, number, event)?;
     let mut words = String::new(alloc);
     escape(&mut words, but_last(lines.as_slice()))?;
     Ok(words)

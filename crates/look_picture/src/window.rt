@@ -18,6 +18,15 @@ pub struct Window {
     pub last: u32,
 }
 
+/// What a picture is asked for.
+#[derive(Clone, Copy, Debug, PartialEq, Eq)]
+pub struct DrawOptions {
+    /// The events that it shows, or the last ones.
+    pub window: Option<Window>,
+    /// Draws only those of them that the story of the run lists.
+    pub brief: bool,
+}
+
 /// The events that a picture shows: those after number `before`, up to number `last`, if there are
 /// `all` in the trace.
 #[derive(Clone, Copy, Debug, PartialEq, Eq)]
@@ -25,15 +34,6 @@ pub struct Drawn {
     pub before: usize,
     pub last: usize,
     pub all: usize,
-}
-
-impl Drawn {
-    /// How many events are shown.
-    pub fn columns(self) -> usize
-        ensures { result ≡ def.columns self }
-    {
-        self.last.saturating_sub(self.before)
-    }
 }
 
 /// Those of a window that are in a trace, or the last ones if no window is given.

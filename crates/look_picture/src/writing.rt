@@ -6,6 +6,7 @@ ghost use Rattle.look_picture.specs.Writing as def;
 
 use crate::marks::Mark;
 use std::alloc::AllocError;
+use std::cmp;
 use std::fmt::Write;
 
 /// A mark at a point, up to the words that describe it.
@@ -40,53 +41,61 @@ pub(crate) fn text_end(out: &mut String) -> Result<(), AllocError>
     writeln!(out, "</text>")
 }
 
-/// A byte of a text, or its escape.
-fn escape_byte(out: &mut String, byte: u8) -> Result<(), AllocError>
-    ensures { OnOk result (string_bytes out.new
-        ≡ string_bytes out.old ++ def.escaped_byte byte) }
+/// A character of a text, or its escape.
+fn escape_char(out: &mut String, c: char) -> Result<(), AllocError>
+    ensures { OnOk result (string_bytes out.new ≡ string_bytes out.old ++ def.escaped_char c) }
 {
-    if byte == b'<' {
+    if c == '<' {
         out.push_str("&lt;")
-    } else if byte == b'>' {
+    } else if c == '>' {
         out.push_str("&gt;")
-    } else if byte == b'&' {
+    } else if c == '&' {
         out.push_str("&amp;")
     } else {
-        out.push(byte as char)
+        out.push(c)
     }
 }
 
-/// A text, with the escapes that XML needs.
-pub(crate) fn escape(out: &mut String, text: &[u8]) -> Result<(), AllocError>
-    ensures { OnOk result (string_bytes out.new ≡ string_bytes out.old ++ def.escaped text.now) }
+/// Any text, with the escapes that XML needs.
+pub(crate) fn escape_words(out: &mut String, text: &str) -> Result<(), AllocError>
+    ensures { OnOk result (string_bytes out.new
+        ≡ string_bytes out.old ++ def.escaped_words text.now) }
 {
-    for byte in text {
-        escape_byte(out, *byte)?;
+    for c in text.chars() {
+        escape_char(out, c)?;
     }
     Ok(())
 }
 
-/// Room for words: how many letters fit, and its width in pixels.
-#[derive(Clone, Copy, Debug, PartialEq, Eq)]
-pub(crate) struct Room {
-    pub(crate) letters: usize,
-    pub(crate) pixels: u32,
+/// A text of one byte for each character, with the escapes that XML needs.
+pub(crate) fn escape(out: &mut String, text: &[u8]) -> Result<(), AllocError>
+    ensures { OnOk result (string_bytes out.new ≡ string_bytes out.old ++ def.escaped text.now) }
+{
+    for byte in text {
+        escape_char(out, *byte as char)?;
+    }
+    Ok(())
 }
 
-/// The attributes of words of more letters than their room has: they are pressed into its width.
-fn press(out: &mut String, letters: usize, room: Room) -> Result<(), AllocError>
+/// Room for words: how many letters fit, if each has this size in pixels.
+#[derive(Clone, Copy, Debug, PartialEq, Eq)]
+pub(crate) struct Room {
+    pub(crate) letters: u32,
+    pub(crate) size: u32,
+}
+
+/// The attribute of words of more letters than their room has: they are written so small that they
+/// fit.
+fn shrink(out: &mut String, letters: usize, room: Room) -> Result<(), AllocError>
     ensures { OnOk result (string_bytes out.new
-        ≡ string_bytes out.old ++ def.pressed letters room) }
+        ≡ string_bytes out.old ++ def.shrunk letters room) }
 {
-    let pixels = room.pixels;
-    if room.letters < letters {
-        write!(
-            out,
-            " textLength='{pixels}' lengthAdjust='spacingAndGlyphs'"
-        )
-    } else {
-        Ok(())
+    if letters <= room.letters as usize {
+        return Ok(());
     }
+    let size = u64::from(room.letters) * u64::from(room.size) / letters as u64;
+    let size = cmp::max(1, size);
+    write!(out, " style='font-size:{size}px'")
 }
 
 /// A text of a class at a point, before its further attributes.
@@ -98,7 +107,7 @@ fn text_place(out: &mut String, class: &str, x: u128, y: u64) -> Result<(), Allo
     write!(out, "<text class='{class}' x='{x}' y='{y}'")
 }
 
-/// A text of a class and of this many letters begins at a point, pressed into its room.
+/// A text of a class and of this many letters begins at a point, and fits into its room.
 pub(crate) fn fitted_start(
     out: &mut String,
     class: &str,
@@ -111,11 +120,11 @@ pub(crate) fn fitted_start(
         ≡ string_bytes out.old ++ def.fitted_start class.now x y letters room) }
 {
     text_place(out, class, x, y)?;
-    press(out, letters, room)?;
+    shrink(out, letters, room)?;
     out.push_str(">")
 }
 
-/// Words of a class at a point, with their escapes, pressed into their room.
+/// Words of a class at a point, with their escapes, which fit into their room.
 pub(crate) fn fitted_text(
     out: &mut String,
     class: &str,

@@ -1,5 +1,5 @@
 -- What is shown of a text, or of a text and a trace (this project's own).
-use Rattle.std.specs.Prelude.{◌≡◌, ◌⊎◌, ℕ, Bool, true, false, List}
+use Rattle.std.specs.Prelude.{◌≡◌, ◌⊎◌, ℕ, Bool, true, false, List, Some}
 use Rattle.clap.specs.Words.{Text}
 use Rattle.sts_output.specs.Output.{Output, memory_output}
 use Rattle.look_picture.specs.Picture.{IsPictureOf}
@@ -33,7 +33,7 @@ IsTold false = IsStoryOf
 abbrev pub Shows : Showing → List ℕ → List ℕ → Output → Type 0
 Shows (showing.View view) = IsViewed view.json view.wanted
 Shows showing.Run = IsRunExplanation
-Shows (showing.Picture window) = IsPictureOf window
+Shows (showing.Picture options files) = IsPictureOf options (Some files)
 Shows (showing.Story story) = IsTold story.json story.wanted
 
 -- what is shown of a text and a trace, which may be in the short form, or that memory ran out

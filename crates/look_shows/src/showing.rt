@@ -7,7 +7,7 @@ ghost use Rattle.look_shows.specs.Showing as def;
 use look_args::asked::{AskedTell, AskedView};
 use look_json::write_stories;
 use look_lines::write_run;
-use look_picture::{Window, draw};
+use look_picture::{DrawOptions, FileNames, draw};
 use look_run::explain_run;
 use look_tell::tell;
 use look_traces::in_full;
@@ -20,20 +20,23 @@ use sts_remarks::Remarks;
 
 /// The output for a text and a trace.
 #[derive(Clone, Copy)]
-pub enum Showing {
+pub enum Showing<'a> {
     View(AskedView),
     Run,
-    Picture(Option<Window>),
+    Picture {
+        options: DrawOptions,
+        files: FileNames<'a>,
+    },
     Story(AskedTell),
 }
 
-impl Showing {
+impl Showing<'_> {
     /// Does the output say where the text or the trace has its fault?
     fn says_faults(self) -> bool {
         match self {
             Showing::Run => true,
             Showing::Story(story) => !story.json,
-            Showing::View(_) | Showing::Picture(_) => false,
+            Showing::View(_) | Showing::Picture { .. } => false,
         }
     }
 
@@ -42,7 +45,7 @@ impl Showing {
         match self {
             Showing::View(view) => view.wanted.each,
             Showing::Run => false,
-            Showing::Picture(_) | Showing::Story(_) => true,
+            Showing::Picture { .. } | Showing::Story(_) => true,
         }
     }
 
@@ -114,18 +117,18 @@ fn show_story<W: Write>(
 /// Writes what is shown of a text and a trace.
 fn show<W: Write>(
     alloc: Global,
-    showing: Showing,
+    showing: Showing<'_>,
     text: &[u8],
     trace: &[u8],
     out: &mut W,
 ) -> Result<u8, WriteFailed>
-    ensures { IfOk result (λ s. (o : Output) × def.Shows showing text.now trace.now o
+    ensures { IfOk result (λ s. (o : Output) × def.Shows showing.entry text.now trace.now o
         × Writes (W.contents out.old) (W.contents out.new) s o) }
 {
     match showing {
         Showing::View(view) => show_view(alloc, view, text, trace, out),
         Showing::Run => explain_run(alloc, text, trace, out),
-        Showing::Picture(window) => draw(alloc, window, text, trace, out),
+        Showing::Picture { options, files } => draw(alloc, options, Some(files), text, trace, out),
         Showing::Story(story) => show_story(alloc, story, text, trace, out),
     }
 }
@@ -137,12 +140,12 @@ fn show<W: Write>(
 /// A write failed.
 pub fn show_in_full<W: Write>(
     alloc: Global,
-    showing: Showing,
+    showing: Showing<'_>,
     text: &[u8],
     trace: &[u8],
     out: &mut W,
 ) -> Result<u8, WriteFailed>
-    ensures { IfOk result (λ s. (o : Output) × def.ShowsInFull showing text.now trace.now o
+    ensures { IfOk result (λ s. (o : Output) × def.ShowsInFull showing.entry text.now trace.now o
         × Writes (W.contents out.old) (W.contents out.new) s o) }
 {
     match in_full(alloc, trace) {

@@ -12,7 +12,7 @@ refused (asked.Mode mode) text trace = inr refl
 refused (asked.View wanted) text trace = inr refl
 refused asked.Explanation text trace = inr refl
 refused asked.RunExplanation text trace = inr refl
-refused asked.Picture text trace = inr refl
+refused (asked.Picture brief) text trace = inr refl
 refused (asked.Ends most) text trace = (alone memory_output, inr refl, refl)
 
 pub returns : goal.returns

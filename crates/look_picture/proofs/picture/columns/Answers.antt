@@ -20,18 +20,25 @@ pub first_column-requires-clause-held : goal.first_column-requires-clause-held
 first_column-requires-clause-held c =
     held_watched c.args.program.now (take c.args.skipped c.args.events.now) c.in_ok-before.before c.in_ok-before.ensures
 
+pub returns-clause-counted : goal.returns-clause-counted
+returns-clause-counted c =
+    let es = c.args.events.now in
+    let n = c.args.skipped in
+    c.in_ok-count.ensures.counted ∙ ap (λ (w : Watched). def.count_from c.args.names.now c.args.brief w.program 0 (take n es) (drop n es)) c.in_ok-before.ensures
+
 pub returns-clause-told : goal.returns-clause-told
 returns-clause-told c =
-    c.in_ok-event_columns.ensures.told ∙ ap (λ (w : Watched). after_events w.program c.args.events.now) c.in_ok-before.ensures
+    c.in_ok-count.ensures.told ∙ ap (λ (w : Watched). after_events w.program c.args.events.now) c.in_ok-before.ensures
 
 pub returns-clause-drawn : goal.returns-clause-drawn
 returns-clause-drawn c =
     let text = c.args.names.now in
+    let brief = c.args.brief in
     let p = c.args.program.now in
     let es = c.args.events.now in
     let n = c.args.skipped in
     let bytes = string_bytes c.args.out.now in
     let start = c.in_ok-before.ensures in
     let first = c.in_ok-first_column.ensures ∙ ap (λ w. bytes ++ def.first_column text w) start in
-    c.in_ok-event_columns.ensures.drawn ∙ ap₂ (λ xs (w : Watched). xs ++ def.columns_from text w.program n (take n es) (drop n es)) first start
-    ∙ append_assoc bytes (def.first_column text (watched p (take n es))) (def.columns_from text p n (take n es) (drop n es))
+    c.in_ok-count.ensures.drawn ∙ ap₂ (λ xs (w : Watched). xs ++ def.columns_from text brief w.program 0 (take n es) (drop n es)) first start
+    ∙ append_assoc bytes (def.first_column text (watched p (take n es))) (def.columns_from text brief p 0 (take n es) (drop n es))

@@ -9,7 +9,7 @@ use Rattle.look_lines.specs.Watched.{Watched, after_event, watched}
 use Rattle.look_lines.specs.declared.watch.Applied.{Applied}
 use Rattle.look_tell.specs.Story.{Story, after_events, next}
 use Rattle.look_tell.proofs.StoryLemmas.{after_next, watched_taken, watched_told}
-use Rattle.look_picture.proofs.Columns.{applied_of, columns_next, numbered, numbered_at}
+use Rattle.look_picture.proofs.Columns.{applied_of, columns_next, count_next, numbered, numbered_at, one_more_few}
 use Rattle.look_picture.proofs.Listing.{kept_shown}
 use Rattle.look_picture.proofs.Watching.{follows_watched, held_watched}
 use Rattle.look_picture.specs.Picture as def
@@ -48,29 +48,30 @@ invariant_of-seen-clause-listed c =
 pub loop-i-preserved : goal.loop-i-preserved
 loop-i-preserved c =
     let text = c.args.names.now in
-    let n = c.args.skipped in
+    let brief = c.args.brief in
     let p = c.args.before.now.program in
     let es = c.args.events.now in
     let l = c.loop-i in
     let i = l.i in
+    let n = l.columns in
     let e = get_or es i (Step 0) in
-    let column = λ (words : List ℕ) (before w : Watched) (a : Applied). def.event_column text words before w (i + 1 - n) a in
     let before = watched p (take i es) in
     let after = watched p (take (i + 1) es) in
-    let line = event_words text (i + 1) (after_events p (take i es)) e in
-    let rest = def.columns_from text p n (take (i + 1) es) (drop (i + 1) es) in
+    let line = event_words text brief (i + 1) (after_events p (take i es)) e in
     let next_seen = watched_next p es i (Step 0) (omega arith) (omega arith) in
     let stands = watched_taken p es i l.story (omega arith) (omega arith) l.invariant.told in
     let watch = c.watch-watch.result.now in
     let made = c.watch-watch.ensures ∙ watched_told p es i e l.story c.event_words.new.story (omega arith) (omega arith) l.invariant.told c.in_ok-words.ensures.after in
     let shown = made ∙ next_seen in
     let behind = c.in_ok-apply.ensures.ok ∙ ap (λ (w : Watched). after_event w e) l.invariant.behind ∙ next_seen in
-    let words = c.as_str.ensures.value ∙ c.in_ok-words.ensures.said ∙ ap (λ (s : Story). event_words text (i + 1) s e) l.invariant.told in
+    let words = c.as_str.ensures.value ∙ c.in_ok-words.ensures.said ∙ ap (λ (s : Story). event_words text brief (i + 1) s e) l.invariant.told in
     let applied = ap (applied_of (i + 1) e) c.counts-is_counted.ensures ∙ ap (λ (w : Watched). numbered_at w (i + 1) e) stands in
     let here =
-    ap (λ (xs : List ℕ). column xs l.before watch (applied_of (i + 1) e c.counts-is_counted.result)) words
-    ∙ ap₂ (λ (b w : Watched). column line b w (applied_of (i + 1) e c.counts-is_counted.result)) l.invariant.behind shown
-    ∙ ap (column line before after) applied in
+    ap (λ (xs : List ℕ). def.maybe_column text xs l.before watch n (applied_of (i + 1) e c.counts-is_counted.result)) words
+    ∙ ap₂ (λ (b w : Watched). def.maybe_column text line b w n (applied_of (i + 1) e c.counts-is_counted.result)) l.invariant.behind shown
+    ∙ ap (def.maybe_column text line before after n) applied in
+    let more = c.in_ok-more.ensures.counted ∙ ap (λ (xs : List ℕ). def.one_more xs n) words in
+    let rest = λ (m : ℕ). def.columns_from text brief p m (take (i + 1) es) (drop (i + 1) es) in
     let w : World = watch.last in
     let same = ap (λ (x : Watched). x.last) (behind ∙ sym shown) in
     let listed =
@@ -85,9 +86,14 @@ loop-i-preserved c =
           ∙ ap₂ (λ (m : Numbers) (v : World). numbers.kept m v) listed (c.records-in-loop-i-2.ensures ∙ c.world-in-loop-i-2.ensures ∙ same)
           ∙ kept_shown l.before.last w (follows_watched p (take i es) e l.before watch l.invariant.behind made)
           ∙ ap numbers.present (sym same);
+      few = let step = one_more_few line n in omega (arith, more, step);
+      counted =
+          ap (λ (m : ℕ). def.count_from text brief p m (take (i + 1) es) (drop (i + 1) es)) more
+          ∙ sym (count_next text brief p n es i (Step 0) (omega arith))
+          ∙ l.invariant.counted;
       drawn =
-          ap (λ xs. xs ++ rest) (c.in_ok-event_column.ensures ∙ ap (λ xs. string_bytes l.out ++ xs) here)
-          ∙ append_assoc (string_bytes l.out) (column line before after (numbered p (take i es) (i + 1) e)) rest
-          ∙ ap (λ xs. string_bytes l.out ++ xs) (sym (columns_next text p n es i (Step 0) (omega arith)))
+          ap₂ (λ (xs : List ℕ) (m : ℕ). xs ++ rest m) (c.in_ok-more.ensures.drawn ∙ ap (λ xs. string_bytes l.out ++ xs) here) more
+          ∙ append_assoc (string_bytes l.out) (def.maybe_column text line before after n (numbered p (take i es) (i + 1) e)) (rest (def.one_more line n))
+          ∙ ap (λ xs. string_bytes l.out ++ xs) (sym (columns_next text brief p n es i (Step 0) (omega arith)))
           ∙ l.invariant.drawn;
     }
