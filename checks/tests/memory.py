@@ -158,6 +158,12 @@ EXPLAINED = [
         4,
     ),
     (
+        "the name of a line",
+        "func main 0 / open s0 awaitall / close s0 ;= Orders.java:20 / push 1 / ret / end",
+        "refused V12 in main, line 3: close s0 (Orders.java:20) / join this scope before you close it",
+        4,
+    ),
+    (
         "too many steps",
         "func main 0 / push 499 / times 499 / push 2001 / times 2001 / next / next / push 0 / push 0 / ret / end",
         "refused V17 in main, at its end / some path takes more than 1000000 steps: lower a bound of times, or fork fewer subtasks / "

@@ -1,3 +1,4 @@
 pub mod Marks
 pub mod Faults
+pub mod Named
 pub mod Reports

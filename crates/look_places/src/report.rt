@@ -8,10 +8,10 @@ ghost use Rattle.sts_code.specs.Program.{Program as AnyProgram};
 ghost use Rattle.sts_output.specs.Output as cli;
 ghost use Rattle.sts_rules.specs.Refusal.{IsAccepted, IsRefusal};
 ghost use Rattle.sts_text.specs.Words.{lines};
-ghost use Rattle.look_refusal.specs.Output.{IsExplanation};
 ghost use Rattle.look_places.specs.Marks.{line_of};
 ghost use Rattle.look_places.specs.Reports as def;
 
+use crate::explained::explained;
 use crate::faults::{fault_code, fault_line};
 use crate::marks::Source;
 use crate::reporting::say_reported;
@@ -19,7 +19,7 @@ use crate::rules::{outline_of, say_rules};
 use crate::ways::say_ways;
 use look_accepted::{Note, all_notes};
 use look_names::Names;
-use look_refusal::{Explanation, explain};
+use look_refusal::Explanation;
 use look_text::fault_lines;
 use std::alloc::{AllocError, Global};
 use std::io::Write;
@@ -55,17 +55,6 @@ fn faulty(
         explained.as_slice(),
     )?;
     Ok(Explanation { bytes, status: 3 })
-}
-
-/// What `explain` prints of a text.
-fn explained(alloc: Global, source: &Source<'_, '_>) -> Result<Explanation, AllocError>
-    ensures { IfOk result (λ o. IsExplanation source.now.text o) }
-{
-    let mut bytes = Vec::new(alloc);
-    match explain(alloc, source.text(), &mut bytes) {
-        Ok(status) => Ok(Explanation { bytes, status }),
-        Err(_) => Err(AllocError),
-    }
 }
 
 /// The explanation, unless it says that memory ran out.
@@ -119,7 +108,7 @@ fn refused(
     requires { IsRefusal program.now function pc cause }
     ensures { IfOk result (λ o. def.IsRefused source.now program.now o) }
 {
-    let printed = explained(alloc, source)?;
+    let printed = explained(alloc, source.text())?;
     let told = whole(printed)?;
     let mut bytes = refusal_lines(alloc, source, function, pc, cause, &told)?;
     say_ways(alloc, &mut bytes, source, program, function, pc, cause)?;

@@ -3,8 +3,8 @@ use Rattle.std.specs.Prelude.{◌≡◌, ◌⊎◌, ℕ, Bool, true, false, List
 use Rattle.clap.specs.Words.{Text}
 use Rattle.sts_output.specs.Output.{Output, memory_output}
 use Rattle.look_picture.specs.Picture.{IsPictureOf}
+use Rattle.look_places.specs.Named.{IsNamedExplanation}
 use Rattle.look_places.specs.Reports.{IsReport}
-use Rattle.look_refusal.specs.Output.{IsExplanation}
 use Rattle.look_run.specs.Output.{IsRunExplanation}
 use Rattle.look_json.specs.Explained.{IsExplainedBy}
 use Rattle.look_json.specs.Stories.{AreStoriesOf}
@@ -42,6 +42,6 @@ ShowsInFull s text trace o = Shows s text (full_trace trace) o ⊎ (o ≡ memory
 
 -- what is wrong with the text of a file
 abbrev pub IsExplainedIn : ExplainForm → Text → List ℕ → Output → Type 0
-IsExplainedIn Words file text o = IsExplanation text o
+IsExplainedIn Words file text o = IsNamedExplanation text o
 IsExplainedIn Places file text o = IsReport (record { file = file; text = text }) o
 IsExplainedIn Json file text o = IsExplainedBy text o

@@ -6,8 +6,7 @@ ghost use Rattle.look_shows.specs.Showing as def;
 
 use look_args::asked::ExplainForm;
 use look_json::write_explained;
-use look_places::write_places;
-use look_refusal::explain;
+use look_places::{write_named, write_places};
 use std::alloc::Global;
 use std::io::Write;
 use sts_output::WriteFailed;
@@ -28,7 +27,7 @@ pub fn explain_in<W: Write>(
         × Writes (W.contents out.old) (W.contents out.new) s o) }
 {
     match form {
-        ExplainForm::Words => explain(alloc, text, out),
+        ExplainForm::Words => write_named(alloc, text, out),
         ExplainForm::Places => write_places(alloc, path, text, out),
         ExplainForm::Json => write_explained(alloc, text, out),
     }

@@ -10,6 +10,7 @@ returns c =
     let s = c.args.source.now in
     let p = c.args.program.now in
     let bytes : List ℕ = c.say_ways.new.out.items in
-    let words = subst (λ (o : Output). IsExplanation s.text o) (sym c.in_ok-told.ensures.same) c.in_ok-printed.ensures in
+    let printed = subst (λ (t : List ℕ). IsExplanation t c.in_ok-printed.printed) c.text.ensures c.in_ok-printed.ensures in
+    let words = subst (λ (o : Output). IsExplanation s.text o) (sym c.in_ok-told.ensures.same) printed in
     refused_as s p c.args.function c.args.pc c.args.cause c.in_ok-told.told bytes c.requires words c.in_ok-told.ensures.whole
     (subst (λ (b : List ℕ). AddsWays s p c.args.function c.args.pc c.args.cause b bytes) c.in_ok-bytes.ensures c.in_ok-say_ways.ensures)

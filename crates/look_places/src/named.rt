@@ -1,0 +1,183 @@
+//! An explanation with the names of the lines that it mentions.
+
+ghost use Rattle.std.specs.Prelude.{◌≡◌, ◌++◌, IfOk, OnOk, false};
+ghost use Rattle.std.specs.List.{before_first, position};
+ghost use Rattle.sts_output.specs.Output as cli;
+ghost use Rattle.sts_text.specs.Words.{lines};
+ghost use Rattle.look_places.specs.Named as def;
+
+use crate::explained::explained;
+use look_names::Names;
+use look_refusal::Explanation;
+use look_text::say;
+use std::alloc::{AllocError, Global};
+use std::io::Write;
+use sts_output::{TakeError, WriteFailed, failed, written};
+use sts_text::{Words, cut_at_newline, digits_up_to};
+
+/// The status for a fault of a text.
+const FAULTY: u8 = 3;
+
+fn is_other(b: u8) -> bool
+    ensures { result ≡ def.is_other b }
+{
+    !b.is_ascii_digit()
+}
+
+fn other_in(word: &[u8]) -> Option<usize>
+    ensures { result ≡ position def.is_other word.now }
+{
+    word.iter().position(|b| is_other(*b))
+}
+
+/// The digits that a word begins with.
+#[tactic(auto, using(sts_text::proofs::WordLemmas::positions))]
+fn digits_in(word: &[u8]) -> &[u8]
+    ensures { result.now ≡ before_first def.is_other word.now }
+{
+    match other_in(word) {
+        Some(end) => &word[..end],
+        None => word,
+    }
+}
+
+fn number_in(word: &[u8]) -> Option<u32>
+    ensures { result ≡ def.number_in word.now }
+{
+    digits_up_to(digits_in(word), u32::MAX)
+}
+
+/// ` (NAME)`, if the line of the number that a word begins with has a name.
+fn say_name(out: &mut Vec<u8>, names: &Names<'_>, word: &[u8]) -> Result<(), AllocError>
+    ensures { OnOk result (out.new.items ≡ out.old.items ++ def.name_by names.now word.now) }
+{
+    let Some(line) = number_in(word) else {
+        return Ok(());
+    };
+    let Some(name) = names.line(line) else {
+        return Ok(());
+    };
+    say(out, " (")?;
+    say(out, name)?;
+    say(out, ")")
+}
+
+fn say_name_if(
+    out: &mut Vec<u8>,
+    names: &Names<'_>,
+    is_number: bool,
+    word: &[u8],
+) -> Result<(), AllocError>
+    ensures { OnOk result (out.new.items
+        ≡ out.old.items ++ def.name_if names.now is_number word.now) }
+{
+    if is_number {
+        say_name(out, names, word)
+    } else {
+        Ok(())
+    }
+}
+
+/// Appends the names of the lines that these words mention.
+fn say_names<'a>(out: &mut Vec<u8>, names: &Names<'_>, words: Words<'a>) -> Result<(), AllocError>
+    ensures { OnOk result (out.new.items
+        ≡ out.old.items ++ def.names_in names.now false words.entry) }
+{
+    let mut left = words;
+    let mut is_number = false;
+    while let Some(word) = left.word() {
+        say_name_if(out, names, is_number, word)?;
+        is_number = word == b"line".as_slice();
+    }
+    Ok(())
+}
+
+fn say_line(out: &mut Vec<u8>, names: &Names<'_>, line: &[u8]) -> Result<(), AllocError>
+    ensures { OnOk result (out.new.items ≡ out.old.items ++ def.named_line names.now line.now) }
+{
+    out.extend_from_slice(line)?;
+    say_names(out, names, Words::new(line))?;
+    say(out, "\n")
+}
+
+fn say_line_if(out: &mut Vec<u8>, names: &Names<'_>, line: &[u8]) -> Result<(), AllocError>
+    ensures { OnOk result (out.new.items ≡ out.old.items ++ def.named_if names.now line.now) }
+{
+    if line.is_empty() {
+        Ok(())
+    } else {
+        say_line(out, names, line)
+    }
+}
+
+/// Appends lines, each with the names of the lines that it mentions.
+fn say_lines(out: &mut Vec<u8>, names: &Names<'_>, told: &[u8]) -> Result<(), AllocError>
+    ensures { OnOk result (out.new.items
+        ≡ out.old.items ++ def.named_lines names.now (lines told.now)) }
+{
+    let mut rest = told;
+    while let Some((line, after)) = cut_at_newline(rest) {
+        say_line_if(out, names, line)?;
+        rest = after;
+    }
+    say_line_if(out, names, rest)
+}
+
+/// The lines of an explanation with names.
+fn with_names(alloc: Global, text: &[u8], told: &[u8]) -> Result<Vec<u8>, AllocError>
+    ensures { IfOk result (λ b. b.items ≡ def.named_lines text.now (lines told.now)) }
+{
+    let names = Names::read(alloc, text)?;
+    let mut bytes = Vec::new(alloc);
+    say_lines(&mut bytes, &names, told)?;
+    Ok(bytes)
+}
+
+/// An explanation with names; a fault of the text has none.
+fn named(alloc: Global, text: &[u8], told: &Explanation) -> Result<Explanation, AllocError>
+    ensures { IfOk result (λ o. o ≡ record {
+      bytes = def.named_lines text.now (lines told.now.bytes);
+      status = told.now.status;
+    }) }
+{
+    let bytes = with_names(alloc, text, told.bytes.as_slice())?;
+    Ok(Explanation {
+        bytes,
+        status: told.status,
+    })
+}
+
+fn named_if(alloc: Global, text: &[u8], told: Explanation) -> Result<Explanation, AllocError>
+    ensures { IfOk result (λ o. o ≡ def.named text.now told) }
+{
+    if told.status == FAULTY {
+        Ok(told)
+    } else {
+        named(alloc, text, &told)
+    }
+}
+
+fn named_of(alloc: Global, text: &[u8]) -> Result<Explanation, AllocError>
+    ensures { IfOk result (def.IsNamed text.now) }
+{
+    let told = explained(alloc, text)?;
+    named_if(alloc, text, told)
+}
+
+/// Writes what is wrong with a text, if anything is, with the names of the lines that it mentions,
+/// and gives the status that `sts verify` gives.
+///
+/// It takes all its memory before the first byte is written.
+///
+/// # Errors
+///
+/// A write failed.
+pub fn write_named<W: Write>(alloc: Global, text: &[u8], out: &mut W) -> Result<u8, WriteFailed>
+    ensures { IfOk result (λ s. (o : cli.Output) × def.IsNamedExplanation text.now o
+        × cli.Writes (W.contents out.old) (W.contents out.new) s o) }
+{
+    match named_of(alloc, text) {
+        Ok(output) => written(out, output.bytes.as_slice(), output.status),
+        Err(_) => failed(TakeError::Memory, out),
+    }
+}
