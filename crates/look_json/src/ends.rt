@@ -11,14 +11,12 @@ ghost use Rattle.look_views.specs.Views.{faulty, line, text_line};
 ghost use Rattle.look_json.specs.Ends as def;
 
 use crate::lines::{VERSION, push_line};
-use crate::stories::FAULTS;
 use ends_plain::config::{Found, Setting};
 use ends_plain::sample::Sample;
 use look_ends::{Answer, EndsForm, has_number, times_at};
-use look_lines::Form;
 use look_names::Names;
 use look_refusal::{ExplainError, Explanation};
-use look_views::{line_at, placed, with_name};
+use look_views::{faulty_text, line_at, placed, with_name};
 use serde_json::{Value, json};
 use std::alloc::{AllocError, Global};
 use sts_asm::{AsmError, assemble};
@@ -309,7 +307,7 @@ fn fault_shown(alloc: Global, error: AsmError) -> Result<Explanation, AllocError
     ensures { (read : Result AnyProgram AsmError) → FailsAt error error.kind read
         → IfOk result (λ o. (read ≡ Err error) × (o ≡ faulty (text_line error))) }
 {
-    let output = FAULTS.of_text_fault(alloc, error)?;
+    let output = faulty_text(alloc, error)?;
     Ok(Explanation {
         bytes: output.text.into_bytes(),
         status: output.status,

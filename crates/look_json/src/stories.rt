@@ -11,25 +11,15 @@ ghost use Rattle.look_json.specs.Stories as def;
 
 use crate::explained::{whole, with_status};
 use crate::lines::say_lines;
-use look_lines::{Form, ViewOptions};
 use look_refusal::Explanation;
 use look_tell::{TellOptions, tell};
-use look_views::JsonViews;
+use look_views::{faulty_text, faulty_trace};
 use std::alloc::{AllocError, Global};
 use std::io::Write;
 use sts_asm::assemble;
 use sts_model::Event;
 use sts_output::{Output, TakeError, WriteFailed, failed, written};
 use sts_trace::read_trace;
-
-/// The form of a fault.
-pub(crate) const FAULTS: JsonViews = JsonViews {
-    wanted: ViewOptions {
-        each: false,
-        full: false,
-        living: false,
-    },
-};
 
 /// What `tell` prints.
 fn story_of(
@@ -82,7 +72,7 @@ fn of_trace(
 {
     match read_trace(alloc, trace) {
         Ok(events) => of_events(alloc, options, text, trace, events.as_slice()),
-        Err(error) => FAULTS.of_trace_fault(alloc, error),
+        Err(error) => faulty_trace(alloc, error),
     }
 }
 
@@ -96,7 +86,7 @@ fn told(
 {
     match assemble(alloc, text) {
         Ok(_) => of_trace(alloc, options, text, trace),
-        Err(error) => FAULTS.of_text_fault(alloc, error),
+        Err(error) => faulty_text(alloc, error),
     }
 }
 

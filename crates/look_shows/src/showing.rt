@@ -6,13 +6,12 @@ ghost use Rattle.look_shows.specs.Showing as def;
 
 use look_args::asked::{AskedTell, AskedView};
 use look_json::write_stories;
-use look_lines::write_run;
 use look_picture::{DrawOptions, FileNames, draw};
 use look_run::explain_run;
 use look_tell::tell;
 use look_traces::in_full;
 use look_view::write_view;
-use look_views::JsonViews;
+use look_views::write_views;
 use std::alloc::Global;
 use std::io::Write;
 use sts_output::{Events, Named, TakeError, WriteFailed, failed};
@@ -86,10 +85,7 @@ fn show_view<W: Write>(
         × Writes (W.contents out.old) (W.contents out.new) s o) }
 {
     if view.json {
-        let views = JsonViews {
-            wanted: view.wanted,
-        };
-        write_run(alloc, &views, text, trace, out)
+        write_views(alloc, view.wanted, text, trace, out)
     } else {
         write_view(alloc, view.wanted, text, trace, out)
     }

@@ -30,6 +30,8 @@ use Rattle.look_lines.specs.Lines.{is_heard, keys}
 use Rattle.look_lines.specs.Watched.{Watched}
 use Rattle.look_lines.specs.declared.view.ViewOptions.{ViewOptions}
 use Rattle.look_lines.specs.declared.watch.Applied.{Applied}
+use Rattle.look_names.specs.Names.{value_name}
+use Rattle.look_views.proofs.NamedFloats.{named_plain, placed_plain}
 use Rattle.look_views.specs.Scope as scope
 use Rattle.look_views.specs.Task as task
 use Rattle.look_views.specs.Views as def
@@ -44,19 +46,19 @@ waiting_plain : (stand : Stand) → has_float (task.waiting stand) ≡ false
 waiting_plain Free = refl
 waiting_plain _ = refl
 
-ended_plain : (heard : Bool) (end : Option End) → has_float (task.ended heard end) ≡ false
-ended_plain heard None = refl
-ended_plain heard (Some (Success v)) = or_from _ _ (integer_plain v) refl
-ended_plain heard (Some (Failed c)) = or_from _ _ (integer_plain c) refl
+ended_plain : (text : List ℕ) (heard : Bool) (end : Option End) → has_float (task.ended text heard end) ≡ false
+ended_plain text heard None = refl
+ended_plain text heard (Some (Success v)) = named_plain _ (value_name text v) _ (or_from _ _ (integer_plain v) refl)
+ended_plain text heard (Some (Failed c)) = named_plain _ (value_name text c) _ (or_from _ _ (integer_plain c) refl)
 
-rest_plain : (w : World) (t : ℕ) → has_float (task.rest w t) ≡ false
-rest_plain w t = either_plain (task_at w t).started _ _ (ended_plain (is_heard w t (task_at w t).scope) (task_at w t).outcome) refl
+rest_plain : (text : List ℕ) (w : World) (t : ℕ) → has_float (task.rest text w t) ≡ false
+rest_plain text w t = either_plain (task_at w t).started _ _ (ended_plain text (is_heard w t (task_at w t).scope) (task_at w t).outcome) refl
 
-state_plain : (p : Program) (w : World) (t : ℕ) → has_float (task.state p w t) ≡ false
-state_plain p w t =
+state_plain : (text : List ℕ) (p : Program) (w : World) (t : ℕ) → has_float (task.state text p w t) ≡ false
+state_plain text p w t =
     either_plain (lives (task_at w t)) _ _
     (either_plain (can_step p w t) _ _ refl (waiting_plain (stand_at p w t)))
-    (rest_plain w t)
+    (rest_plain text w t)
 
 integers_plain : (zs : List ℤ) → items_have_float (items_of (task.integers zs)) ≡ false
 integers_plain [] = refl
@@ -76,11 +78,11 @@ frame_plain w t =
     (or_from _ _ (integers_plain (task_at w t).frame.locals)
     (or_from _ _ (integers_plain (reverse (task_at w t).frame.operands)) refl))
 
-brief_plain : (p : Program) (w : World) (t : ℕ) → has_float (task.brief p w t) ≡ false
-brief_plain p w t = or_from _ _ (state_plain p w t) (or_from _ _ (maybe_plain (task_at w t).scope) refl)
+brief_plain : (text : List ℕ) (p : Program) (w : World) (t : ℕ) → has_float (task.brief text p w t) ≡ false
+brief_plain text p w t = or_from _ _ (state_plain text p w t) (or_from _ _ (maybe_plain (task_at w t).scope) refl)
 
-whole_plain : (p : Program) (w : World) (t : ℕ) → has_float (task.whole p w t) ≡ false
-whole_plain p w t = or_from _ _ (frame_plain w t) (brief_plain p w t)
+whole_plain : (text : List ℕ) (p : Program) (w : World) (t : ℕ) → has_float (task.whole text p w t) ≡ false
+whole_plain text p w t = or_from _ _ (frame_plain w t) (brief_plain text p w t)
 
 -- one value more, if there is one
 more_plain : (b : Bool) (x : Data) (ds : List Data) → has_float x ≡ false → items_have_float (items_of ds) ≡ false → items_have_float (items_of ((if b then x ∷ [] else []) ++ ds)) ≡ false
@@ -91,70 +93,77 @@ unless_plain : (b : Bool) (x : Data) (ds : List Data) → has_float x ≡ false 
 unless_plain true x ds h k = k
 unless_plain false x ds h k = or_from _ _ h k
 
-task_plain : (p : Program) (full : Bool) (w : World) (t : ℕ) → has_float (task.task p full w t) ≡ false
-task_plain p full w t = either_plain (full && lives (task_at w t)) _ _ (whole_plain p w t) (brief_plain p w t)
+plain_task_plain : (text : List ℕ) (p : Program) (full : Bool) (w : World) (t : ℕ) → has_float (task.plain_task text p full w t) ≡ false
+plain_task_plain text p full w t = either_plain (full && lives (task_at w t)) _ _ (whole_plain text p w t) (brief_plain text p w t)
 
-tasks_plain : (p : Program) (full : Bool) (w : World) (ts : List Task) (t : ℕ) → items_have_float (items_of (task.tasks p full w ts t)) ≡ false
-tasks_plain p full w [] t = refl
-tasks_plain p full w (x ∷ xs) t =
-    or_from _ _ (task_plain p full w t) (tasks_plain p full w xs (t + 1))
+task_plain : (text : List ℕ) (p : Program) (full : Bool) (w : World) (t : ℕ) → has_float (task.task text p full w t) ≡ false
+task_plain text p full w t = placed_plain text (task_at w t).frame.function (task.shown_place (task_at w t)) _ (plain_task_plain text p full w t)
 
-living_tasks_plain : (p : Program) (full : Bool) (w : World) (ts : List Task) (t : ℕ) → items_have_float (items_of (task.living_tasks p full w ts t)) ≡ false
-living_tasks_plain p full w [] t = refl
-living_tasks_plain p full w (x ∷ xs) t =
-    more_plain (lives (task_at w t)) (task.task p full w t) (task.living_tasks p full w xs (t + 1))
-    (task_plain p full w t) (living_tasks_plain p full w xs (t + 1))
+tasks_plain : (text : List ℕ) (p : Program) (full : Bool) (w : World) (ts : List Task) (t : ℕ) → items_have_float (items_of (task.tasks text p full w ts t)) ≡ false
+tasks_plain text p full w [] t = refl
+tasks_plain text p full w (x ∷ xs) t =
+    or_from _ _ (task_plain text p full w t) (tasks_plain text p full w xs (t + 1))
+
+living_tasks_plain : (text : List ℕ) (p : Program) (full : Bool) (w : World) (ts : List Task) (t : ℕ) → items_have_float (items_of (task.living_tasks text p full w ts t)) ≡ false
+living_tasks_plain text p full w [] t = refl
+living_tasks_plain text p full w (x ∷ xs) t =
+    more_plain (lives (task_at w t)) (task.task text p full w t) (task.living_tasks text p full w xs (t + 1))
+    (task_plain text p full w t) (living_tasks_plain text p full w xs (t + 1))
 
 -- ---- a scope
 
-told_by_plain : (t : ℕ) (end : End) → has_float (scope.told_by t end) ≡ false
-told_by_plain t (Success v) = or_from _ _ (integer_plain v) refl
-told_by_plain t (Failed c) = or_from _ _ (integer_plain c) refl
+told_by_plain : (text : List ℕ) (t : ℕ) (end : End) → has_float (scope.told_by text t end) ≡ false
+told_by_plain text t (Success v) = named_plain _ (value_name text v) _ (or_from _ _ (integer_plain v) refl)
+told_by_plain text t (Failed c) = named_plain _ (value_name text c) _ (or_from _ _ (integer_plain c) refl)
 
-told_plain : (cs : List Completion) → items_have_float (items_of (scope.told_ends cs)) ≡ false
-told_plain [] = refl
-told_plain (c ∷ cs) = or_from _ _ (told_by_plain c.task c.end) (told_plain cs)
+told_plain : (text : List ℕ) (cs : List Completion) → items_have_float (items_of (scope.told_ends text cs)) ≡ false
+told_plain text [] = refl
+told_plain text (c ∷ cs) = or_from _ _ (told_by_plain text c.task c.end) (told_plain text cs)
 
-scope_plain : (full : Bool) (w : World) (s : ℕ) → has_float (scope.scope full s (scope_at w s)) ≡ false
-scope_plain full w s = either_plain full _ _ (or_from _ _ (told_plain (scope_at w s).completions) refl) refl
+scope_plain : (text : List ℕ) (full : Bool) (w : World) (s : ℕ) → has_float (scope.scope text full s (scope_at w s)) ≡ false
+scope_plain text full w s = either_plain full _ _ (or_from _ _ (told_plain text (scope_at w s).completions) refl) refl
 
-scopes_plain : (full : Bool) (w : World) (ss : List Scope) (s : ℕ) → items_have_float (items_of (scope.scopes full w ss s)) ≡ false
-scopes_plain full w [] s = refl
-scopes_plain full w (x ∷ xs) s =
-    or_from _ _ (scope_plain full w s) (scopes_plain full w xs (s + 1))
+scopes_plain : (text : List ℕ) (full : Bool) (w : World) (ss : List Scope) (s : ℕ) → items_have_float (items_of (scope.scopes text full w ss s)) ≡ false
+scopes_plain text full w [] s = refl
+scopes_plain text full w (x ∷ xs) s =
+    or_from _ _ (scope_plain text full w s) (scopes_plain text full w xs (s + 1))
 
-open_scopes_plain : (full : Bool) (w : World) (ss : List Scope) (s : ℕ) → items_have_float (items_of (scope.open_scopes full w ss s)) ≡ false
-open_scopes_plain full w [] s = refl
-open_scopes_plain full w (x ∷ xs) s =
-    unless_plain (is_closed (scope_at w s).phase) (scope.scope full s (scope_at w s)) (scope.open_scopes full w xs (s + 1))
-    (scope_plain full w s) (open_scopes_plain full w xs (s + 1))
+open_scopes_plain : (text : List ℕ) (full : Bool) (w : World) (ss : List Scope) (s : ℕ) → items_have_float (items_of (scope.open_scopes text full w ss s)) ≡ false
+open_scopes_plain text full w [] s = refl
+open_scopes_plain text full w (x ∷ xs) s =
+    unless_plain (is_closed (scope_at w s).phase) (scope.scope text full s (scope_at w s)) (scope.open_scopes text full w xs (s + 1))
+    (scope_plain text full w s) (open_scopes_plain text full w xs (s + 1))
 
 -- ---- a view
 
-run_plain : (p : Program) (state : PlainState) (steps : ℕ) → has_float (def.run p state steps) ≡ false
-run_plain p plain.Running steps = refl
-run_plain p (plain.Ended end) steps = answers.ended_plain end steps
-run_plain p (plain.Fault kind task f pc) steps = refl
+end_plain : (text : List ℕ) (end : End) (steps : ℕ) → has_float (def.named_end text end steps) ≡ false
+end_plain text (Success v) steps = named_plain _ (value_name text v) _ (answers.ended_plain (Success v) steps)
+end_plain text (Failed c) steps = named_plain _ (value_name text c) _ (answers.ended_plain (Failed c) steps)
 
-whole_state_plain : (full : Bool) (n : ℕ) (m : Watched) → has_float (def.whole_state full n m) ≡ false
-whole_state_plain full n m =
-    or_from _ _ (run_plain m.program (shown m.state) m.steps)
-    (or_from _ _ (scopes_plain full m.last m.last.scopes 0)
-    (or_from _ _ (tasks_plain m.program full m.last m.last.tasks 0) refl))
+run_plain : (text : List ℕ) (p : Program) (state : PlainState) (steps : ℕ) → has_float (def.run text p state steps) ≡ false
+run_plain text p plain.Running steps = refl
+run_plain text p (plain.Ended end) steps = end_plain text end steps
+run_plain text p (plain.Fault kind task f pc) steps = placed_plain text f pc _ refl
 
-living_state_plain : (full : Bool) (n : ℕ) (m : Watched) → has_float (def.living_state full n m) ≡ false
-living_state_plain full n m =
-    or_from _ _ (run_plain m.program (shown m.state) m.steps)
-    (or_from _ _ (open_scopes_plain full m.last m.last.scopes 0)
-    (or_from _ _ (living_tasks_plain m.program full m.last m.last.tasks 0) refl))
+whole_state_plain : (text : List ℕ) (full : Bool) (n : ℕ) (m : Watched) → has_float (def.whole_state text full n m) ≡ false
+whole_state_plain text full n m =
+    or_from _ _ (run_plain text m.program (shown m.state) m.steps)
+    (or_from _ _ (scopes_plain text full m.last m.last.scopes 0)
+    (or_from _ _ (tasks_plain text m.program full m.last m.last.tasks 0) refl))
 
-pub state_view_plain : (wanted : ViewOptions) (n : ℕ) (m : Watched) → has_float (def.state_view wanted n m) ≡ false
-state_view_plain wanted n m =
-    either_plain wanted.living _ _ (living_state_plain wanted.full n m) (whole_state_plain wanted.full n m)
+living_state_plain : (text : List ℕ) (full : Bool) (n : ℕ) (m : Watched) → has_float (def.living_state text full n m) ≡ false
+living_state_plain text full n m =
+    or_from _ _ (run_plain text m.program (shown m.state) m.steps)
+    (or_from _ _ (open_scopes_plain text full m.last m.last.scopes 0)
+    (or_from _ _ (living_tasks_plain text m.program full m.last m.last.tasks 0) refl))
 
-pub event_view_plain : (wanted : ViewOptions) (a : Applied) (m : Watched) → has_float (def.event_view wanted a m) ≡ false
-event_view_plain wanted a m =
-    either_plain wanted.living _ _ (living_state_plain wanted.full a.number m) (whole_state_plain wanted.full a.number m)
+pub state_view_plain : (text : List ℕ) (wanted : ViewOptions) (n : ℕ) (m : Watched) → has_float (def.state_view text wanted n m) ≡ false
+state_view_plain text wanted n m =
+    either_plain wanted.living _ _ (living_state_plain text wanted.full n m) (whole_state_plain text wanted.full n m)
+
+pub event_view_plain : (text : List ℕ) (wanted : ViewOptions) (a : Applied) (m : Watched) → has_float (def.event_view text wanted a m) ≡ false
+event_view_plain text wanted a m =
+    either_plain wanted.living _ _ (living_state_plain text wanted.full a.number m) (whole_state_plain text wanted.full a.number m)
 
 -- ---- a fault
 

@@ -1,5 +1,5 @@
--- A task as JSON (this project's own; docs/CASES.md has the schema).
-use Rattle.std.specs.Prelude.{ℕ, ℤ, ◌+◌, Bool, List, [], ◌∷◌, ◌++◌, map, reverse, Option, Some, None}
+-- A task as JSON (this project's own; docs/IMPLEMENTERS.md has the schema).
+use Rattle.std.specs.Prelude.{ℕ, ℤ, ◌+◌, ◌-◌, Bool, not, List, [], ◌∷◌, ◌++◌, map, reverse, Option, Some, None}
 use Rattle.std.specs.Prelude.{codes, ◌&&◌, if◌then◌else◌}
 use Rattle.std.specs.List.{flat_map}
 use Rattle.serde_json.specs.Data.{Data, array, boolean, null, string}
@@ -16,6 +16,8 @@ use Rattle.sts_model.specs.Waiting.{can_step, stand_at}
 use Rattle.sts_model.specs.World.{World, task_at}
 use Rattle.look_cases.specs.Json.{count, count_or_null, integer, object_of}
 use Rattle.look_lines.specs.Lines.{is_heard, keys}
+use Rattle.look_names.specs.Names.{value_name}
+use Rattle.look_views.specs.Named.{named, placed}
 
 -- ---- the state
 
@@ -37,27 +39,28 @@ waiting (AtClose s) = waits (codes "waits close") s
 abbrev pub living : Bool → Stand → Data
 living can_go stand = if can_go then plain_state (codes "ready") else waiting stand
 
--- how a task ended, and whether it is the root or its joiner was told
-abbrev pub ended : Bool → Option End → Data
-ended heard None = null
-ended heard (Some (Success v)) = object_of (
+-- how a task ended, whether it is the root or its joiner was told, and the name of its value or code
+abbrev pub ended : List ℕ → Bool → Option End → Data
+ended text heard None = null
+ended text heard (Some (Success v)) = named (codes "name") (value_name text v) (object_of (
     (codes "heard", boolean heard) ∷
     (codes "is", string (codes "success")) ∷
-    (codes "value", integer v) ∷ [])
-ended heard (Some (Failed c)) = object_of (
+    (codes "value", integer v) ∷ []))
+ended text heard (Some (Failed c)) = named (codes "name") (value_name text c) (object_of (
     (codes "code", integer c) ∷
     (codes "heard", boolean heard) ∷
-    (codes "is", string (codes "failed")) ∷ [])
+    (codes "is", string (codes "failed")) ∷ []))
 
 -- the state of a task that doesn't live: a fork in a cancelled scope makes a task that never starts
-abbrev pub rest : World → ℕ → Data
-rest w t =
-    if (task_at w t).started then ended (is_heard w t (task_at w t).scope) (task_at w t).outcome
+abbrev pub rest : List ℕ → World → ℕ → Data
+rest text w t =
+    if (task_at w t).started
+    then ended text (is_heard w t (task_at w t).scope) (task_at w t).outcome
     else plain_state (codes "never-started")
 
-abbrev pub state : Program → World → ℕ → Data
-state p w t =
-    if lives (task_at w t) then living (can_step p w t) (stand_at p w t) else rest w t
+abbrev pub state : List ℕ → Program → World → ℕ → Data
+state text p w t =
+    if lives (task_at w t) then living (can_step p w t) (stand_at p w t) else rest text w t
 
 -- ---- what a living task has
 
@@ -92,35 +95,48 @@ frame w t = object_of (
 
 -- ---- the task
 
-abbrev pub members : Program → World → ℕ → List (List ℕ × Data)
-members p w t =
+-- the place of the next instruction of a task, or after its end that of its last one
+abbrev pub shown_place : Task → ℕ
+shown_place task =
+    if task.started && not (lives task) then task.frame.pc - 1 else task.frame.pc
+
+abbrev pub members : List ℕ → Program → World → ℕ → List (List ℕ × Data)
+members text p w t =
     (codes "function", string (routine p (task_at w t).frame.function).name) ∷
     (codes "interrupted", boolean (task_at w t).flag) ∷
     (codes "place", count (task_at w t).frame.pc) ∷
-    (codes "state", state p w t) ∷
+    (codes "state", state text p w t) ∷
     (codes "task", count t) ∷
     (codes "under", count_or_null (task_at w t).scope) ∷ []
 
-abbrev pub brief : Program → World → ℕ → Data
-brief p w t = object_of (members p w t)
+abbrev pub brief : List ℕ → Program → World → ℕ → Data
+brief text p w t = object_of (members text p w t)
 
-abbrev pub whole : Program → World → ℕ → Data
-whole p w t = object_of ((codes "frame", frame w t) ∷ members p w t)
+abbrev pub whole : List ℕ → Program → World → ℕ → Data
+whole text p w t = object_of ((codes "frame", frame w t) ∷ members text p w t)
 
 -- in full a living task has its frame
-abbrev pub task : Program → Bool → World → ℕ → Data
-task p full w t = if full && lives (task_at w t) then whole p w t else brief p w t
+abbrev pub plain_task : List ℕ → Program → Bool → World → ℕ → Data
+plain_task text p full w t =
+    if full && lives (task_at w t) then whole text p w t else brief text p w t
+
+-- with the names of its function and its line
+abbrev pub task : List ℕ → Program → Bool → World → ℕ → Data
+task text p full w t =
+    placed text (task_at w t).frame.function (shown_place (task_at w t))
+    (plain_task text p full w t)
 
 -- these tasks, numbered from t on
-abbrev pub tasks : Program → Bool → World → List Task → ℕ → List Data
-tasks p full w [] t = []
-tasks p full w (x ∷ xs) t = task p full w t ∷ tasks p full w xs (t + 1)
+abbrev pub tasks : List ℕ → Program → Bool → World → List Task → ℕ → List Data
+tasks text p full w [] t = []
+tasks text p full w (x ∷ xs) t = task text p full w t ∷ tasks text p full w xs (t + 1)
 
 -- a task, if it lives
-abbrev pub maybe_living : Program → Bool → World → ℕ → List Data
-maybe_living p full w t = if lives (task_at w t) then task p full w t ∷ [] else []
+abbrev pub maybe_living : List ℕ → Program → Bool → World → ℕ → List Data
+maybe_living text p full w t = if lives (task_at w t) then task text p full w t ∷ [] else []
 
 -- the living tasks among these, numbered from t on
-abbrev pub living_tasks : Program → Bool → World → List Task → ℕ → List Data
-living_tasks p full w [] t = []
-living_tasks p full w (x ∷ xs) t = maybe_living p full w t ++ living_tasks p full w xs (t + 1)
+abbrev pub living_tasks : List ℕ → Program → Bool → World → List Task → ℕ → List Data
+living_tasks text p full w [] t = []
+living_tasks text p full w (x ∷ xs) t =
+    maybe_living text p full w t ++ living_tasks text p full w xs (t + 1)

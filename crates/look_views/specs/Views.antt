@@ -1,11 +1,13 @@
 -- The lines of a machine after a list of events, and after each of them, as JSON (this project's
--- own; docs/CASES.md has the schema).
+-- own; docs/IMPLEMENTERS.md has the schema).
 use Rattle.std.specs.Prelude.{ℕ, Bool, List, [], ◌∷◌, ◌++◌, codes}
 use Rattle.std.specs.Prelude.{if◌then◌else◌}
 use Rattle.serde_json.specs.Data.{Data, array, boolean, string}
 use Rattle.serde_json.specs.View.{items_of}
 use Rattle.serde_json.specs.Written.{compact_text}
 use Rattle.sts_code.specs.Program.{Program, routine}
+use Rattle.sts_model.specs.declared.event.End.{End}
+use Rattle.sts_model.specs.declared.event.End.TheVariants.{Success, Failed}
 use Rattle.sts_model.specs.World.{World}
 use Rattle.sts_asm.specs.Fault.{code_error}
 use Rattle.sts_asm.specs.declared.fault.AsmError.{AsmError}
@@ -24,6 +26,8 @@ use Rattle.look_lines.specs.declared.view.ViewOptions.{ViewOptions}
 use Rattle.look_lines.specs.declared.watch.Applied.{Applied}
 use Rattle.look_cases.specs.Answer.{ended, running, text_fault, trace_fault}
 use Rattle.look_cases.specs.Json.{count, object_of}
+use Rattle.look_names.specs.Names.{value_name}
+use Rattle.look_views.specs.Named.{named, placed}
 use Rattle.look_views.specs.Scope.{open_scopes, scopes}
 use Rattle.look_views.specs.Task.{living_tasks, tasks}
 
@@ -32,24 +36,29 @@ version = count 1
 
 -- ---- a view
 
+-- how a run ended, the steps that it took, and the name of its value or code
+abbrev pub named_end : List ℕ → End → ℕ → Data
+named_end text (Success v) steps = named (codes "name") (value_name text v) (ended (Success v) steps)
+named_end text (Failed c) steps = named (codes "name") (value_name text c) (ended (Failed c) steps)
+
 -- the state of a run, and the steps that it took
-abbrev pub run : Program → PlainState → ℕ → Data
-run p plain.Running steps = running steps
-run p (plain.Ended end) steps = ended end steps
-run p (plain.Fault kind task f pc) steps = object_of (
+abbrev pub run : List ℕ → Program → PlainState → ℕ → Data
+run text p plain.Running steps = running steps
+run text p (plain.Ended end) steps = named_end text end steps
+run text p (plain.Fault kind task f pc) steps = placed text f pc (object_of (
     (codes "fault", string (fault_word kind)) ∷
     (codes "function", string (routine p f).name) ∷
     (codes "outcome", string (codes "fault")) ∷
     (codes "place", count pc) ∷
     (codes "steps", count steps) ∷
-    (codes "task", count task) ∷ [])
+    (codes "task", count task) ∷ []))
 
 -- the state of a machine; after a fault its tasks and scopes are shown as before it
-abbrev pub stand_members : Bool → Watched → List (List ℕ × Data)
-stand_members full m =
-    (codes "run", run m.program (shown m.state) m.steps) ∷
-    (codes "scopes", array (items_of (scopes full m.last m.last.scopes 0))) ∷
-    (codes "tasks", array (items_of (tasks m.program full m.last m.last.tasks 0))) ∷
+abbrev pub stand_members : List ℕ → Bool → Watched → List (List ℕ × Data)
+stand_members text full m =
+    (codes "run", run text m.program (shown m.state) m.steps) ∷
+    (codes "scopes", array (items_of (scopes text full m.last m.last.scopes 0))) ∷
+    (codes "tasks", array (items_of (tasks text m.program full m.last m.last.tasks 0))) ∷
     (codes "version", version) ∷ []
 
 -- how many tasks don't live, and how many scopes are closed
@@ -59,41 +68,43 @@ not_shown w = object_of (
     (codes "tasks", count (resting w.tasks)) ∷ [])
 
 -- like `stand_members`, with only the tasks that live and the scopes that are open
-abbrev pub living_members : Bool → Watched → List (List ℕ × Data)
-living_members full m =
+abbrev pub living_members : List ℕ → Bool → Watched → List (List ℕ × Data)
+living_members text full m =
     (codes "not_shown", not_shown m.last) ∷
-    (codes "run", run m.program (shown m.state) m.steps) ∷
-    (codes "scopes", array (items_of (open_scopes full m.last m.last.scopes 0))) ∷
-    (codes "tasks", array (items_of (living_tasks m.program full m.last m.last.tasks 0))) ∷
+    (codes "run", run text m.program (shown m.state) m.steps) ∷
+    (codes "scopes", array (items_of (open_scopes text full m.last m.last.scopes 0))) ∷ (
+      codes "tasks",
+      array (items_of (living_tasks text m.program full m.last m.last.tasks 0)),
+    ) ∷
     (codes "version", version) ∷ []
 
 -- the state after this number of events
-abbrev pub whole_state : Bool → ℕ → Watched → Data
-whole_state full n m = object_of ((codes "after", count n) ∷ stand_members full m)
+abbrev pub whole_state : List ℕ → Bool → ℕ → Watched → Data
+whole_state text full n m = object_of ((codes "after", count n) ∷ stand_members text full m)
 
-abbrev pub living_state : Bool → ℕ → Watched → Data
-living_state full n m = object_of ((codes "after", count n) ∷ living_members full m)
+abbrev pub living_state : List ℕ → Bool → ℕ → Watched → Data
+living_state text full n m = object_of ((codes "after", count n) ∷ living_members text full m)
 
-abbrev pub state_view : ViewOptions → ℕ → Watched → Data
-state_view wanted n m =
-    if wanted.living then living_state wanted.full n m else whole_state wanted.full n m
+abbrev pub state_view : List ℕ → ViewOptions → ℕ → Watched → Data
+state_view text wanted n m =
+    if wanted.living then living_state text wanted.full n m else whole_state text wanted.full n m
 
 -- an event and the state after it
-abbrev pub whole_event : Bool → Applied → Watched → Data
-whole_event full a m = object_of (
+abbrev pub whole_event : List ℕ → Bool → Applied → Watched → Data
+whole_event text full a m = object_of (
     (codes "after", count a.number) ∷
     (codes "counts", boolean a.is_counted) ∷
-    (codes "event", string (event_text a.event)) ∷ stand_members full m)
+    (codes "event", string (event_text a.event)) ∷ stand_members text full m)
 
-abbrev pub living_event : Bool → Applied → Watched → Data
-living_event full a m = object_of (
+abbrev pub living_event : List ℕ → Bool → Applied → Watched → Data
+living_event text full a m = object_of (
     (codes "after", count a.number) ∷
     (codes "counts", boolean a.is_counted) ∷
-    (codes "event", string (event_text a.event)) ∷ living_members full m)
+    (codes "event", string (event_text a.event)) ∷ living_members text full m)
 
-abbrev pub event_view : ViewOptions → Applied → Watched → Data
-event_view wanted a m =
-    if wanted.living then living_event wanted.full a m else whole_event wanted.full a m
+abbrev pub event_view : List ℕ → ViewOptions → Applied → Watched → Data
+event_view text wanted a m =
+    if wanted.living then living_event text wanted.full a m else whole_event text wanted.full a m
 
 -- ---- the lines
 
@@ -101,10 +112,10 @@ event_view wanted a m =
 abbrev pub line : Data → List ℕ
 line d = compact_text d ++ 10 ∷ []
 
-abbrev pub json_view : ViewOptions → View
-json_view wanted = record {
-  state = λ n m. line (state_view wanted n m);
-  event = λ a m. line (event_view wanted a m);
+abbrev pub json_view : List ℕ → ViewOptions → View
+json_view text wanted = record {
+  state = λ n m. line (state_view text wanted n m);
+  event = λ a m. line (event_view text wanted a m);
 }
 
 -- ---- of a text and a trace
@@ -122,13 +133,13 @@ trace_line e = object_of (
     (codes "trace_fault", trace_fault e) ∷
     (codes "version", version) ∷ [])
 
-abbrev pub json_form : ViewOptions → Form
-json_form wanted = record {
-  of_run = λ p events. view_output (json_view wanted) wanted.each p events;
+abbrev pub json_form : List ℕ → ViewOptions → Form
+json_form text wanted = record {
+  of_run = λ p events. view_output (json_view text wanted) wanted.each p events;
   of_text_fault = λ e. faulty (text_line e);
   of_trace_fault = λ e. faulty (trace_line e);
 }
 
 -- what `look view --json` prints for a text and a trace, or that memory was refused
 abbrev pub AreViewsOf : ViewOptions → List ℕ → List ℕ → Output → Type 0
-AreViewsOf wanted text trace output = IsShownOf (json_form wanted) text trace output
+AreViewsOf wanted text trace output = IsShownOf (json_form text wanted) text trace output

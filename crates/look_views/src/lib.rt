@@ -11,4 +11,4 @@ mod tasks;
 mod views;
 
 pub use named::{line_at, placed, with_name};
-pub use views::JsonViews;
+pub use of_text::{faulty_text, faulty_trace, write_views};

@@ -7,15 +7,18 @@ ghost use Rattle.sts_code.specs.Program.{Program as AnyProgram};
 ghost use Rattle.sts_asm.specs.Fault.{FailsAt};
 ghost use Rattle.sts_asm.specs.declared.fault.AsmError.{AsmError};
 ghost use Rattle.sts_trace.specs.declared.error.TraceError.TheVariants.{Memory};
+ghost use Rattle.sts_output.specs.Output.{Output as AnyOutput, Writes};
 ghost use Rattle.look_views.specs.Views as def;
 
 use crate::views::{JsonViews, VERSION, push_line};
 use look_cases::{text_fault, trace_fault};
-use look_lines::{Form, Run, view_output};
+use look_lines::{Form, Run, ViewOptions, view_output, write_run};
+use look_names::Names;
 use serde_json::{Value, json};
 use std::alloc::{AllocError, Global};
+use std::io::Write;
 use sts_asm::AsmError;
-use sts_output::Output;
+use sts_output::{Output, WriteFailed};
 use sts_trace::TraceError;
 
 /// The status for a fault of a text or a trace.
@@ -49,20 +52,77 @@ fn trace_line(alloc: Global, error: TraceError) -> Result<Value, AllocError>
     json!(in alloc; {"trace_fault": fault, "version": VERSION})
 }
 
-impl Form for JsonViews {
-    ghost shows = { λ views. def.json_form views.wanted };
+/// Returns the line of a fault of a text. Running out of memory is no fault of it.
+///
+/// # Errors
+///
+/// Memory was refused.
+pub fn faulty_text(alloc: Global, error: AsmError) -> Result<Output, AllocError>
+    ensures { (read : Result AnyProgram AsmError) → FailsAt error error.kind read
+        → IfOk result (λ o. (read ≡ Err error) × (o ≡ def.faulty (def.text_line error))) }
+{
+    let value = text_line(alloc, error)?;
+    faulty(alloc, &value)
+}
+
+/// Returns the line of a fault of a trace. Running out of memory is no fault of it.
+///
+/// # Errors
+///
+/// Memory was refused.
+pub fn faulty_trace(alloc: Global, error: TraceError) -> Result<Output, AllocError>
+    ensures { IfOk result (λ o. (error ≢ Memory) × (o ≡ def.faulty (def.trace_line error))) }
+{
+    let value = trace_line(alloc, error)?;
+    faulty(alloc, &value)
+}
+
+/// The views of a run of this text. They have its names, which are read if the text and its trace
+/// have no fault.
+#[derive(Clone, Copy)]
+struct ViewsOfText<'t> {
+    wanted: ViewOptions,
+    text: &'t [u8],
+}
+
+impl<'t> Form for ViewsOfText<'t> {
+    ghost shows = { λ v. def.json_form v.text.now v.wanted };
 
     fn of_run(&self, alloc: Global, run: Run<'_>) -> Result<Output, AllocError> {
-        view_output(alloc, self, self.wanted.each, run)
+        let names = Names::read(alloc, self.text)?;
+        let views = JsonViews {
+            wanted: self.wanted,
+            names: &names,
+        };
+        view_output(alloc, &views, self.wanted.each, run)
     }
 
     fn of_text_fault(&self, alloc: Global, error: AsmError) -> Result<Output, AllocError> {
-        let value = text_line(alloc, error)?;
-        faulty(alloc, &value)
+        faulty_text(alloc, error)
     }
 
     fn of_trace_fault(&self, alloc: Global, error: TraceError) -> Result<Output, AllocError> {
-        let value = trace_line(alloc, error)?;
-        faulty(alloc, &value)
+        faulty_trace(alloc, error)
     }
+}
+
+/// Writes the views of a text's run of a trace as lines of JSON, with the names of the text, and
+/// returns the status.
+///
+/// It takes all its memory before the first byte is written.
+///
+/// # Errors
+///
+/// A write failed.
+pub fn write_views<W: Write>(
+    alloc: Global,
+    wanted: ViewOptions,
+    text: &[u8],
+    trace: &[u8],
+    out: &mut W,
+) -> Result<u8, WriteFailed>
+    ensures { IfOk result (λ s. (o : AnyOutput) × def.AreViewsOf wanted text.now trace.now o
+        × Writes (W.contents out.old) (W.contents out.new) s o) }
+{
+    write_run(alloc, &ViewsOfText { wanted, text }, text, trace, out)
 }

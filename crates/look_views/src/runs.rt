@@ -4,12 +4,26 @@ ghost use Rattle.std.specs.Prelude.{◌≡◌, IfOk};
 ghost use Rattle.serde_json.specs.View.{view};
 ghost use Rattle.look_views.specs.Views as def;
 
+use crate::named::{placed, with_name};
 use look_cases::ended;
+use look_names::Names;
 use serde_json::{Value, json};
 use std::alloc::{AllocError, Global};
 use sts_code::{Program, name_of};
+use sts_model::End;
 use sts_output::printed::fault_word;
 use sts_plain::PlainState;
+
+/// Returns how a run ended, the steps that it took, and the name of its value or code.
+fn named_end(alloc: Global, names: &Names<'_>, end: End, steps: u64) -> Result<Value, AllocError>
+    ensures { IfOk result (λ v. view v ≡ def.named_end names.now end steps) }
+{
+    let ended = ended(alloc, end, steps)?;
+    match end {
+        End::Success(value) => with_name(alloc, ended, "name", names.value(value)),
+        End::Failed(code) => with_name(alloc, ended, "name", names.value(code)),
+    }
+}
 
 /// Returns the state of a run, and the steps that it took.
 ///
@@ -18,27 +32,31 @@ use sts_plain::PlainState;
 /// Memory was refused.
 pub(crate) fn run(
     alloc: Global,
+    names: &Names<'_>,
     program: &Program,
     state: PlainState,
     steps: u64,
 ) -> Result<Value, AllocError>
-    ensures { IfOk result (λ v. view v ≡ def.run program.now state steps) }
+    ensures { IfOk result (λ v. view v ≡ def.run names.now program.now state steps) }
 {
     match state {
         PlainState::Running => json!(in alloc; {"outcome": "running", "steps": steps}),
-        PlainState::Ended(end) => ended(alloc, end, steps),
+        PlainState::Ended(end) => named_end(alloc, names, end, steps),
         PlainState::Fault {
             kind,
             task,
             function,
             pc,
-        } => json!(in alloc; {
-            "fault": fault_word(kind),
-            "function": name_of(program, function),
-            "outcome": "fault",
-            "place": pc,
-            "steps": steps,
-            "task": task
-        }),
+        } => {
+            let fault = json!(in alloc; {
+                "fault": fault_word(kind),
+                "function": name_of(program, function),
+                "outcome": "fault",
+                "place": pc,
+                "steps": steps,
+                "task": task
+            })?;
+            placed(alloc, names, function, pc, fault)
+        }
     }
 }

@@ -6,7 +6,9 @@ ghost use Rattle.serde_json.specs.View.{view, items_view, items_of};
 ghost use Rattle.sts_model.specs.World as model;
 ghost use Rattle.look_views.specs.Scope as def;
 
+use crate::named::with_name;
 use look_lines::phase_word;
+use look_names::Names;
 use serde_json::{Value, json};
 use std::alloc::{AllocError, Global};
 use sts_code::{Joiner, Pred};
@@ -28,27 +30,35 @@ fn joiner_text(alloc: Global, joiner: Joiner) -> Result<String, AllocError>
     }
 }
 
-/// Returns an end that a joiner was told of, with its task.
-fn told_end(alloc: Global, told: Completion) -> Result<Value, AllocError>
-    ensures { IfOk result (λ v. view v ≡ def.told_end told) }
+/// Returns an end that a joiner was told of, with its task and the name of its value or code.
+fn told_end(alloc: Global, names: &Names<'_>, told: Completion) -> Result<Value, AllocError>
+    ensures { IfOk result (λ v. view v ≡ def.told_end names.now told) }
 {
     let task = told.task;
     match told.end {
         End::Success(value) => {
-            json!(in alloc; {"outcome": "success", "task": task, "value": value})
+            let end = json!(in alloc; {"outcome": "success", "task": task, "value": value})?;
+            with_name(alloc, end, "name", names.value(value))
         }
-        End::Failed(code) => json!(in alloc; {"code": code, "outcome": "failed", "task": task}),
+        End::Failed(code) => {
+            let end = json!(in alloc; {"code": code, "outcome": "failed", "task": task})?;
+            with_name(alloc, end, "name", names.value(code))
+        }
     }
 }
 
 /// Returns the ends that a joiner was told of, in order.
-fn told_ends(alloc: Global, completions: &[Completion]) -> Result<Vec<Value>, AllocError>
+fn told_ends(
+    alloc: Global,
+    names: &Names<'_>,
+    completions: &[Completion],
+) -> Result<Vec<Value>, AllocError>
     ensures { IfOk result (λ list. items_view list.items
-        ≡ items_of (def.told_ends completions.now)) }
+        ≡ items_of (def.told_ends names.now completions.now)) }
 {
     let mut list = Vec::new(alloc);
     for told in completions {
-        list.push(told_end(alloc, *told)?)?;
+        list.push(told_end(alloc, names, *told)?)?;
     }
     Ok(list)
 }
@@ -70,11 +80,11 @@ fn brief(alloc: Global, records: &Records, s: u32) -> Result<Value, AllocError>
 }
 
 /// Returns a scope with the ends that its joiner was told of.
-fn whole(alloc: Global, records: &Records, s: u32) -> Result<Value, AllocError>
-    ensures { IfOk result (λ v. view v ≡ def.whole s (model.scope_at records.now s)) }
+fn whole(alloc: Global, names: &Names<'_>, records: &Records, s: u32) -> Result<Value, AllocError>
+    ensures { IfOk result (λ v. view v ≡ def.whole names.now s (model.scope_at records.now s)) }
 {
     let joiner = joiner_text(alloc, records.joiner(s))?;
-    let told = told_ends(alloc, records.completions(s))?;
+    let told = told_ends(alloc, names, records.completions(s))?;
     json!(in alloc; {
         "cancelled": records.is_cancelled(s),
         "expired": records.is_expired(s),
@@ -88,11 +98,18 @@ fn whole(alloc: Global, records: &Records, s: u32) -> Result<Value, AllocError>
     })
 }
 
-fn scope(alloc: Global, full: bool, records: &Records, s: u32) -> Result<Value, AllocError>
-    ensures { IfOk result (λ v. view v ≡ def.scope full s (model.scope_at records.now s)) }
+fn scope(
+    alloc: Global,
+    names: &Names<'_>,
+    full: bool,
+    records: &Records,
+    s: u32,
+) -> Result<Value, AllocError>
+    ensures { IfOk result (λ v. view v
+        ≡ def.scope names.now full s (model.scope_at records.now s)) }
 {
     if full {
-        whole(alloc, records, s)
+        whole(alloc, names, records, s)
     } else {
         brief(alloc, records, s)
     }
@@ -103,13 +120,18 @@ fn scope(alloc: Global, full: bool, records: &Records, s: u32) -> Result<Value, 
 /// # Errors
 ///
 /// Memory was refused.
-pub(crate) fn scopes(alloc: Global, full: bool, records: &Records) -> Result<Vec<Value>, AllocError>
+pub(crate) fn scopes(
+    alloc: Global,
+    names: &Names<'_>,
+    full: bool,
+    records: &Records,
+) -> Result<Vec<Value>, AllocError>
     ensures { IfOk result (λ list. items_view list.items
-        ≡ items_of (def.scopes full records.now records.now.scopes 0)) }
+        ≡ items_of (def.scopes names.now full records.now records.now.scopes 0)) }
 {
     let mut list = Vec::new(alloc);
     for s in 0..records.scopes_born() {
-        list.push(scope(alloc, full, records, s as u32)?)?;
+        list.push(scope(alloc, names, full, records, s as u32)?)?;
     }
     Ok(list)
 }
@@ -121,16 +143,17 @@ pub(crate) fn scopes(alloc: Global, full: bool, records: &Records) -> Result<Vec
 /// Memory was refused.
 pub(crate) fn open_scopes(
     alloc: Global,
+    names: &Names<'_>,
     full: bool,
     records: &Records,
 ) -> Result<Vec<Value>, AllocError>
     ensures { IfOk result (λ list. items_view list.items
-        ≡ items_of (def.open_scopes full records.now records.now.scopes 0)) }
+        ≡ items_of (def.open_scopes names.now full records.now records.now.scopes 0)) }
 {
     let mut list = Vec::new(alloc);
     for s in 0..records.scopes_born() {
         if !records.phase(s as u32).is_closed() {
-            list.push(scope(alloc, full, records, s as u32)?)?;
+            list.push(scope(alloc, names, full, records, s as u32)?)?;
         }
     }
     Ok(list)

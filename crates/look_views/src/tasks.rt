@@ -8,13 +8,15 @@ ghost use Rattle.look_cases.specs.Json.{count_or_null};
 ghost use Rattle.look_views.specs.Task as def;
 
 use crate::frames::frame;
+use crate::named::{placed, with_name};
 use look_lines::is_heard;
+use look_names::Names;
 use serde_json::{Value, json};
 use std::alloc::{AllocError, Global};
 use sts_code::{Program, name_of};
 use sts_model::{End, Stand};
 use sts_plain::{can_step, stand_at};
-use sts_world::World;
+use sts_world::{Records, World};
 
 fn plain_state(alloc: Global, word: &str) -> Result<Value, AllocError>
     ensures { IfOk result (λ v. view v ≡ def.plain_state word.now) }
@@ -39,39 +41,53 @@ fn waiting(alloc: Global, stand: Stand) -> Result<Value, AllocError>
     }
 }
 
-/// Returns how a task ended, and whether it is the root or its joiner was told.
-fn ended(alloc: Global, is_heard: bool, end: Option<End>) -> Result<Value, AllocError>
-    ensures { IfOk result (λ v. view v ≡ def.ended is_heard end) }
+/// Returns how a task ended, whether it is the root or its joiner was told, and the name of its
+/// value or code.
+fn ended(
+    alloc: Global,
+    names: &Names<'_>,
+    is_heard: bool,
+    end: Option<End>,
+) -> Result<Value, AllocError>
+    ensures { IfOk result (λ v. view v ≡ def.ended names.now is_heard end) }
 {
     match end {
         None => Ok(Value::Null),
         Some(End::Success(value)) => {
-            json!(in alloc; {"heard": is_heard, "is": "success", "value": value})
+            let ended = json!(in alloc; {"heard": is_heard, "is": "success", "value": value})?;
+            with_name(alloc, ended, "name", names.value(value))
         }
         Some(End::Failed(code)) => {
-            json!(in alloc; {"code": code, "heard": is_heard, "is": "failed"})
+            let ended = json!(in alloc; {"code": code, "heard": is_heard, "is": "failed"})?;
+            with_name(alloc, ended, "name", names.value(code))
         }
     }
 }
 
 /// Returns the state of a task that doesn't live.
-fn rest(alloc: Global, world: &World, t: u32) -> Result<Value, AllocError>
-    ensures { IfOk result (λ v. view v ≡ def.rest world.now t) }
+fn rest(alloc: Global, names: &Names<'_>, world: &World, t: u32) -> Result<Value, AllocError>
+    ensures { IfOk result (λ v. view v ≡ def.rest names.now world.now t) }
 {
     if world.records().has_started(t) {
-        ended(alloc, is_heard(world, t), world.records().outcome(t))
+        ended(alloc, names, is_heard(world, t), world.records().outcome(t))
     } else {
         plain_state(alloc, "never-started")
     }
 }
 
 /// Returns the state of a task: ready, what it waits for, or how it ended.
-fn state(alloc: Global, program: &Program, world: &World, t: u32) -> Result<Value, AllocError>
+fn state(
+    alloc: Global,
+    names: &Names<'_>,
+    program: &Program,
+    world: &World,
+    t: u32,
+) -> Result<Value, AllocError>
     requires { t < length world.now.tasks }
-    ensures { IfOk result (λ v. view v ≡ def.state program.now world.now t) }
+    ensures { IfOk result (λ v. view v ≡ def.state names.now program.now world.now t) }
 {
     if !world.records().lives(t) {
-        return rest(alloc, world, t);
+        return rest(alloc, names, world, t);
     }
     if can_step(world, program, t) {
         return plain_state(alloc, "ready");
@@ -89,11 +105,17 @@ fn under(scope: Option<u32>) -> Value
     }
 }
 
-fn brief(alloc: Global, program: &Program, world: &World, t: u32) -> Result<Value, AllocError>
+fn brief(
+    alloc: Global,
+    names: &Names<'_>,
+    program: &Program,
+    world: &World,
+    t: u32,
+) -> Result<Value, AllocError>
     requires { t < length world.now.tasks }
-    ensures { IfOk result (λ v. view v ≡ def.brief program.now world.now t) }
+    ensures { IfOk result (λ v. view v ≡ def.brief names.now program.now world.now t) }
 {
-    let state = state(alloc, program, world, t)?;
+    let state = state(alloc, names, program, world, t)?;
     let records = world.records();
     json!(in alloc; {
         "function": name_of(program, records.function(t)),
@@ -106,13 +128,19 @@ fn brief(alloc: Global, program: &Program, world: &World, t: u32) -> Result<Valu
 }
 
 /// Returns a living task with its operands, locals and bindings.
-fn whole(alloc: Global, program: &Program, world: &World, t: u32) -> Result<Value, AllocError>
+fn whole(
+    alloc: Global,
+    names: &Names<'_>,
+    program: &Program,
+    world: &World,
+    t: u32,
+) -> Result<Value, AllocError>
     requires born { t < length world.now.tasks }
     requires lives { living.lives (model.task_at world.now t) ≡ true }
-    ensures { IfOk result (λ v. view v ≡ def.whole program.now world.now t) }
+    ensures { IfOk result (λ v. view v ≡ def.whole names.now program.now world.now t) }
 {
     let frame = frame(alloc, world.records(), t)?;
-    let state = state(alloc, program, world, t)?;
+    let state = state(alloc, names, program, world, t)?;
     let records = world.records();
     json!(in alloc; {
         "frame": frame,
@@ -125,21 +153,53 @@ fn whole(alloc: Global, program: &Program, world: &World, t: u32) -> Result<Valu
     })
 }
 
-fn task(
+fn plain_task(
     alloc: Global,
+    names: &Names<'_>,
     program: &Program,
     full: bool,
     world: &World,
     t: u32,
 ) -> Result<Value, AllocError>
     requires { t < length world.now.tasks }
-    ensures { IfOk result (λ v. view v ≡ def.task program.now full world.now t) }
+    ensures { IfOk result (λ v. view v
+        ≡ def.plain_task names.now program.now full world.now t) }
 {
     if full && world.records().lives(t) {
-        whole(alloc, program, world, t)
+        whole(alloc, names, program, world, t)
     } else {
-        brief(alloc, program, world, t)
+        brief(alloc, names, program, world, t)
     }
+}
+
+/// Returns the place of the next instruction of a task, or after its end that of its last one.
+fn shown_place(records: &Records, t: u32) -> u32
+    ensures { result ≡ def.shown_place (model.task_at records.now t) }
+{
+    let place = records.pc(t);
+    if records.has_started(t) && !records.lives(t) {
+        place.saturating_sub(1)
+    } else {
+        place
+    }
+}
+
+/// Returns a task with the names of its function and its line.
+fn task(
+    alloc: Global,
+    names: &Names<'_>,
+    program: &Program,
+    full: bool,
+    world: &World,
+    t: u32,
+) -> Result<Value, AllocError>
+    requires { t < length world.now.tasks }
+    ensures { IfOk result (λ v. view v ≡ def.task names.now program.now full world.now t) }
+{
+    let task = plain_task(alloc, names, program, full, world, t)?;
+    let records = world.records();
+    let place = shown_place(records, t);
+    placed(alloc, names, records.function(t), place, task)
 }
 
 /// Returns all tasks that were ever born. In full they have the frames of living tasks.
@@ -149,16 +209,17 @@ fn task(
 /// Memory was refused.
 pub(crate) fn tasks(
     alloc: Global,
+    names: &Names<'_>,
     program: &Program,
     full: bool,
     world: &World,
 ) -> Result<Vec<Value>, AllocError>
     ensures { IfOk result (λ list. items_view list.items
-        ≡ items_of (def.tasks program.now full world.now world.now.tasks 0)) }
+        ≡ items_of (def.tasks names.now program.now full world.now world.now.tasks 0)) }
 {
     let mut list = Vec::new(alloc);
     for t in 0..world.records().tasks_born() {
-        list.push(task(alloc, program, full, world, t as u32)?)?;
+        list.push(task(alloc, names, program, full, world, t as u32)?)?;
     }
     Ok(list)
 }
@@ -170,17 +231,18 @@ pub(crate) fn tasks(
 /// Memory was refused.
 pub(crate) fn living_tasks(
     alloc: Global,
+    names: &Names<'_>,
     program: &Program,
     full: bool,
     world: &World,
 ) -> Result<Vec<Value>, AllocError>
     ensures { IfOk result (λ list. items_view list.items
-        ≡ items_of (def.living_tasks program.now full world.now world.now.tasks 0)) }
+        ≡ items_of (def.living_tasks names.now program.now full world.now world.now.tasks 0)) }
 {
     let mut list = Vec::new(alloc);
     for t in 0..world.records().tasks_born() {
         if world.records().lives(t as u32) {
-            list.push(task(alloc, program, full, world, t as u32)?)?;
+            list.push(task(alloc, names, program, full, world, t as u32)?)?;
         }
     }
     Ok(list)

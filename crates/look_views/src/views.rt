@@ -11,6 +11,7 @@ use crate::runs::run;
 use crate::scopes::{open_scopes, scopes};
 use crate::tasks::{living_tasks, tasks};
 use look_lines::{Applied, View, ViewOptions, Watch, closed, event_words, resting};
+use look_names::Names;
 use serde_json::{Value, json};
 use std::alloc::{AllocError, Global};
 use std::fmt::Write;
@@ -28,12 +29,18 @@ fn not_shown(alloc: Global, records: &Records) -> Result<Value, AllocError>
 }
 
 /// Returns the view of a machine after this number of events, with all tasks and scopes.
-fn whole_state(alloc: Global, n: usize, watch: &Watch<'_>, full: bool) -> Result<Value, AllocError>
-    ensures { IfOk result (λ v. view v ≡ def.whole_state full n watch.now) }
+fn whole_state(
+    alloc: Global,
+    names: &Names<'_>,
+    n: usize,
+    watch: &Watch<'_>,
+    full: bool,
+) -> Result<Value, AllocError>
+    ensures { IfOk result (λ v. view v ≡ def.whole_state names.now full n watch.now) }
 {
-    let state = run(alloc, watch.program(), watch.state(), watch.steps())?;
-    let scopes = scopes(alloc, full, watch.world().records())?;
-    let tasks = tasks(alloc, watch.program(), full, watch.world())?;
+    let state = run(alloc, names, watch.program(), watch.state(), watch.steps())?;
+    let scopes = scopes(alloc, names, full, watch.world().records())?;
+    let tasks = tasks(alloc, names, watch.program(), full, watch.world())?;
     json!(in alloc; {
         "after": n,
         "run": state,
@@ -44,13 +51,19 @@ fn whole_state(alloc: Global, n: usize, watch: &Watch<'_>, full: bool) -> Result
 }
 
 /// Returns the same with only the tasks that live and the scopes that are open.
-fn living_state(alloc: Global, n: usize, watch: &Watch<'_>, full: bool) -> Result<Value, AllocError>
-    ensures { IfOk result (λ v. view v ≡ def.living_state full n watch.now) }
+fn living_state(
+    alloc: Global,
+    names: &Names<'_>,
+    n: usize,
+    watch: &Watch<'_>,
+    full: bool,
+) -> Result<Value, AllocError>
+    ensures { IfOk result (λ v. view v ≡ def.living_state names.now full n watch.now) }
 {
     let others = not_shown(alloc, watch.world().records())?;
-    let state = run(alloc, watch.program(), watch.state(), watch.steps())?;
-    let scopes = open_scopes(alloc, full, watch.world().records())?;
-    let tasks = living_tasks(alloc, watch.program(), full, watch.world())?;
+    let state = run(alloc, names, watch.program(), watch.state(), watch.steps())?;
+    let scopes = open_scopes(alloc, names, full, watch.world().records())?;
+    let tasks = living_tasks(alloc, names, watch.program(), full, watch.world())?;
     json!(in alloc; {
         "after": n,
         "not_shown": others,
@@ -64,16 +77,17 @@ fn living_state(alloc: Global, n: usize, watch: &Watch<'_>, full: bool) -> Resul
 /// Returns the view of a machine after this number of events.
 fn state_view(
     alloc: Global,
+    names: &Names<'_>,
     n: usize,
     watch: &Watch<'_>,
     wanted: ViewOptions,
 ) -> Result<Value, AllocError>
-    ensures { IfOk result (λ v. view v ≡ def.state_view wanted n watch.now) }
+    ensures { IfOk result (λ v. view v ≡ def.state_view names.now wanted n watch.now) }
 {
     if wanted.living {
-        living_state(alloc, n, watch, wanted.full)
+        living_state(alloc, names, n, watch, wanted.full)
     } else {
-        whole_state(alloc, n, watch, wanted.full)
+        whole_state(alloc, names, n, watch, wanted.full)
     }
 }
 
@@ -89,16 +103,17 @@ fn event_string(alloc: Global, event: Event) -> Result<String, AllocError>
 /// Returns the view of a machine after an event, with all tasks and scopes.
 fn whole_event(
     alloc: Global,
+    names: &Names<'_>,
     applied: Applied,
     watch: &Watch<'_>,
     full: bool,
 ) -> Result<Value, AllocError>
-    ensures { IfOk result (λ v. view v ≡ def.whole_event full applied watch.now) }
+    ensures { IfOk result (λ v. view v ≡ def.whole_event names.now full applied watch.now) }
 {
     let event = event_string(alloc, applied.event)?;
-    let state = run(alloc, watch.program(), watch.state(), watch.steps())?;
-    let scopes = scopes(alloc, full, watch.world().records())?;
-    let tasks = tasks(alloc, watch.program(), full, watch.world())?;
+    let state = run(alloc, names, watch.program(), watch.state(), watch.steps())?;
+    let scopes = scopes(alloc, names, full, watch.world().records())?;
+    let tasks = tasks(alloc, names, watch.program(), full, watch.world())?;
     json!(in alloc; {
         "after": applied.number,
         "counts": applied.is_counted,
@@ -113,17 +128,18 @@ fn whole_event(
 /// Returns the same with only the tasks that live and the scopes that are open.
 fn living_event(
     alloc: Global,
+    names: &Names<'_>,
     applied: Applied,
     watch: &Watch<'_>,
     full: bool,
 ) -> Result<Value, AllocError>
-    ensures { IfOk result (λ v. view v ≡ def.living_event full applied watch.now) }
+    ensures { IfOk result (λ v. view v ≡ def.living_event names.now full applied watch.now) }
 {
     let event = event_string(alloc, applied.event)?;
     let others = not_shown(alloc, watch.world().records())?;
-    let state = run(alloc, watch.program(), watch.state(), watch.steps())?;
-    let scopes = open_scopes(alloc, full, watch.world().records())?;
-    let tasks = living_tasks(alloc, watch.program(), full, watch.world())?;
+    let state = run(alloc, names, watch.program(), watch.state(), watch.steps())?;
+    let scopes = open_scopes(alloc, names, full, watch.world().records())?;
+    let tasks = living_tasks(alloc, names, watch.program(), full, watch.world())?;
     json!(in alloc; {
         "after": applied.number,
         "counts": applied.is_counted,
@@ -139,16 +155,17 @@ fn living_event(
 /// Returns the view of a machine after an event.
 fn event_view(
     alloc: Global,
+    names: &Names<'_>,
     applied: Applied,
     watch: &Watch<'_>,
     wanted: ViewOptions,
 ) -> Result<Value, AllocError>
-    ensures { IfOk result (λ v. view v ≡ def.event_view wanted applied watch.now) }
+    ensures { IfOk result (λ v. view v ≡ def.event_view names.now wanted applied watch.now) }
 {
     if wanted.living {
-        living_event(alloc, applied, watch, wanted.full)
+        living_event(alloc, names, applied, watch, wanted.full)
     } else {
-        whole_event(alloc, applied, watch, wanted.full)
+        whole_event(alloc, names, applied, watch, wanted.full)
     }
 }
 
@@ -161,14 +178,15 @@ pub(crate) fn push_line(alloc: Global, out: &mut String, value: &Value) -> Resul
     writeln!(out, "{text}")
 }
 
-/// The views of a run as lines of JSON.
+/// The views of a run as lines of JSON, with the names of a text.
 #[derive(Clone, Copy)]
-pub struct JsonViews {
+pub struct JsonViews<'n, 't> {
     pub wanted: ViewOptions,
+    pub names: &'n Names<'t>,
 }
 
-impl View for JsonViews {
-    ghost writes = { λ views. def.json_view views.wanted };
+impl<'n, 't> View for JsonViews<'n, 't> {
+    ghost writes = { λ views. def.json_view views.names.now views.wanted };
 
     fn say_state(
         &self,
@@ -177,7 +195,7 @@ impl View for JsonViews {
         number: usize,
         watch: &Watch<'_>,
     ) -> Result<(), AllocError> {
-        let value = state_view(alloc, number, watch, self.wanted)?;
+        let value = state_view(alloc, self.names, number, watch, self.wanted)?;
         push_line(alloc, out, &value)
     }
 
@@ -188,7 +206,7 @@ impl View for JsonViews {
         applied: Applied,
         watch: &Watch<'_>,
     ) -> Result<(), AllocError> {
-        let value = event_view(alloc, applied, watch, self.wanted)?;
+        let value = event_view(alloc, self.names, applied, watch, self.wanted)?;
         push_line(alloc, out, &value)
     }
 }

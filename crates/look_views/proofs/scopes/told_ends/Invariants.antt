@@ -5,4 +5,4 @@ use Rattle.look_views.proofs.scopes.told_ends.Given as goal
 
 -- the ends so far, and those of the rest
 abbrev pub invariant-loop-told : goal.invariant-loop-told
-invariant-loop-told l = map view l.list.items ++ def.told_ends (drop l.told-index l.completions) ≡ def.told_ends l.completions
+invariant-loop-told l = map view l.list.items ++ def.told_ends l.names (drop l.told-index l.completions) ≡ def.told_ends l.names l.completions
