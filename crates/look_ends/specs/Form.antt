@@ -8,13 +8,13 @@ use Rattle.ends_plain.specs.declared.config.Found.{Found}
 use Rattle.ends_plain.specs.declared.config.Setting.{Setting}
 
 pub record EndsForm : Type 0 where
-  -- The bytes for a search: by the text, what was searched, whether the program is refused, the
-  -- number of the end that is asked for, the ends, how many states were found, whether these are
-  -- all schedules, and the states of a search by calls that found no other end.
+  -- The bytes for a search: by the text, what was searched, whether the program is refused, and the
+  -- number of the end that is asked for. Then come the ends, how many states were found, and whether
+  -- these are all schedules. Last come the states of a search by calls that found no other end.
   pub of_search : List ℕ → Setting → Bool → Option ℕ → List Found → ℕ → Bool → Option ℕ → List ℕ
-  -- The bytes for random schedules: by the text, the program, how many schedules there were, their
-  -- seed, the number of the end that is asked for, the ends, how often each came, and how many
-  -- schedules came to none.
+  -- The bytes for random schedules: by the text, the program, how many schedules there were, and
+  -- their seed. Then come the number of the end that is asked for, the ends, and how often each came.
+  -- Last comes how many schedules came to none.
   pub of_sample : List ℕ → Program → ℕ → ℕ → Option ℕ → List Found → List ℕ → ℕ → List ℕ
   -- the output for a fault of the text
   pub of_text_fault : AsmError → List ℕ → Output

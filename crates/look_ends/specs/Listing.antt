@@ -52,7 +52,7 @@ search_lines text g is_refused number found states whole by_calls =
     found_lines text g.program found 0 ++ (refused_line g is_refused whole found
     ++ (by_calls_line by_calls ++ (states_line whole states ++ no_number_line number found)))
 
--- the same of random schedules, with the number of times that each end came
+-- a line for each end of random schedules, with how often it came, and what is to be said of all
 abbrev pub sample_lines : List ℕ → Program → ℕ → ℕ → Option ℕ → List Found → List ℕ → ℕ → List ℕ
 sample_lines text p schedules seed number found times unfinished =
     sampled_lines text p found times schedules 0 ++ (unfinished_line unfinished

@@ -23,13 +23,13 @@ abbrev pub numbered : Program → List Event → ℕ → Event → Applied
 numbered p done n e = numbered_at (watched p done) n e
 
 -- the columns of the rest begin with that of the first event, if it has one
-pub columns_next : (text : List ℕ) (brief : Bool) (p : Program) (n : ℕ) (es : List Event) (i : ℕ) (d : Event) → i < length es → columns_from text brief p n (take i es) (drop i es) ≡ maybe_column text (event_words text brief (i + 1) (after_events p (take i es)) (get_or es i d)) (watched p (take i es)) (watched p (take (i + 1) es)) n (numbered p (take i es) (i + 1) (get_or es i d)) ++ columns_from text brief p (one_more (event_words text brief (i + 1) (after_events p (take i es)) (get_or es i d)) n) (take (i + 1) es) (drop (i + 1) es)
+pub columns_next : (text : List ℕ) (brief : Bool) (p : Program) (n : ℕ) (es : List Event) (i : ℕ) (d : Event) → i < length es → columns_from text brief p n (take i es) (drop i es) ≡ maybe_column text (event_words text brief (i + 1) (after_events p (take i es)) (get_or es i d)) (watched p (take i es)) (watched p (take (i + 1) es)) brief n (numbered p (take i es) (i + 1) (get_or es i d)) ++ columns_from text brief p (one_more (event_words text brief (i + 1) (after_events p (take i es)) (get_or es i d)) n) (take (i + 1) es) (drop (i + 1) es)
 columns_next text brief p n es i d inside =
     let long : length (take i es) ≡ i = length-take-le i es (omega (arith, inside)) in
     let e = get_or es i d in
     let line = λ (m : ℕ). event_words text brief (m + 1) (after_events p (take i es)) e in
     ap (columns_from text brief p n (take i es)) (drop_more es i d inside)
-    ∙ ap₂ (λ (m : ℕ) done. maybe_column text (line m) (watched p (take i es)) (watched p done) n (numbered p (take i es) (m + 1) e) ++ columns_from text brief p (one_more (line m) n) done (drop (i + 1) es)) long (sym (take_more es i d inside))
+    ∙ ap₂ (λ (m : ℕ) done. maybe_column text (line m) (watched p (take i es)) (watched p done) brief n (numbered p (take i es) (m + 1) e) ++ columns_from text brief p (one_more (line m) n) done (drop (i + 1) es)) long (sym (take_more es i d inside))
 
 -- the number of columns after one event more
 pub count_next : (text : List ℕ) (brief : Bool) (p : Program) (n : ℕ) (es : List Event) (i : ℕ) (d : Event) → i < length es → count_from text brief p n (take i es) (drop i es) ≡ count_from text brief p (one_more (event_words text brief (i + 1) (after_events p (take i es)) (get_or es i d)) n) (take (i + 1) es) (drop (i + 1) es)

@@ -22,7 +22,7 @@ use Rattle.look_picture.specs.declared.marks.Mark.{Mark}
 use Rattle.look_picture.specs.declared.marks.Mark.TheVariants as mark
 use Rattle.look_picture.specs.Brackets.{scope_cells}
 use Rattle.look_picture.specs.Lanes.{lane_names, task_cells}
-use Rattle.look_picture.specs.Place.{column, height, lane, width}
+use Rattle.look_picture.specs.Place.{column, columns_width, height, lane, number_line, width}
 use Rattle.look_picture.specs.Legend.{keys, legend}
 use Rattle.look_picture.specs.Style.{style}
 use Rattle.look_picture.specs.Title.{title_words}
@@ -76,30 +76,34 @@ abbrev pub number_room : Room
 number_room = record { letters = 3; size = 10 }
 
 -- the event's number above the lanes
-abbrev pub number : List ℕ → ℕ → ℕ → List ℕ
-number words at n =
-    fitted_start (codes "number") (column at) 44 (length (decimal n)) number_room
+abbrev pub number : List ℕ → Bool → ℕ → ℕ → List ℕ
+number words brief at n =
+    fitted_start (codes "number") (column brief at) (number_line brief at + 4)
+    (length (decimal n)) number_room
     ++ number_words words (decimal n)
 
 -- a stroke through the number of an event that doesn't count
-abbrev pub idle_mark : List ℕ → ℕ → Bool → List ℕ
-idle_mark words at is_counted =
-    if is_counted then [] else mark_at mark.Idle (column at) 40 words
+abbrev pub idle_mark : List ℕ → Bool → ℕ → Bool → List ℕ
+idle_mark words brief at is_counted =
+    if is_counted then []
+    else mark_at mark.Idle (column brief at) (number_line brief at) words
 
 -- the number, with its stroke
-unfoldable pub event_number : List ℕ → ℕ → Applied → List ℕ
-event_number words at a = number words at a.number ++ idle_mark words at a.is_counted
+unfoldable pub event_number : List ℕ → Bool → ℕ → Applied → List ℕ
+event_number words brief at a =
+    number words brief at a.number ++ idle_mark words brief at a.is_counted
 
 -- an event with these words in this column, from what was seen before it and what is seen after it
-abbrev pub event_column : List ℕ → List ℕ → Watched → Watched → ℕ → Applied → List ℕ
-event_column text words before m at a =
-    event_number words at a ++ (standing text before m (column at) a.is_counted (shown m.state)
-    ++ stepped words before (column at) a.event a.is_counted)
+abbrev pub event_column : List ℕ → List ℕ → Watched → Watched → Bool → ℕ → Applied → List ℕ
+event_column text words before m brief at a =
+    event_number words brief at a
+    ++ (standing text before m (column brief at) a.is_counted (shown m.state)
+    ++ stepped words before (column brief at) a.event a.is_counted)
 
 -- an event after these many columns, unless it has no words
-abbrev pub maybe_column : List ℕ → List ℕ → Watched → Watched → ℕ → Applied → List ℕ
-maybe_column text words before m n a =
-    if length words == 0 then [] else event_column text words before m (n + 1) a
+abbrev pub maybe_column : List ℕ → List ℕ → Watched → Watched → Bool → ℕ → Applied → List ℕ
+maybe_column text words before m brief n a =
+    if length words == 0 then [] else event_column text words before m brief (n + 1) a
 
 -- the number of columns then
 abbrev pub one_more : List ℕ → ℕ → ℕ
@@ -110,7 +114,7 @@ abbrev pub columns_from : List ℕ → Bool → Program → ℕ → List Event �
 columns_from text brief p n done [] = []
 columns_from text brief p n done (e ∷ es) =
     maybe_column text (event_words text brief (length done + 1) (after_events p done) e)
-    (watched p done) (watched p (done ++ e ∷ [])) n (applied p done e)
+    (watched p done) (watched p (done ++ e ∷ [])) brief n (applied p done e)
     ++ columns_from text brief p
     (one_more (event_words text brief (length done + 1) (after_events p done) e) n)
     (done ++ e ∷ []) es
@@ -125,7 +129,7 @@ count_from text brief p n done (e ∷ es) =
 
 -- the column before the first event that has one; nothing changed there
 abbrev pub first_column : List ℕ → Watched → List ℕ
-first_column text m = standing text m m (column 0) false (shown m.state)
+first_column text m = standing text m m (column false 0) false (shown m.state)
 
 -- the column before the first event, and one after each that has words; the first events are skipped
 abbrev pub columns : List ℕ → Bool → Program → ℕ → List Event → List ℕ
@@ -155,16 +159,22 @@ heading files text m d =
     title_words files
     ++ (run_line text m.program (shown m.state) ++ (codes " " ++ (steps_line m.steps ++ left_out d)))
 
-unfoldable pub svg_start : ℕ → ℕ → List ℕ
-svg_start wide high =
-    codes "<svg xmlns='http://www.w3.org/2000/svg' class='sts-run' role='img' viewBox='0 0 "
-    ++ (decimal wide ++ (codes " " ++ (decimal high ++ (codes "' width='" ++ (decimal wide
-    ++ (codes "' height='" ++ (decimal high ++ codes "'>\n<title>")))))))
+-- the classes of a picture; the style draws narrower marks in a brief one
+abbrev pub classes : Bool → List ℕ
+classes brief = if brief then codes "sts-run sts-brief" else codes "sts-run"
+
+unfoldable pub svg_start : List ℕ → ℕ → ℕ → List ℕ
+svg_start class wide high =
+    codes "<svg xmlns='http://www.w3.org/2000/svg' class='" ++ (class
+    ++ (codes "' role='img' viewBox='0 0 " ++ (decimal wide ++ (codes " " ++ (decimal high
+    ++ (codes "' width='" ++ (decimal wide ++ (codes "' height='" ++ (decimal high
+    ++ codes "'>\n<title>")))))))))
 
 -- the size of a picture of these many columns, with a heading of these many letters and these many
 -- keys
-abbrev pub sized : Watched → ℕ → ℕ → ℕ → List ℕ
-sized m columns letters keys = svg_start (width columns letters) (height (length m.last.tasks) keys)
+abbrev pub sized : Watched → Bool → ℕ → ℕ → ℕ → List ℕ
+sized m brief columns letters keys =
+    svg_start (classes brief) (width brief columns letters) (height (length m.last.tasks) keys)
 
 -- the lines of all tasks and scopes
 unfoldable pub standing_lines : Watched → List ℕ
@@ -182,24 +192,24 @@ abbrev pub description : Watched → List ℕ
 description m = description_start ++ (standing_lines m ++ description_end)
 
 -- the size, this heading as the title, and all tasks and scopes
-abbrev pub head : List ℕ → Watched → ℕ → ℕ → List ℕ
-head heading m columns keys =
-    sized m columns (length heading) keys ++ (heading ++ description m)
+abbrev pub head : List ℕ → Watched → Bool → ℕ → ℕ → List ℕ
+head heading m brief columns keys =
+    sized m brief columns (length heading) keys ++ (heading ++ description m)
 
 -- the style, and the grid behind the lanes
 abbrev pub grid : List ℕ → ℕ → ℕ → List ℕ
 grid style wide high =
-    style ++ (codes "<rect fill='url(#sts-grid)' x='208' y='46' width='" ++ (decimal wide
+    style ++ (codes "<rect class='ground' x='208' y='46' width='" ++ (decimal wide
     ++ (codes "' height='" ++ (decimal high ++ codes "'/>\n"))))
 
 -- the style, and the grid behind these many columns and lanes
-abbrev pub grid_of : ℕ → ℕ → List ℕ
-grid_of columns tasks = grid style (24 * columns + 24) (52 * tasks)
+abbrev pub grid_of : Bool → ℕ → ℕ → List ℕ
+grid_of brief columns tasks = grid style (columns_width brief columns) (52 * tasks)
 
 -- the grid behind these many columns, and this heading above it
-abbrev pub backdrop : List ℕ → Watched → ℕ → List ℕ
-backdrop heading m columns =
-    grid_of columns (length m.last.tasks)
+abbrev pub backdrop : List ℕ → Watched → Bool → ℕ → List ℕ
+backdrop heading m brief columns =
+    grid_of brief columns (length m.last.tasks)
     ++ (text_start (codes "heading") 12 22 ++ (heading ++ text_end))
 
 -- the group of the legend, from this height on
@@ -218,25 +228,25 @@ below text s keys =
     lane_names text s (world_of s).tasks 0 ++ foot (length (world_of s).tasks) keys
 
 -- these many columns under this heading, between the grid and the legend with these keys
-abbrev pub framed_under : List ℕ → List ℕ → Story → ℕ → List ℕ → List Mark → List ℕ
-framed_under heading text s n columns keys =
-    head heading s.watched n (length keys)
-    ++ (backdrop heading s.watched n ++ (columns ++ below text s keys))
+abbrev pub framed_under : List ℕ → List ℕ → Story → Bool → ℕ → List ℕ → List Mark → List ℕ
+framed_under heading text s brief n columns keys =
+    head heading s.watched brief n (length keys)
+    ++ (backdrop heading s.watched brief n ++ (columns ++ below text s keys))
 
 -- these many columns under the heading, with these keys in the legend
 abbrev pub framed_with
-    : Option FileNames → List ℕ → Story → Drawn → ℕ → List ℕ → List Mark → List ℕ
-framed_with files text s d n columns keys =
-    framed_under (heading files text s.watched d) text s n columns keys
+    : Option FileNames → List ℕ → Story → Drawn → Bool → ℕ → List ℕ → List Mark → List ℕ
+framed_with files text s d brief n columns keys =
+    framed_under (heading files text s.watched d) text s brief n columns keys
 
 -- these many columns in their frame; the legend has the marks that they have
-abbrev pub framed : Option FileNames → List ℕ → Story → Drawn → ℕ → List ℕ → List ℕ
-framed files text s d n columns = framed_with files text s d n columns (keys columns)
+abbrev pub framed : Option FileNames → List ℕ → Story → Drawn → Bool → ℕ → List ℕ → List ℕ
+framed files text s d brief n columns = framed_with files text s d brief n columns (keys columns)
 
 unfoldable pub picture
     : Option FileNames → List ℕ → Bool → Program → Drawn → List Event → List ℕ
 picture files text brief p d events =
-    framed files text (after_events p events) d (count text brief p d.before events)
+    framed files text (after_events p events) d brief (count text brief p d.before events)
     (columns text brief p d.before events)
 
 -- the status of the state of a story's run: 0 if the root succeeded, 1 if it failed, otherwise 5

@@ -1,5 +1,5 @@
 -- The positions of a picture's columns, lanes and brackets, in pixels (this project's own).
-use Rattle.std.specs.Prelude.{ℕ, ◌+◌, ◌*◌, ◌/◌, ◌%◌, Bool, false, not, ◌&&◌, ◌==◌, nat_lt, min, max, take, count_by}
+use Rattle.std.specs.Prelude.{ℕ, ◌+◌, ◌*◌, ◌/◌, ◌%◌, Bool, false, not, ◌&&◌, ◌==◌, nat_lt, min, max, if◌then◌else◌, take, count_by}
 use Rattle.sts_model.specs.declared.record.Scope.{Scope}
 use Rattle.sts_model.specs.declared.record.Entry.{Entry}
 use Rattle.sts_model.specs.declared.record.Entry.TheVariants as entry
@@ -7,8 +7,17 @@ use Rattle.sts_model.specs.Living.{is_closed}
 use Rattle.sts_model.specs.World.{World, scope_at}
 
 -- the middle of the n-th column; column 0 is before the first event
-abbrev pub column : ℕ → ℕ
-column n = 208 + 24 * n
+abbrev pub column : Bool → ℕ → ℕ
+column brief n = if brief then 208 + 16 * n else 208 + 24 * n
+
+-- the width of these many columns and of the one before them
+abbrev pub columns_width : Bool → ℕ → ℕ
+columns_width brief n = if brief then 16 * n + 16 else 24 * n + 24
+
+-- the height of the middle of the number over the n-th column; in a brief picture it is lower and
+-- higher by turns
+abbrev pub number_line : Bool → ℕ → ℕ
+number_line brief n = if brief && (n % 2 == 1) then 30 else 40
 
 -- the middle of a task's lane
 abbrev pub lane : ℕ → ℕ
@@ -43,8 +52,8 @@ abbrev pub bracket : World → ℕ → ℕ
 bracket w s = bracket_at (scope_at w s).owner (depth w s)
 
 -- the width of a picture of these many columns, with a heading of these many letters
-abbrev pub width : ℕ → ℕ → ℕ
-width columns letters = max (column columns + 168) (max 480 (24 + 9 * letters))
+abbrev pub width : Bool → ℕ → ℕ → ℕ
+width brief columns letters = max (column brief columns + 168) (max 480 (24 + 9 * letters))
 
 -- the place of a key of the legend, by its number, from the legend's left and from its top; there are
 -- two in a row

@@ -6,6 +6,7 @@ pub mod change;
 pub mod lanes;
 mod legend;
 pub mod marks;
+mod numbers;
 pub mod picture;
 pub mod place;
 pub mod present;

@@ -17,14 +17,15 @@ use crate::change::Change;
 use crate::lanes::{lane_names, task_cells};
 use crate::legend::{keys, legend};
 use crate::marks::Mark;
-use crate::place::{column, height, lane, width};
+use crate::numbers::event_number;
+use crate::place::{column, columns_width, height, lane, width};
 use crate::present::Present;
 use crate::style::style;
 use crate::title::{FileNames, say_title};
 use crate::told::event_words;
 use crate::window::{DrawOptions, Drawn, left_out, shown_events};
 use crate::words::{next_word, step_word};
-use crate::writing::{Room, escape, fitted_start, mark_end, mark_start, text_end, text_start};
+use crate::writing::{escape, mark_end, mark_start, text_end, text_start};
 use look_lines::{Applied, Form, Run, ViewOptions, Watch, after, view_lines, write_run};
 use look_names::Names;
 use look_tell::{Story, say_end};
@@ -39,12 +40,6 @@ use sts_output::{
 };
 use sts_plain::PlainState;
 use sts_trace::TraceError;
-
-/// The room for a number above its column.
-const NUMBER_ROOM: Room = Room {
-    letters: 3,
-    size: 10,
-};
 
 /// All cells of a world in a column, with the changes since the column before.
 fn cells(
@@ -157,59 +152,6 @@ fn stepped(
     }
 }
 
-/// The words of an event, then its number.
-fn number_words(out: &mut String, words: &str, digits: &str) -> Result<(), AllocError>
-    ensures { OnOk result (string_bytes out.new
-        ≡ string_bytes out.old ++ def.number_words words.now digits.now) }
-{
-    writeln!(out, "<title>{words}</title>{digits}</text>")
-}
-
-/// The event's number above the lanes.
-fn number(
-    alloc: Global,
-    out: &mut String,
-    words: &str,
-    at: usize,
-    n: usize,
-) -> Result<(), AllocError>
-    ensures { OnOk result (string_bytes out.new
-        ≡ string_bytes out.old ++ def.number words.now at n) }
-{
-    let digits = format!(in alloc; "{n}")?;
-    fitted_start(out, "number", column(at), 44, digits.len(), NUMBER_ROOM)?;
-    number_words(out, words, digits.as_str())
-}
-
-/// A stroke through the number of an event that doesn't count.
-fn idle_mark(out: &mut String, words: &str, at: usize, is_counted: bool) -> Result<(), AllocError>
-    ensures { OnOk result (string_bytes out.new
-        ≡ string_bytes out.old ++ def.idle_mark words.now at is_counted) }
-{
-    if is_counted {
-        return Ok(());
-    }
-    mark_start(out, Mark::Idle, column(at), 40)?;
-    out.push_str(words)?;
-    mark_end(out)
-}
-
-/// The event's number above the lanes, with its stroke.
-#[tactic(auto, unfolding(crate::specs::Picture::event_number))]
-fn event_number(
-    alloc: Global,
-    out: &mut String,
-    words: &str,
-    at: usize,
-    applied: Applied,
-) -> Result<(), AllocError>
-    ensures { OnOk result (string_bytes out.new
-        ≡ string_bytes out.old ++ def.event_number words.now at applied) }
-{
-    number(alloc, out, words, at, applied.number)?;
-    idle_mark(out, words, at, applied.is_counted)
-}
-
 /// An event with these words in a column.
 fn event_column(
     alloc: Global,
@@ -217,16 +159,24 @@ fn event_column(
     names: &Names<'_>,
     words: &str,
     seen: Seen<'_, '_>,
+    brief: bool,
     at: usize,
     applied: Applied,
 ) -> Result<(), AllocError>
     ensures { OnOk result (string_bytes out.new ≡ string_bytes out.old
-        ++ def.event_column names.now words.now seen.entry.before.now seen.entry.watch.now at
-        applied) }
+        ++ def.event_column names.now words.now seen.entry.before.now seen.entry.watch.now brief
+        at applied) }
 {
-    event_number(alloc, out, words, at, applied)?;
-    standing(alloc, out, names, seen, column(at), applied.is_counted)?;
-    stepped(out, words, seen, column(at), applied)
+    event_number(alloc, out, words, brief, at, applied)?;
+    standing(
+        alloc,
+        out,
+        names,
+        seen,
+        column(brief, at),
+        applied.is_counted,
+    )?;
+    stepped(out, words, seen, column(brief, at), applied)
 }
 
 /// Draws an event after this many columns, unless it has no words. Returns the number of columns
@@ -237,6 +187,7 @@ fn maybe_column(
     names: &Names<'_>,
     words: &str,
     seen: Seen<'_, '_>,
+    brief: bool,
     columns: usize,
     applied: Applied,
 ) -> Result<usize, AllocError>
@@ -244,12 +195,12 @@ fn maybe_column(
     ensures counted { IfOk result (λ n. n ≡ def.one_more words.now columns) }
     ensures drawn { OnOk result (string_bytes out.new ≡ string_bytes out.old
         ++ def.maybe_column names.now words.now seen.entry.before.now seen.entry.watch.now
-        columns applied) }
+        brief columns applied) }
 {
     if words.len() == 0 {
         return Ok(columns);
     }
-    event_column(alloc, out, names, words, seen, columns + 1, applied)?;
+    event_column(alloc, out, names, words, seen, brief, columns + 1, applied)?;
     Ok(columns + 1)
 }
 
@@ -293,7 +244,16 @@ fn event_columns(
             event: events[i],
             is_counted,
         };
-        let more = maybe_column(alloc, out, names, words.as_str(), seen, columns, applied)?;
+        let more = maybe_column(
+            alloc,
+            out,
+            names,
+            words.as_str(),
+            seen,
+            brief,
+            columns,
+            applied,
+        )?;
         columns = more;
         before.apply(alloc, events[i])?;
         present.keep(before.world().records());
@@ -319,7 +279,7 @@ fn first_column(
         watch,
         present,
     };
-    standing(alloc, out, names, seen, column(0), false)
+    standing(alloc, out, names, seen, column(false, 0), false)
 }
 
 /// The story of the events, and how many of them have a column.
@@ -415,12 +375,24 @@ fn heading(
     Ok(words)
 }
 
-fn svg_start(out: &mut String, wide: u128, high: u64) -> Result<(), AllocError>
-    ensures { OnOk result (string_bytes out.new ≡ string_bytes out.old ++ def.svg_start wide high) }
+/// The classes of a picture. The style draws narrower marks in a brief one.
+fn classes(brief: bool) -> &'static str
+    ensures { result.now ≡ def.classes brief }
+{
+    if brief {
+        "sts-run sts-brief"
+    } else {
+        "sts-run"
+    }
+}
+
+fn svg_start(out: &mut String, class: &str, wide: u128, high: u64) -> Result<(), AllocError>
+    ensures { OnOk result (string_bytes out.new
+        ≡ string_bytes out.old ++ def.svg_start class.now wide high) }
 {
     write!(
         out,
-        "<svg xmlns='http://www.w3.org/2000/svg' class='sts-run' role='img' \
+        "<svg xmlns='http://www.w3.org/2000/svg' class='{class}' role='img' \
         viewBox='0 0 {wide} {high}' width='{wide}' height='{high}'>\n<title>"
     )
 }
@@ -430,16 +402,22 @@ fn svg_start(out: &mut String, wide: u128, high: u64) -> Result<(), AllocError>
 fn sized(
     out: &mut String,
     watch: &Watch<'_>,
+    brief: bool,
     columns: usize,
     letters: usize,
     keys: usize,
 ) -> Result<(), AllocError>
     requires { keys ≤ MOST_KEYS }
     ensures { OnOk result (string_bytes out.new
-        ≡ string_bytes out.old ++ def.sized watch.now columns letters keys) }
+        ≡ string_bytes out.old ++ def.sized watch.now brief columns letters keys) }
 {
     let tasks = watch.world().records().tasks_born();
-    svg_start(out, width(columns, letters), height(tasks, keys))
+    svg_start(
+        out,
+        classes(brief),
+        width(brief, columns, letters),
+        height(tasks, keys),
+    )
 }
 
 /// The lines of all tasks and scopes.
@@ -483,14 +461,15 @@ fn head(
     out: &mut String,
     heading: &str,
     watch: &Watch<'_>,
+    brief: bool,
     columns: usize,
     keys: usize,
 ) -> Result<(), AllocError>
     requires { keys ≤ MOST_KEYS }
     ensures { OnOk result (string_bytes out.new
-        ≡ string_bytes out.old ++ def.head heading.now watch.now columns keys) }
+        ≡ string_bytes out.old ++ def.head heading.now watch.now brief columns keys) }
 {
-    sized(out, watch, columns, heading.len(), keys)?;
+    sized(out, watch, brief, columns, heading.len(), keys)?;
     out.push_str(heading)?;
     description(out, watch)
 }
@@ -502,17 +481,17 @@ fn grid(out: &mut String, style: &str, wide: u128, high: usize) -> Result<(), Al
 {
     writeln!(
         out,
-        "{style}<rect fill='url(#sts-grid)' x='208' y='46' width='{wide}' height='{high}'/>"
+        "{style}<rect class='ground' x='208' y='46' width='{wide}' height='{high}'/>"
     )
 }
 
 /// The style, and the grid behind these many columns and lanes.
-fn grid_of(out: &mut String, columns: usize, tasks: usize) -> Result<(), AllocError>
+fn grid_of(out: &mut String, brief: bool, columns: usize, tasks: usize) -> Result<(), AllocError>
     requires { tasks ≤ MAX_BIRTHS }
     ensures { OnOk result (string_bytes out.new
-        ≡ string_bytes out.old ++ def.grid_of columns tasks) }
+        ≡ string_bytes out.old ++ def.grid_of brief columns tasks) }
 {
-    grid(out, style(), 24 * columns as u128 + 24, 52 * tasks)
+    grid(out, style(), columns_width(brief, columns), 52 * tasks)
 }
 
 /// The grid behind these many columns, and this heading above it.
@@ -520,13 +499,14 @@ fn backdrop(
     out: &mut String,
     heading: &str,
     watch: &Watch<'_>,
+    brief: bool,
     columns: usize,
 ) -> Result<(), AllocError>
     ensures { OnOk result (string_bytes out.new
-        ≡ string_bytes out.old ++ def.backdrop heading.now watch.now columns) }
+        ≡ string_bytes out.old ++ def.backdrop heading.now watch.now brief columns) }
 {
     let tasks = watch.world().records().tasks_born();
-    grid_of(out, columns, tasks)?;
+    grid_of(out, brief, columns, tasks)?;
     text_start(out, "heading", 12, 22)?;
     out.push_str(heading)?;
     text_end(out)
@@ -581,17 +561,18 @@ fn framed_under(
     heading: &str,
     names: &Names<'_>,
     story: &Story<'_>,
+    brief: bool,
     count: usize,
     columns: &str,
     keys: &[Mark],
 ) -> Result<(), AllocError>
     requires { length keys.now ≤ MOST_KEYS }
     ensures { OnOk result (string_bytes out.new ≡ string_bytes out.old
-        ++ def.framed_under heading.now names.now story.now count columns.now keys.now) }
+        ++ def.framed_under heading.now names.now story.now brief count columns.now keys.now) }
 {
     let watch = story.watch();
-    head(out, heading, watch, count, keys.len())?;
-    backdrop(out, heading, watch, count)?;
+    head(out, heading, watch, brief, count, keys.len())?;
+    backdrop(out, heading, watch, brief, count)?;
     out.push_str(columns)?;
     below(alloc, out, names, story, keys)
 }
@@ -604,6 +585,7 @@ fn framed_with(
     names: &Names<'_>,
     story: &Story<'_>,
     drawn: Drawn,
+    brief: bool,
     count: usize,
     columns: &str,
     keys: &[Mark],
@@ -611,7 +593,7 @@ fn framed_with(
     requires ordered { drawn.last ≤ drawn.all }
     requires few { length keys.now ≤ MOST_KEYS }
     ensures { OnOk result (string_bytes out.new ≡ string_bytes out.old
-        ++ def.framed_with files.entry names.now story.now drawn count columns.now keys.now) }
+        ++ def.framed_with files.entry names.now story.now drawn brief count columns.now keys.now) }
 {
     let words = heading(alloc, files, names, story.watch(), drawn)?;
     framed_under(
@@ -620,6 +602,7 @@ fn framed_with(
         words.as_str(),
         names,
         story,
+        brief,
         count,
         columns,
         keys,
@@ -634,12 +617,13 @@ fn framed(
     names: &Names<'_>,
     story: &Story<'_>,
     drawn: Drawn,
+    brief: bool,
     count: usize,
     columns: &str,
 ) -> Result<(), AllocError>
     requires { drawn.last ≤ drawn.all }
     ensures { OnOk result (string_bytes out.new ≡ string_bytes out.old
-        ++ def.framed files.entry names.now story.now drawn count columns.now) }
+        ++ def.framed files.entry names.now story.now drawn brief count columns.now) }
 {
     let keys = keys(alloc, columns)?;
     framed_with(
@@ -649,6 +633,7 @@ fn framed(
         names,
         story,
         drawn,
+        brief,
         count,
         columns,
         keys.as_slice(),
@@ -695,6 +680,7 @@ fn picture_of(
         names,
         &found.story,
         drawn,
+        brief,
         found.count,
         columns_text.as_str(),
     )?;

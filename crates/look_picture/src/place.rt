@@ -1,6 +1,6 @@
 //! The positions of a picture's columns, lanes and brackets, in pixels.
 
-ghost use Rattle.std.specs.Prelude.{◌≡◌, ◌≤◌};
+ghost use Rattle.std.specs.Prelude.{◌≡◌, ◌<◌, ◌≤◌, ◌^◌};
 ghost use Rattle.sts_code.specs.declared.limits.TheConstants.{MAX_BIRTHS};
 ghost use Rattle.look_picture.specs.Place as def;
 ghost use Rattle.look_picture.specs.declared.legend.TheConstants.{MOST_KEYS};
@@ -8,10 +8,35 @@ ghost use Rattle.look_picture.specs.declared.legend.TheConstants.{MOST_KEYS};
 use std::cmp;
 
 /// The middle of the n-th column. Column 0 is before the first event.
-pub fn column(n: usize) -> u128
-    ensures { result ≡ def.column n }
+pub fn column(brief: bool, n: usize) -> u128
+    ensures value { result ≡ def.column brief n }
+    ensures small { result < 2 ^ 127 }
 {
-    208 + 24 * n as u128
+    if brief {
+        208 + 16 * n as u128
+    } else {
+        208 + 24 * n as u128
+    }
+}
+
+/// The width of these many columns and of the one before them.
+pub fn columns_width(brief: bool, n: usize) -> u128
+    ensures { result ≡ def.columns_width brief n }
+{
+    if brief {
+        16 * n as u128 + 16
+    } else {
+        24 * n as u128 + 24
+    }
+}
+
+/// The height of the middle of the number over the n-th column. In a brief picture it is lower and
+/// higher by turns.
+pub fn number_line(brief: bool, n: usize) -> u64
+    ensures value { result ≡ def.number_line brief n }
+    ensures small { result ≤ 40 }
+{
+    if brief && n % 2 == 1 { 30 } else { 40 }
 }
 
 /// The middle of a task's lane.
@@ -43,11 +68,11 @@ pub fn bracket(owner: u32, depth: usize) -> u64
 }
 
 /// The width of a picture of `columns` columns, with a heading of `letters` letters.
-pub fn width(columns: usize, letters: usize) -> u128
-    ensures { result ≡ def.width columns letters }
+pub fn width(brief: bool, columns: usize, letters: usize) -> u128
+    ensures { result ≡ def.width brief columns letters }
 {
     cmp::max(
-        column(columns) + 168,
+        column(brief, columns) + 168,
         cmp::max(480, 24 + 9 * letters as u128),
     )
 }

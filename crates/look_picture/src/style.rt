@@ -9,6 +9,7 @@ pub const STYLE: &str = "\
     .sts-run text{fill:#1c2530;font:12px 'DejaVu Sans',Verdana,sans-serif}\n\
     .sts-run .back{fill:#ffffff}\n\
     .sts-run path{fill:none;stroke-width:2}\n\
+    .sts-run .ground{fill:url(#sts-grid)}\n\
     .sts-run .grid{stroke:#e1e5ea;stroke-width:1}\n\
     .sts-run .heading{font-weight:bold;font-size:14px}\n\
     .sts-run .number{fill:#4a5563;font-size:10px;text-anchor:middle}\n\
@@ -32,6 +33,13 @@ pub const STYLE: &str = "\
     .sts-run .quiet{stroke:#9aa6b3;stroke-width:1}\n\
     .sts-run .idle{stroke:#4a5563;stroke-width:1}\n\
     .sts-run .expired{fill:#a85400}\n\
+    .sts-brief .ground{fill:url(#sts-brief-grid)}\n\
+    .sts-brief .word{letter-spacing:-.5px}\n\
+    .sts-brief .ready,.sts-brief .bracket{stroke-dasharray:16 8}\n\
+    .sts-brief .waits{stroke-dasharray:4 4 4 12}\n\
+    .sts-brief .closing{stroke-dasharray:2 3 2 3 2 12}\n\
+    .sts-brief .cancelled,.sts-brief .quiet{transform:translate(-4px)}\n\
+    .sts-brief .expired{transform:translate(-3px)}\n\
     @media (prefers-color-scheme:dark){\n\
     .sts-run text{fill:#e8edf2}\n\
     .sts-run .back{fill:#14181d}\n\
@@ -54,7 +62,9 @@ pub const STYLE: &str = "\
     }\n\
     </style>\n\
     <defs><pattern id='sts-grid' patternUnits='userSpaceOnUse' x='208' y='46' width='24'\
-    \x20height='52'><path class='grid' d='M.5 0v52M0 26.5h24'/></pattern></defs>\n\
+    \x20height='52'><path class='grid' d='M.5 0v52M0 26.5h24'/></pattern>\n\
+    <pattern id='sts-brief-grid' patternUnits='userSpaceOnUse' x='208' y='46' width='16'\
+    \x20height='52'><path class='grid' d='M.5 0v52M0 26.5h16'/></pattern></defs>\n\
     <rect class='back' width='100%' height='100%'/>\n";
 
 /// The style, in light and dark, the grid and the ground.

@@ -71,7 +71,7 @@ fn line_name<'t>(names: &Names<'t>, line: Option<u32>) -> Option<&'t str>
     names.line(line?)
 }
 
-/// Adds the names of a function, and of the line of a place in it, to an object.
+/// Adds to an object the name of a function, and that of the line of a place in it.
 ///
 /// # Errors
 ///

@@ -67,9 +67,9 @@ loop-i-preserved c =
     let words = c.as_str.ensures.value ∙ c.in_ok-words.ensures.said ∙ ap (λ (s : Story). event_words text brief (i + 1) s e) l.invariant.told in
     let applied = ap (applied_of (i + 1) e) c.counts-is_counted.ensures ∙ ap (λ (w : Watched). numbered_at w (i + 1) e) stands in
     let here =
-    ap (λ (xs : List ℕ). def.maybe_column text xs l.before watch n (applied_of (i + 1) e c.counts-is_counted.result)) words
-    ∙ ap₂ (λ (b w : Watched). def.maybe_column text line b w n (applied_of (i + 1) e c.counts-is_counted.result)) l.invariant.behind shown
-    ∙ ap (def.maybe_column text line before after n) applied in
+    ap (λ (xs : List ℕ). def.maybe_column text xs l.before watch brief n (applied_of (i + 1) e c.counts-is_counted.result)) words
+    ∙ ap₂ (λ (b w : Watched). def.maybe_column text line b w brief n (applied_of (i + 1) e c.counts-is_counted.result)) l.invariant.behind shown
+    ∙ ap (def.maybe_column text line before after brief n) applied in
     let more = c.in_ok-more.ensures.counted ∙ ap (λ (xs : List ℕ). def.one_more xs n) words in
     let rest = λ (m : ℕ). def.columns_from text brief p m (take (i + 1) es) (drop (i + 1) es) in
     let w : World = watch.last in
@@ -93,7 +93,7 @@ loop-i-preserved c =
           ∙ l.invariant.counted;
       drawn =
           ap₂ (λ (xs : List ℕ) (m : ℕ). xs ++ rest m) (c.in_ok-more.ensures.drawn ∙ ap (λ xs. string_bytes l.out ++ xs) here) more
-          ∙ append_assoc (string_bytes l.out) (def.maybe_column text line before after n (numbered p (take i es) (i + 1) e)) (rest (def.one_more line n))
+          ∙ append_assoc (string_bytes l.out) (def.maybe_column text line before after brief n (numbered p (take i es) (i + 1) e)) (rest (def.one_more line n))
           ∙ ap (λ xs. string_bytes l.out ++ xs) (sym (columns_next text brief p n es i (Step 0) (omega arith)))
           ∙ l.invariant.drawn;
     }

@@ -18,8 +18,8 @@ returns c =
     let counted = c.in_ok-found.ensures.counted in
     let drawn = c.in_ok-found.ensures.drawn ∙ ap (λ xs. xs ++ def.columns text brief p d.before es) c.new-columns_text.ensures.bytes in
     let written =
-    c.in_ok-framed.ensures ∙ ap (λ xs. xs ++ def.framed files text found.story d found.count c.as_str.result.now) c.new-text.ensures.bytes
-    ∙ ap (λ (n : ℕ). def.framed files text found.story d n c.as_str.result.now) counted
-    ∙ ap₂ (λ (s : Story) (xs : List ℕ). def.framed files text s d (def.count text brief p d.before es) xs) told (c.as_str.ensures.value ∙ drawn) in
+    c.in_ok-framed.ensures ∙ ap (λ xs. xs ++ def.framed files text found.story d brief found.count c.as_str.result.now) c.new-text.ensures.bytes
+    ∙ ap (λ (n : ℕ). def.framed files text found.story d brief n c.as_str.result.now) counted
+    ∙ ap₂ (λ (s : Story) (xs : List ℕ). def.framed files text s d brief (def.count text brief p d.before es) xs) told (c.as_str.ensures.value ∙ drawn) in
     let status = c.status_of.ensures ∙ ap def.status_of told in
     ap₂ (λ bytes s. record { bytes = bytes; status = s }) written status
