@@ -10,7 +10,8 @@ A TRACE is short (`0*5`), or `trace LINES`. A remark `# ---- GROUP` begins a gro
 
 pictures.json has runs, and the picture of each. `sizes` are the width and the height of the picture and of its grid, and
 `foot` is where the legend begins; `titled` is the heading's form of `state`, if that has names. An element is `CLASS X Y WORDS` for a mark, `fork X FROM TO`, `number X N WORDS`,
-`idle X N WORDS`, or `value X Y WORDS` and other texts. An element with `of each` stands for these elements of each event from
+`idle X N WORDS`, or `value X Y WORDS` and other texts. In a brief picture each other number is a `higher-number` or
+`higher-idle`. An element with `of each` stands for these elements of each event from
 `first` to `last`: N is its number, and X its column, of which the first is at `at`. `events` and `brief` are the options, if
 they are given, and `left_out` says in the heading which events aren't drawn. The legend has the marks that the elements have.
 The style is a text that was chosen; it isn't compared. In a text, a trace, `stands` and `left_out`, ` / ` is between two lines.
@@ -89,9 +90,10 @@ def fitted(kind, words):
 def element(short):
     """Returns an element of a picture from its short form."""
     kind, x, y, words = (short.replace(" / ", "\n").split(" ", 3) + [""])[:4]
-    if kind in ("number", "idle"):
-        number = f"<text class='number' x='{x}' y='44'{fitted('number', y)}><title>{words}</title>{y}</text>\n"
-        return number + (mark(kind, x, 40, words) if kind == "idle" else "")
+    if kind in ("number", "idle", "higher-number", "higher-idle"):
+        at = 30 if kind.startswith("higher") else 40
+        number = f"<text class='number' x='{x}' y='{at + 4}'{fitted('number', y)}><title>{words}</title>{y}</text>\n"
+        return number + (mark("idle", x, at, words) if kind.endswith("idle") else "")
     if kind == "fork":
         return f"<path class='fork' d='M{x} {y}V{words}'/>\n"
     if kind in ("value", "label", "name", "code", "word"):
@@ -112,7 +114,7 @@ def elements(row):
 
 def legend(row):
     """Returns the legend of a row: the marks that it has, two in a line."""
-    has = {short.split(" ")[0] for short in elements(row)}
+    has = {short.split(" ")[0].removeprefix("higher-") for short in elements(row)}
     kinds = [kind for kind in MARKS if kind in has]
     for n, kind in enumerate(kinds):
         x, y, words = 232 * (n % 2), 20 * (n // 2), MARKS[kind][1]
@@ -122,12 +124,13 @@ def legend(row):
 def picture(row):
     """Returns the picture of a row, without its style."""
     wide, high, grid_wide, grid_high = row["sizes"]
+    classes = "sts-run sts-brief" if "brief" in row else "sts-run"
     state = f"text, trace: {row.get('titled', row['state'])}\n steps {row['steps']}\n{lines(row.get('left_out', ''))}"
     described = f"{row['state']}\nsteps {row['steps']}\n{lines(row['stands'])}"
     return (
-        f"<svg xmlns='http://www.w3.org/2000/svg' class='sts-run' role='img' viewBox='0 0 {wide} {high}' width='{wide}' height='{high}'>\n"
+        f"<svg xmlns='http://www.w3.org/2000/svg' class='{classes}' role='img' viewBox='0 0 {wide} {high}' width='{wide}' height='{high}'>\n"
         f"<title>{state}</title>\n<desc>{described}</desc>\n"
-        f"<rect fill='url(#sts-grid)' x='208' y='46' width='{grid_wide}' height='{grid_high}'/>\n"
+        f"<rect class='ground' x='208' y='46' width='{grid_wide}' height='{grid_high}'/>\n"
         f"<text class='heading' x='12' y='22'>{state}</text>\n{''.join(map(element, elements(row)))}"
         f"<g transform='translate(12 {row['foot']})'>\n{''.join(legend(row))}</g>\n</svg>\n"
     )
@@ -135,7 +138,7 @@ def picture(row):
 
 def without_style(printed):
     """Returns what is printed without the style, which is before the grid."""
-    return re.sub(r"(?s)(</desc>\n).+?(<rect fill='url\(#sts-grid\)')", r"\1\2", printed, count=1)
+    return re.sub(r"(?s)(</desc>\n).+?(<rect class='ground')", r"\1\2", printed, count=1)
 
 
 def tried(look):
