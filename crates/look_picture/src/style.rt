@@ -34,12 +34,12 @@ pub const STYLE: &str = "\
     .sts-run .idle{stroke:#4a5563;stroke-width:1}\n\
     .sts-run .expired{fill:#a85400}\n\
     .sts-brief .ground{fill:url(#sts-brief-grid)}\n\
-    .sts-brief .word{letter-spacing:-.5px}\n\
+    .sts-brief .word{font-size:7px;letter-spacing:-.5px}\n\
     .sts-brief .ready,.sts-brief .bracket{stroke-dasharray:16 8}\n\
     .sts-brief .waits{stroke-dasharray:4 4 4 12}\n\
     .sts-brief .closing{stroke-dasharray:2 3 2 3 2 12}\n\
-    .sts-brief .cancelled,.sts-brief .quiet{transform:translate(-4px)}\n\
-    .sts-brief .expired{transform:translate(-3px)}\n\
+    .sts-brief .cancelled{transform:translate(-5px)}\n\
+    .sts-brief .quiet,.sts-brief .expired{transform:translate(-4px)}\n\
     @media (prefers-color-scheme:dark){\n\
     .sts-run text{fill:#e8edf2}\n\
     .sts-run .back{fill:#14181d}\n\
