@@ -9,7 +9,7 @@ use Rattle.sts_output.specs.Taking.{IsTakenOf}
 use Rattle.sts_output.specs.declared.taking.TakeError.{TakeError}
 use Rattle.look_ends.specs.Form.{EndsForm}
 use Rattle.look_ends.specs.Listing.{IsListingIn, Listing, ListingWrites, lines_form}
-use Rattle.look_ends.specs.declared.wanted.EndsOptions.{EndsOptions}
+use Rattle.look_options.specs.declared.ends.EndsOptions.{EndsOptions}
 use Rattle.look_args.specs.declared.asked.Asked.{Asked}
 use Rattle.look_args.specs.declared.asked.Asked.TheVariants as asked
 use Rattle.look_args.specs.declared.asked.Kept.{Kept}

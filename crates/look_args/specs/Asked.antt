@@ -10,8 +10,8 @@ use Rattle.clap.specs.declared.error.kind.ErrorKind.{ErrorKind}
 use Rattle.clap.specs.declared.error.kind.ErrorKind.TheVariants as kind
 use Rattle.sts_args.specs.declared.asked.LineError.{LineError}
 use Rattle.sts_args.specs.declared.asked.LineError.TheVariants as error
-use Rattle.look_lines.specs.declared.view.ViewOptions.{ViewOptions}
-use Rattle.look_picture.specs.declared.window.DrawOptions.{DrawOptions}
+use Rattle.look_options.specs.declared.views.ViewOptions.{ViewOptions}
+use Rattle.look_options.specs.declared.pictures.DrawOptions.{DrawOptions}
 use Rattle.look_args.specs.declared.asked.Asked.{Asked}
 use Rattle.look_args.specs.declared.asked.AskedTell.{AskedTell}
 use Rattle.look_args.specs.declared.asked.AskedView.{AskedView}

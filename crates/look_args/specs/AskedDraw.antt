@@ -3,8 +3,8 @@ use Rattle.std.specs.Prelude.{ℕ, Bool, List, ◌==◌, ◌&&◌, nat_le, drop,
 use Rattle.std.specs.Prelude.{None, if◌then◌else◌, codes, option_map, option_and_then}
 use Rattle.std.specs.List.{after_first, before_first}
 use Rattle.clap.specs.Words.{Text, Row, first_of}
-use Rattle.look_picture.specs.declared.window.Window.{Window}
-use Rattle.look_picture.specs.declared.window.DrawOptions.{DrawOptions}
+use Rattle.look_options.specs.declared.pictures.Window.{Window}
+use Rattle.look_options.specs.declared.pictures.DrawOptions.{DrawOptions}
 use Rattle.look_args.specs.AskedEnds.{is_true, number}
 
 abbrev pub is_dot : ℕ → Bool

@@ -4,10 +4,10 @@ use Rattle.std.specs.Prelude.{slice_get, codes, ◌^◌, ◌-◌}
 use Rattle.std.specs.Str.{bytes_eq}
 use Rattle.clap.specs.Words.{Text, Row, all_of, first_of}
 use Rattle.sts_text.specs.Number.{digits_up_to}
-use Rattle.look_ends.specs.declared.wanted.Manner.{Manner}
-use Rattle.look_ends.specs.declared.wanted.Manner.TheVariants.{All, Sample}
-use Rattle.look_ends.specs.declared.wanted.EndsOptions.{EndsOptions}
-use Rattle.look_ends.specs.declared.wanted.Limits.{Limits}
+use Rattle.look_options.specs.declared.ends.Manner.{Manner}
+use Rattle.look_options.specs.declared.ends.Manner.TheVariants.{All, Sample}
+use Rattle.look_options.specs.declared.ends.EndsOptions.{EndsOptions}
+use Rattle.look_options.specs.declared.ends.Limits.{Limits}
 use Rattle.look_args.specs.declared.asked.AskedEnds.{AskedEnds}
 use Rattle.look_args.specs.declared.asked.Kept.{Kept}
 use Rattle.look_args.specs.declared.asked.TheConstants.{FIRST_SEED}

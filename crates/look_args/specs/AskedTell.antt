@@ -1,7 +1,7 @@
 -- Which events `tell` is asked for (this project's own).
 use Rattle.std.specs.Prelude.{ℕ, List, Option, option_and_then, option_map, codes}
 use Rattle.clap.specs.Words.{Row, first_of}
-use Rattle.look_tell.specs.declared.line.TellOptions.{TellOptions}
+use Rattle.look_options.specs.declared.stories.TellOptions.{TellOptions}
 use Rattle.look_args.specs.declared.asked.AskedTell.{AskedTell}
 use Rattle.look_args.specs.declared.asked.TheConstants.{FIRST_EVENT, LAST_EVENT}
 use Rattle.look_args.specs.AskedEnds.{is_true, number_at}

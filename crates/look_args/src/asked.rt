@@ -1,9 +1,6 @@
 //! The request of a command line.
 
-use look_ends::EndsOptions;
-use look_lines::ViewOptions;
-use look_picture::DrawOptions;
-use look_tell::TellOptions;
+use look_options::{DrawOptions, EndsOptions, TellOptions, ViewOptions};
 
 /// The seed of random schedules if no other one is asked for.
 pub const FIRST_SEED: u32 = 1;

@@ -4,7 +4,7 @@ ghost use Rattle.std.specs.Prelude.{◌≡◌};
 ghost use Rattle.std.specs.List.{after_first, before_first, position};
 ghost use Rattle.look_args.specs.AskedDraw as def;
 
-use look_picture::Window;
+use look_options::Window;
 use sts_text::digits_up_to;
 
 fn dot_in(text: &[u8]) -> Option<usize>

@@ -17,9 +17,9 @@ use Rattle.look_refusal.specs.Output.{fault_output}
 use Rattle.look_ends.specs.Form.{EndsForm}
 use Rattle.look_ends.specs.Lines.{by_calls_line, found_at, found_lines, has_number, no_number_line, refused_line}
 use Rattle.look_ends.specs.Lines.{sampled_lines, schedules_line, states_line, unfinished_line}
-use Rattle.look_ends.specs.declared.wanted.Manner.{Manner}
-use Rattle.look_ends.specs.declared.wanted.Manner.TheVariants as manner
-use Rattle.look_ends.specs.declared.wanted.EndsOptions.{EndsOptions}
+use Rattle.look_options.specs.declared.ends.Manner.{Manner}
+use Rattle.look_options.specs.declared.ends.Manner.TheVariants as manner
+use Rattle.look_options.specs.declared.ends.EndsOptions.{EndsOptions}
 
 -- ---- what is printed
 

@@ -5,9 +5,9 @@ ghost use Rattle.ends_plain.specs.Listed.{AreEnds, IsEndOf};
 ghost use Rattle.ends_plain.specs.declared.config.Setting.{Setting};
 
 use crate::progress::Progress;
-use crate::wanted::Limits;
 use ends_calls::ends::{FoundByCalls, ends_by_calls};
 use ends_plain::config::{EndsFound, Found, Setting};
+use look_options::Limits;
 use std::alloc::{AllocError, Global};
 use sts_plain::PlainState;
 

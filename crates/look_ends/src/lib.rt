@@ -10,7 +10,6 @@ mod listing;
 mod progress;
 mod states;
 mod verdict;
-mod wanted;
 mod writing;
 
 pub use below::has_number;
@@ -19,5 +18,4 @@ pub use form::{EndLines, EndsForm};
 pub use lines::times_at;
 pub use listing::{Listing, listed, listed_in};
 pub use progress::{Progress, Silent};
-pub use wanted::{EndsOptions, Limits, Manner};
 pub use writing::{write_ends, write_ends_in, write_listing};

@@ -9,7 +9,7 @@ ghost use Rattle.look_ends.specs.Listing as def;
 use crate::form::{EndLines, EndsForm};
 use crate::listing::{Listing, listed_in};
 use crate::progress::Progress;
-use crate::wanted::EndsOptions;
+use look_options::EndsOptions;
 use std::alloc::Global;
 use std::io;
 use std::io::Write;

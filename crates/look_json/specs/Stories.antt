@@ -16,7 +16,7 @@ use Rattle.sts_output.specs.Output.{Output, memory_output}
 use Rattle.look_cases.specs.Answer.{version}
 use Rattle.look_cases.specs.Json.{count, object_of}
 use Rattle.look_tell.specs.Telling.{IsStoryOf}
-use Rattle.look_tell.specs.declared.line.TellOptions.{TellOptions}
+use Rattle.look_options.specs.declared.stories.TellOptions.{TellOptions}
 use Rattle.look_views.specs.Views.{faulty, line, text_line, trace_line}
 
 -- ---- a line

@@ -11,8 +11,9 @@ ghost use Rattle.look_json.specs.Stories as def;
 
 use crate::explained::{whole, with_status};
 use crate::lines::say_lines;
+use look_options::TellOptions;
 use look_refusal::Explanation;
-use look_tell::{TellOptions, tell};
+use look_tell::tell;
 use look_views::{faulty_text, faulty_trace};
 use std::alloc::{AllocError, Global};
 use std::io::Write;

@@ -22,7 +22,7 @@ use Rattle.sts_model.specs.Waiting.{can_step, stand_at}
 use Rattle.sts_model.specs.World.{World, task_at, scope_at}
 use Rattle.sts_list.specs.Spelling.{after_spaces, joiner_words}
 use Rattle.sts_output.specs.Printed.{ended}
-use Rattle.look_lines.specs.declared.view.ViewOptions.{ViewOptions}
+use Rattle.look_options.specs.declared.views.ViewOptions.{ViewOptions}
 
 -- a word, if the condition holds
 abbrev pub only_if : Bool → List ℕ → List ℕ

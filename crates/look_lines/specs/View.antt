@@ -11,7 +11,7 @@ use Rattle.look_lines.specs.Form.{Form, IsShownOf, plain_form}
 use Rattle.look_lines.specs.Lines.{only_if, others, scope_lines, task_lines}
 use Rattle.look_lines.specs.Views.{View, view_output}
 use Rattle.look_lines.specs.Watched.{Watched}
-use Rattle.look_lines.specs.declared.view.ViewOptions.{ViewOptions}
+use Rattle.look_options.specs.declared.views.ViewOptions.{ViewOptions}
 use Rattle.look_lines.specs.declared.watch.Applied.{Applied}
 
 -- the state of the machine and the steps that it took

@@ -15,6 +15,6 @@ pub use of_text::{shown, write_run};
 pub use others::{closed, resting};
 pub use scopes::{phase_word, scope_place};
 pub use tasks::{is_heard, stand_words, under_words};
-pub use view::{ViewOptions, event_words, view_lines};
+pub use view::{event_words, view_lines};
 pub use views::{View, after, view_output};
 pub use watch::{Applied, Watch};

@@ -5,7 +5,7 @@ ghost use Rattle.std.specs.String.{string_bytes};
 ghost use Rattle.sts_code.specs.declared.limits.TheConstants.{MAX_BIRTHS};
 ghost use Rattle.look_lines.specs.Lines as def;
 
-use crate::view::ViewOptions;
+use look_options::ViewOptions;
 use std::alloc::AllocError;
 use std::fmt::Write;
 use sts_world::Records;

@@ -7,7 +7,7 @@ ghost use Rattle.sts_model.specs.World as model;
 ghost use Rattle.look_lines.specs.Lines as def;
 
 use crate::tasks::{end_words, ended_by};
-use crate::view::ViewOptions;
+use look_options::ViewOptions;
 use std::alloc::AllocError;
 use std::fmt::Write;
 use sts_list::write_joiner;

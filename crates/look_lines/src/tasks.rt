@@ -8,7 +8,7 @@ ghost use Rattle.sts_model.specs.World as model;
 ghost use Rattle.sts_output.specs.Printed.{ended};
 ghost use Rattle.look_lines.specs.Lines as def;
 
-use crate::view::ViewOptions;
+use look_options::ViewOptions;
 use std::alloc::AllocError;
 use std::fmt::Write;
 use sts_code::{Program, name_of};

@@ -11,23 +11,13 @@ use crate::scopes::scope_lines;
 use crate::tasks::{ended_by, task_lines};
 use crate::views::{View, view_output};
 use crate::watch::{Applied, Watch};
+use look_options::ViewOptions;
 use std::alloc::{AllocError, Global};
 use std::fmt::Write;
 use sts_asm::AsmError;
 use sts_model::Event;
 use sts_output::{Output, state_line, steps_line, text_fault, trace_fault};
 use sts_trace::TraceError;
-
-/// The options of a view.
-#[derive(Clone, Copy, Debug, PartialEq, Eq)]
-pub struct ViewOptions {
-    /// After each event, not only after the last.
-    pub each: bool,
-    /// With operands, locals and bindings of living tasks, and all ends that joiners counted.
-    pub full: bool,
-    /// Only the tasks that live and the scopes that are open, and how many others there are.
-    pub living: bool,
-}
 
 /// The state of the machine, and the steps that it took.
 fn run_lines(out: &mut String, watch: &Watch<'_>) -> Result<(), AllocError>

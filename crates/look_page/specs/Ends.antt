@@ -3,8 +3,8 @@ use Rattle.std.specs.Prelude.{◌≡◌, ℕ, List, true, None, Some}
 use Rattle.sts_output.specs.Output.{Output}
 use Rattle.sts_trace.specs.Spelling.{trace_text}
 use Rattle.look_ends.specs.Listing.{IsListingOf, Listing}
-use Rattle.look_ends.specs.declared.wanted.Manner.TheVariants.{All}
-use Rattle.look_ends.specs.declared.wanted.EndsOptions.{EndsOptions}
+use Rattle.look_options.specs.declared.ends.Manner.TheVariants.{All}
+use Rattle.look_options.specs.declared.ends.EndsOptions.{EndsOptions}
 use Rattle.look_page.specs.Handed.{IsHanded, Received}
 
 -- what `look ends --most N` asks for

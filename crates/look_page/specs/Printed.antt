@@ -3,7 +3,7 @@ use Rattle.std.specs.Prelude.{ℕ, Bool, List, Some, None}
 use Rattle.sts_output.specs.Output.{IsOutputOf, Output}
 use Rattle.sts_output.specs.TextMode.{mode_of}
 use Rattle.look_picture.specs.Picture.{IsPictureOf}
-use Rattle.look_picture.specs.declared.window.DrawOptions.{DrawOptions}
+use Rattle.look_options.specs.declared.pictures.DrawOptions.{DrawOptions}
 use Rattle.look_refusal.specs.Output.{IsExplanation}
 use Rattle.look_run.specs.Output.{IsRunExplanation}
 use Rattle.look_lines.specs.View.{IsViewOf}

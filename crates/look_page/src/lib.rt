@@ -17,7 +17,7 @@ mod printing;
 
 use crate::ending::traced;
 use crate::printing::{Asked, print};
-use look_lines::ViewOptions;
+use look_options::ViewOptions;
 use std::alloc::Global;
 use sts_output::{Mode, STATUS_OUTSIDE, TextMode};
 

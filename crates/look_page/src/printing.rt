@@ -6,8 +6,9 @@ ghost use Rattle.look_page.specs.Printed.{Prints};
 
 use crate::ending::wanted;
 use look_ends::{Silent, write_ends};
-use look_lines::{ViewOptions, write_run};
-use look_picture::{DrawOptions, Window, draw};
+use look_lines::write_run;
+use look_options::{DrawOptions, ViewOptions, Window};
+use look_picture::draw;
 use look_refusal::explain;
 use look_run::explain_run;
 use std::alloc::Global;

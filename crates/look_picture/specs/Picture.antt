@@ -30,7 +30,7 @@ use Rattle.look_picture.specs.Told.{event_words}
 use Rattle.look_picture.specs.Windows.{left_out, shown_events}
 use Rattle.look_picture.specs.declared.title.FileNames.{FileNames}
 use Rattle.look_picture.specs.declared.window.Drawn.{Drawn}
-use Rattle.look_picture.specs.declared.window.DrawOptions.{DrawOptions}
+use Rattle.look_options.specs.declared.pictures.DrawOptions.{DrawOptions}
 use Rattle.look_picture.specs.Words.{next_word, step_word}
 use Rattle.look_picture.specs.Writing.{escaped, fitted_start, mark_at, text_end, text_start}
 use Rattle.look_picture.specs.declared.writing.Room.{Room}

@@ -1,7 +1,7 @@
 -- The words of an event: its line in the story of the run (this project's own).
 use Rattle.std.specs.Prelude.{ℕ, ◌-◌, Bool, false, not, List, length, take}
 use Rattle.sts_model.specs.declared.event.Event.{Event}
-use Rattle.look_tell.specs.declared.line.TellOptions.{TellOptions}
+use Rattle.look_options.specs.declared.stories.TellOptions.{TellOptions}
 use Rattle.look_tell.specs.Line.{event_block}
 use Rattle.look_tell.specs.Story.{Story}
 use Rattle.look_picture.specs.Writing.{escaped}

@@ -3,7 +3,7 @@ use Rattle.std.specs.Prelude.{ℕ, ◌+◌, ◌-◌, ◌==◌, min, if◌then◌
 use Rattle.std.specs.Prelude.{Option, Some, None}
 use Rattle.std.specs.Fmt.{decimal}
 use Rattle.look_picture.specs.declared.window.Drawn.{Drawn}
-use Rattle.look_picture.specs.declared.window.Window.{Window}
+use Rattle.look_options.specs.declared.pictures.Window.{Window}
 use Rattle.look_picture.specs.declared.window.TheConstants.{MOST_COLUMNS}
 
 -- the last ones of this many events, or those of a window that are there; a run is drawn up to the

@@ -20,4 +20,3 @@ pub mod writing;
 pub use picture::{Picture, draw};
 pub use style::STYLE;
 pub use title::FileNames;
-pub use window::{DrawOptions, Window};

@@ -7,7 +7,8 @@ ghost use Rattle.look_picture.specs.Told as def;
 
 use crate::writing::escape;
 use look_names::Names;
-use look_tell::{Story, TellOptions, say_event};
+use look_options::TellOptions;
+use look_tell::{Story, say_event};
 use std::alloc::{AllocError, Global};
 use sts_model::Event;
 

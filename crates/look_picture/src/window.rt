@@ -4,28 +4,13 @@ ghost use Rattle.std.specs.Prelude.{◌≡◌, ◌≤◌, ◌++◌, OnOk};
 ghost use Rattle.std.specs.String.{string_bytes};
 ghost use Rattle.look_picture.specs.Windows as def;
 
+use look_options::Window;
 use std::alloc::AllocError;
 use std::cmp;
 use std::fmt::Write;
 
 /// The most events that a picture shows if none are asked for.
 pub const MOST_COLUMNS: usize = 2_000;
-
-/// Events by their numbers, the lines of a trace: from the first to the last, both included.
-#[derive(Clone, Copy, Debug, PartialEq, Eq)]
-pub struct Window {
-    pub first: u32,
-    pub last: u32,
-}
-
-/// What a picture is asked for.
-#[derive(Clone, Copy, Debug, PartialEq, Eq)]
-pub struct DrawOptions {
-    /// The events that it shows, or the last ones.
-    pub window: Option<Window>,
-    /// Draws only those of them that the story of the run lists.
-    pub brief: bool,
-}
 
 /// The events that a picture shows: those after number `before`, up to number `last`, if there are
 /// `all` in the trace.

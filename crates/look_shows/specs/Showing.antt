@@ -9,9 +9,9 @@ use Rattle.look_run.specs.Output.{IsRunExplanation}
 use Rattle.look_json.specs.Explained.{IsExplainedBy}
 use Rattle.look_json.specs.Stories.{AreStoriesOf}
 use Rattle.look_tell.specs.Telling.{IsStoryOf}
-use Rattle.look_tell.specs.declared.line.TellOptions.{TellOptions}
+use Rattle.look_options.specs.declared.stories.TellOptions.{TellOptions}
 use Rattle.look_traces.specs.Short.{full_trace}
-use Rattle.look_lines.specs.declared.view.ViewOptions.{ViewOptions}
+use Rattle.look_options.specs.declared.views.ViewOptions.{ViewOptions}
 use Rattle.look_view.specs.View.{IsNamedViewOf}
 use Rattle.look_views.specs.Views.{AreViewsOf}
 use Rattle.look_args.specs.declared.asked.ExplainForm.{ExplainForm}

@@ -6,7 +6,8 @@ ghost use Rattle.look_shows.specs.Showing as def;
 
 use look_args::asked::{AskedTell, AskedView};
 use look_json::write_stories;
-use look_picture::{DrawOptions, FileNames, draw};
+use look_options::DrawOptions;
+use look_picture::{FileNames, draw};
 use look_run::explain_run;
 use look_tell::tell;
 use look_traces::in_full;

@@ -14,7 +14,7 @@ use Rattle.sts_plain.specs.declared.misstep.PlainState.{PlainState}
 use Rattle.sts_plain.specs.declared.misstep.PlainState.TheVariants as plain
 use Rattle.look_tell.specs.declared.deed.Deed.{Deed}
 use Rattle.look_tell.specs.declared.deed.Deed.TheVariants as deed
-use Rattle.look_tell.specs.declared.line.TellOptions.{TellOptions}
+use Rattle.look_options.specs.declared.stories.TellOptions.{TellOptions}
 use Rattle.look_tell.specs.Deed.{next_deed}
 use Rattle.look_tell.specs.Outcome.{deed_words, interrupts_words}
 use Rattle.look_tell.specs.Story.{Story, is_idle, next, program_of, world_of}

@@ -18,7 +18,7 @@ use Rattle.sts_output.specs.Output.{Output, memory_output, state_status}
 use Rattle.look_lines.specs.Lines.{is_heard}
 use Rattle.look_refusal.specs.Output.{fault_output}
 use Rattle.look_run.specs.Output.{trace_fault_output}
-use Rattle.look_tell.specs.declared.line.TellOptions.{TellOptions}
+use Rattle.look_options.specs.declared.stories.TellOptions.{TellOptions}
 use Rattle.look_tell.specs.Line.{lines_from}
 use Rattle.look_tell.specs.Outcome.{end_words}
 use Rattle.look_tell.specs.Story.{Story, begun, next, program_of, world_of}

@@ -10,7 +10,7 @@ mod story;
 mod telling;
 mod words;
 
-pub use line::{TellOptions, say_event};
+pub use line::say_event;
 pub use outcome::say_end;
 pub use story::Story;
 pub use telling::tell;

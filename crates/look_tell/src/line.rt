@@ -12,23 +12,11 @@ use crate::outcome::{say_deed, say_interrupts};
 use crate::story::Story;
 use crate::words::{say_if, say_living, say_number, say_place_of, say_task};
 use look_names::Names;
+use look_options::TellOptions;
 use look_text::say;
 use std::alloc::{AllocError, Global};
 use sts_model::{Event, Stand};
 use sts_plain::{can_step, stand_at};
-
-/// Which events have lines.
-#[derive(Clone, Copy, Debug, PartialEq, Eq)]
-pub struct TellOptions {
-    /// Also steps that change only the task itself.
-    pub each: bool,
-    /// The story stops at the first event that doesn't count, and the end of each task comes last.
-    pub strict: bool,
-    /// The number of the first event with lines.
-    pub first: u32,
-    /// The number of the last event with lines. The run ends there.
-    pub last: u32,
-}
 
 /// Appends the number of an event and a blank.
 pub(crate) fn say_event_number(

@@ -8,9 +8,10 @@ ghost use Rattle.look_refusal.specs.Stops.{Prints};
 ghost use Rattle.look_tell.specs.Telling as def;
 
 use crate::ends::say_end_lines;
-use crate::line::{TellOptions, say_events};
+use crate::line::say_events;
 use crate::story::Story;
 use look_names::Names;
+use look_options::TellOptions;
 use look_refusal::{ExplainError, Explanation, program_of, write_explained};
 use look_run::trace_fault;
 use std::alloc::{AllocError, Global};

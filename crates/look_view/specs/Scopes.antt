@@ -8,7 +8,7 @@ use Rattle.sts_model.specs.Living.{is_closed}
 use Rattle.sts_model.specs.World.{World, scope_at}
 use Rattle.sts_output.specs.Printed.{ended}
 use Rattle.look_lines.specs.Lines.{scope_marks, scope_place}
-use Rattle.look_lines.specs.declared.view.ViewOptions.{ViewOptions}
+use Rattle.look_options.specs.declared.views.ViewOptions.{ViewOptions}
 use Rattle.look_view.specs.Tasks.{end_words}
 
 -- an end that the joiner was told of: `told T success V` or `told T failed C`

@@ -15,7 +15,7 @@ use Rattle.sts_model.specs.World.{World, task_at}
 use Rattle.sts_output.specs.Printed.{ended}
 use Rattle.look_names.specs.Words.{function_words, value_words}
 use Rattle.look_lines.specs.Lines.{is_heard, keys, life_words, only_if, under_words}
-use Rattle.look_lines.specs.declared.view.ViewOptions.{ViewOptions}
+use Rattle.look_options.specs.declared.views.ViewOptions.{ViewOptions}
 use Rattle.look_view.specs.Named.{task_at_line}
 
 -- ---- the state of a task

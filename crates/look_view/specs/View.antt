@@ -9,7 +9,7 @@ use Rattle.look_lines.specs.Lines.{others}
 use Rattle.look_lines.specs.View.{event_line}
 use Rattle.look_lines.specs.Views.{View, view_output}
 use Rattle.look_lines.specs.Watched.{Watched}
-use Rattle.look_lines.specs.declared.view.ViewOptions.{ViewOptions}
+use Rattle.look_options.specs.declared.views.ViewOptions.{ViewOptions}
 use Rattle.look_lines.specs.declared.watch.Applied.{Applied}
 use Rattle.look_view.specs.Named.{state_line}
 use Rattle.look_view.specs.Scopes.{scope_lines}

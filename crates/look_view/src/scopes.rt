@@ -7,8 +7,9 @@ ghost use Rattle.look_lines.specs.Lines as plain;
 ghost use Rattle.look_view.specs.Scopes as def;
 
 use crate::tasks::{end_words, ended_by};
-use look_lines::{ViewOptions, phase_word, scope_place};
+use look_lines::{phase_word, scope_place};
 use look_names::Names;
+use look_options::ViewOptions;
 use std::alloc::AllocError;
 use std::fmt::Write;
 use sts_model::Completion;

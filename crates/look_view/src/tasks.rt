@@ -10,8 +10,9 @@ ghost use Rattle.look_lines.specs.Lines as plain;
 ghost use Rattle.look_view.specs.Tasks as def;
 
 use crate::named::{say_function, say_value, task_at_line};
-use look_lines::{ViewOptions, is_heard, under_words};
+use look_lines::{is_heard, under_words};
 use look_names::Names;
+use look_options::ViewOptions;
 use std::alloc::AllocError;
 use std::fmt::Write;
 use sts_code::Program;

@@ -11,10 +11,9 @@ use crate::named::state_line;
 use crate::others::others;
 use crate::scopes::scope_lines;
 use crate::tasks::{ended_by, task_lines};
-use look_lines::{
-    Applied, Form, Run, View, ViewOptions, Watch, event_words, view_output, write_run,
-};
+use look_lines::{Applied, Form, Run, View, Watch, event_words, view_output, write_run};
 use look_names::Names;
+use look_options::ViewOptions;
 use std::alloc::{AllocError, Global};
 use std::fmt::Write;
 use std::io;

@@ -28,7 +28,7 @@ use Rattle.look_cases.proofs.FloatLemmas.{trace_fault_plain}
 use Rattle.look_cases.proofs.FloatLemmas as answers
 use Rattle.look_lines.specs.Lines.{is_heard, keys}
 use Rattle.look_lines.specs.Watched.{Watched}
-use Rattle.look_lines.specs.declared.view.ViewOptions.{ViewOptions}
+use Rattle.look_options.specs.declared.views.ViewOptions.{ViewOptions}
 use Rattle.look_lines.specs.declared.watch.Applied.{Applied}
 use Rattle.look_names.specs.Names.{value_name}
 use Rattle.look_views.proofs.NamedFloats.{named_plain, placed_plain}

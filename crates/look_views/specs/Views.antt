@@ -22,7 +22,7 @@ use Rattle.look_lines.specs.Form.{Form, IsShownOf}
 use Rattle.look_lines.specs.Lines.{closed, resting}
 use Rattle.look_lines.specs.Views.{View, view_output}
 use Rattle.look_lines.specs.Watched.{Watched}
-use Rattle.look_lines.specs.declared.view.ViewOptions.{ViewOptions}
+use Rattle.look_options.specs.declared.views.ViewOptions.{ViewOptions}
 use Rattle.look_lines.specs.declared.watch.Applied.{Applied}
 use Rattle.look_cases.specs.Answer.{ended, running, text_fault, trace_fault}
 use Rattle.look_cases.specs.Json.{count, object_of}

@@ -12,8 +12,9 @@ ghost use Rattle.look_views.specs.Views as def;
 
 use crate::views::{JsonViews, VERSION, push_line};
 use look_cases::{text_fault, trace_fault};
-use look_lines::{Form, Run, ViewOptions, view_output, write_run};
+use look_lines::{Form, Run, view_output, write_run};
 use look_names::Names;
+use look_options::ViewOptions;
 use serde_json::{Value, json};
 use std::alloc::{AllocError, Global};
 use std::io::Write;

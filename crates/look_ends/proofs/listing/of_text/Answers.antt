@@ -8,7 +8,7 @@ use Rattle.sts_output.specs.Output.{Output}
 use Rattle.look_refusal.proofs.StopLemmas.{says_less}
 use Rattle.look_ends.specs.Form.{EndsForm, IsFaultIn}
 use Rattle.look_ends.specs.Listing as def
-use Rattle.look_ends.specs.declared.wanted.EndsOptions.{EndsOptions}
+use Rattle.look_options.specs.declared.ends.EndsOptions.{EndsOptions}
 use Rattle.look_ends.proofs.listing.of_text.Goals as goal
 
 -- the output for a fault of a text, alone, is its listing

@@ -1,4 +1,4 @@
-//! What a listing of ends is asked for.
+//! Options of a search of ends.
 
 /// When a search over all schedules stops.
 #[derive(Clone, Copy, Debug)]
