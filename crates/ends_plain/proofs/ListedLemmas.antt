@@ -17,7 +17,7 @@ use Rattle.ends_plain.specs.declared.config.Asked.{Asked}
 use Rattle.ends_plain.specs.declared.config.Config.{Config}
 use Rattle.ends_plain.specs.declared.config.Found.{Found}
 use Rattle.ends_plain.specs.declared.config.Setting.{Setting}
-use Rattle.ends_plain.specs.Configs.{next, can, tries, start, IsLike}
+use Rattle.ends_plain.specs.Configs.{next, can, tries, start, is_last, IsLike}
 use Rattle.ends_plain.specs.Explored.{IsExplored}
 use Rattle.ends_plain.specs.Ends.{is_end, AreAll}
 use Rattle.ends_plain.specs.Listed.{is_fault_end, is_faulty}
@@ -111,7 +111,7 @@ pub sound : (g : Setting) (first : Config) (found : List Found) → first ≡ st
 sound g first found begins all f c = end_of_trace g first f begins (all f c)
 
 -- the states of a search are those of runs
-runs_below : (g : Setting) (states : List Config) (origins : List Origin) → IsTraced (next g) (tries g) states origins → ((d : Config) → slice_index_or states 0 d ≡ start g) → (n k : ℕ) → k < n → k < length states → (d : Config)
+runs_below : (g : Setting) (states : List Config) (origins : List Origin) → IsTraced (next g) (tries g) is_last states origins → ((d : Config) → slice_index_or states 0 d ≡ start g) → (n k : ℕ) → k < n → k < length states → (d : Config)
     → IsRun g.program (slice_index_or states k d).position
 runs_below g states origins traced first zero k less within d = absurd (omega (arith, less))
 runs_below g states origins traced first (suc n) zero less within d = rw (first d) (record { events = []; leads = refl })
@@ -122,7 +122,7 @@ runs_below g states origins traced first (suc n) (suc k) less within d =
     let older : IsRun g.program (slice_index_or states o.parent d).position = runs_below g states origins traced first n o.parent (omega (arith, before, less)) (omega (arith, before, within)) d in
     rw (from.state d) (run_on g.program (slice_index_or states o.parent d).position o.event older)
 
-pub states_run : (g : Setting) (states : List Config) (origins : List Origin) → IsTraced (next g) (tries g) states origins → ((d : Config) → slice_index_or states 0 d ≡ start g) → (c : Config) → Contains states c → IsRun g.program c.position
+pub states_run : (g : Setting) (states : List Config) (origins : List Origin) → IsTraced (next g) (tries g) is_last states origins → ((d : Config) → slice_index_or states 0 d ≡ start g) → (c : Config) → Contains states c → IsRun g.program c.position
 states_run g states origins traced first c there =
     subst (λ (x : Config). IsRun g.program x.position) there.2 (runs_below g states origins traced first (length states) there.0 there.1 there.1 c)
 

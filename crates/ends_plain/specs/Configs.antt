@@ -14,7 +14,8 @@ use Rattle.laws_names.specs.Names.{Names, AreAlike, ReadsNothing}
 use Rattle.ends_plain.specs.declared.config.Asked.{Asked}
 use Rattle.ends_plain.specs.declared.config.Config.{Config}
 use Rattle.ends_plain.specs.declared.config.Setting.{Setting}
-use Rattle.ends_plain.specs.Ends.{is_interrupt}
+use Rattle.ends_plain.specs.Ends.{is_interrupt, is_end}
+use Rattle.sts_plain.specs.Seen.{shown}
 use Rattle.ends_plain.specs.Own.{own_step_of}
 
 -- the number of interrupts that are left after an event
@@ -84,6 +85,12 @@ pub record IsRenamed (a : Asked) (c d : Config) : Type 0 where
 
 abbrev pub IsLike : Asked → Config → Config → Type 0
 IsLike a c d = (c ≡ d) ⊎ IsRenamed a c d
+
+-- ---- what the search is for
+
+-- an end: the root's, or a fault
+abbrev pub is_last : Config → Bool
+is_last c = is_end (shown c.position)
 
 -- ---- where the search begins
 

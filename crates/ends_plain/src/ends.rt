@@ -1,9 +1,9 @@
 //! The ends among the states of a search.
 
-ghost use Rattle.std.specs.Prelude.{◌≡◌, true, false, IfOk, length};
+ghost use Rattle.std.specs.Prelude.{◌≡◌, ◌<◌, ◌+◌, true, false, IfOk, OnOk, length};
 ghost use Rattle.std.specs.List.{Contains, list_any};
 ghost use Rattle.ends_search.specs.Search.{IsSpace, states_of};
-ghost use Rattle.ends_plain.specs.Configs.{next, tries, IsLike};
+ghost use Rattle.ends_plain.specs.Configs.{next, tries, is_last, IsLike};
 ghost use Rattle.ends_plain.specs.Ends.{is_end};
 ghost use Rattle.ends_plain.specs.Listed.{ends_of, AreShown, HasShown, is_fault_end, is_faulty};
 
@@ -54,10 +54,46 @@ pub fn has_fault(found: &[Found]) -> bool
     found.iter().any(|one| is_fault(one.end))
 }
 
+/// Adds the end that the state at this place shows, if it shows one that is not there yet, with a
+/// way to it.
+fn list_end(
+    alloc: Global,
+    asked: &Asked,
+    space: &Space<Config>,
+    place: usize,
+    found: &mut Vec<Found>,
+) -> Result<(), AllocError>
+    requires within { place < length space.now.origins.items }
+    requires space { IsSpace (next asked.now.setting) (tries asked.now.setting) (IsLike asked.now)
+        is_last space.now.first space.now.origins.items space.now.closed space.now.kept.items
+        space.now.marks.items }
+    requires shown { AreShown asked.now.setting space.now.first found.old.items }
+    requires before { HasShown
+        (states_of (next asked.now.setting) space.now.first space.now.origins.items) place
+        (ends_of found.old.items) }
+    ensures shown { OnOk result (AreShown asked.now.setting space.now.first found.new.items) }
+    ensures all { OnOk result (HasShown
+        (states_of (next asked.now.setting) space.now.first space.now.origins.items) (place + 1)
+        (ends_of found.new.items)) }
+{
+    let marked = space.origins[place].is_last;
+    if !marked {
+        return Ok(());
+    }
+    let config = restored(alloc, asked, space, place)?;
+    let end = config.position.state();
+    if is_new(found.as_slice(), end) {
+        let trace = trace(alloc, asked, space, place)?;
+        let one = shortened(alloc, &asked.setting, &space.first, Found { end, trace })?;
+        found.push(one)?;
+    }
+    Ok(())
+}
+
 /// The ends among the states of a search, each with a way to the first state that shows it.
 pub fn list(alloc: Global, asked: &Asked, space: &Space<Config>) -> Result<Vec<Found>, AllocError>
     requires { IsSpace (next asked.now.setting) (tries asked.now.setting) (IsLike asked.now)
-        space.now.first space.now.origins.items space.now.closed space.now.kept.items
+        is_last space.now.first space.now.origins.items space.now.closed space.now.kept.items
         space.now.marks.items }
     ensures shown { IfOk result (λ found.
         AreShown asked.now.setting space.now.first found.items) }
@@ -66,14 +102,8 @@ pub fn list(alloc: Global, asked: &Asked, space: &Space<Config>) -> Result<Vec<F
         (length space.now.origins.items) (ends_of found.items)) }
 {
     let mut found = Vec::new(alloc);
-    for k in 0..space.origins.len() {
-        let config = restored(alloc, asked, space, k)?;
-        let end = config.position.state();
-        if is_new(&found, end) {
-            let trace = trace(alloc, asked, space, k)?;
-            let one = shortened(alloc, &asked.setting, &space.first, Found { end, trace })?;
-            found.push(one)?;
-        }
+    for place in 0..space.origins.len() {
+        list_end(alloc, asked, space, place, &mut found)?;
     }
     Ok(found)
 }

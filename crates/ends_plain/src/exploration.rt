@@ -4,7 +4,7 @@ ghost use Rattle.std.specs.Prelude.{◌≡◌, true, IfOk};
 ghost use Rattle.ends_plain.specs.Ends.{AreAll};
 ghost use Rattle.ends_plain.specs.Listed.{ends_of, AreEnds};
 ghost use Rattle.ends_search.specs.Search.{IsSpace};
-ghost use Rattle.ends_plain.specs.Configs.{next, tries, IsLike};
+ghost use Rattle.ends_plain.specs.Configs.{next, tries, is_last, IsLike};
 
 use crate::config::{Asked, Config, EndsFound, Setting};
 use crate::ends::{has_fault, list};
@@ -37,13 +37,15 @@ impl Model for Exploration {
 /// Does one of the states show a fault?
 fn finds_fault(alloc: Global, asked: &Asked, space: &Space<Config>) -> Result<bool, AllocError>
     requires { IsSpace (next asked.now.setting) (tries asked.now.setting) (IsLike asked.now)
-        space.now.first space.now.origins.items space.now.closed space.now.kept.items
+        is_last space.now.first space.now.origins.items space.now.closed space.now.kept.items
         space.now.marks.items }
 {
     for k in 0..space.origins.len() {
-        let config = restored(alloc, asked, space, k)?;
-        if config.position.world().is_none() {
-            return Ok(true);
+        if space.origins[k].is_last {
+            let config = restored(alloc, asked, space, k)?;
+            if config.position.world().is_none() {
+                return Ok(true);
+            }
         }
     }
     Ok(false)

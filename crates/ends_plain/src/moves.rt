@@ -2,10 +2,11 @@
 
 ghost use Rattle.std.specs.Prelude.{◌≡◌, ◌⊎◌, true, IfOk, [], ◌∷◌};
 ghost use Rattle.ends_plain.specs.Configs.{next as next_of, tries, AreThose, can_come, is_tried};
-ghost use Rattle.ends_plain.specs.Configs.{HasNames, IsLike};
+ghost use Rattle.ends_plain.specs.Configs.{HasNames, IsLike, is_last as shows_end};
 ghost use Rattle.ends_plain.specs.Own.{own_step_of};
 
 use crate::config::{Asked, Config, Setting};
+use crate::ends::is_end_at;
 use crate::events::{expiries, interrupts, steps};
 use crate::hash::hash_of;
 use crate::names::have_names;
@@ -120,6 +121,8 @@ impl StateMachine for Config {
 
     ghost alike = { IsLike };
 
+    ghost last = { shows_end };
+
     fn events(&self, alloc: Global, asked: &Asked) -> Result<Vec<Event>, AllocError> {
         tried(alloc, self, &asked.setting)
     }
@@ -137,6 +140,10 @@ impl StateMachine for Config {
 
     fn is_like(&self, alloc: Global, asked: &Asked, other: &Config) -> Result<bool, AllocError> {
         is_alike(alloc, asked, self, other)
+    }
+
+    fn is_last(&self) -> bool {
+        is_end_at(self.position.state())
     }
 
     fn hash(&self, alloc: Global, asked: &Asked) -> Result<u64, AllocError> {

@@ -32,15 +32,26 @@ come {S} next can states s o k less h =
     older d = get_or-append states (s ∷ []) d o.parent (omega (arith, h.before))
 
 -- one more state, which comes from an older one
-pub traced_more : {S : Type 0} (next : S → Event → S) (can : S → Event → Bool) (states : List S) (origins : List Origin) (s : S) (o : Origin)
-    → IsTraced next can states origins → o.parent < length states → CanAt can states o.parent o.event → ((d : S) → s ≡ next (slice_index_or states o.parent d) o.event)
-    → IsTraced next can (states ++ s ∷ []) (origins ++ o ∷ [])
-traced_more {S} next can states origins s o h within comes made =
+pub traced_more : {S : Type 0} (next : S → Event → S) (can : S → Event → Bool) (last : S → Bool) (states : List S) (origins : List Origin) (s : S) (o : Origin)
+    → IsTraced next can last states origins → o.parent < length states → CanAt can states o.parent o.event → o.is_last ≡ last s → ((d : S) → s ≡ next (slice_index_or states o.parent d) o.event)
+    → IsTraced next can last (states ++ s ∷ []) (origins ++ o ∷ [])
+traced_more {S} next can last states origins s o h within comes marks made =
     record {
       as_many = length-append origins (o ∷ []) ∙ ap (λ n. n + 1) h.as_many ∙ sym (length-append states (s ∷ []));
+      marked = λ k less d. marked k d (split k (length states) (subst (λ n. k < n) (length-append states (s ∷ [])) less));
       later = λ k some less. later k some (split k (length states) (subst (λ n. k < n) (length-append states (s ∷ [])) less));
     }
   where
+    marked : (k : ℕ) (d : S) → (k < length states) ⊎ (k ≡ length states) → (origin_at (origins ++ o ∷ []) k).is_last ≡ last (slice_index_or (states ++ s ∷ []) k d)
+    marked k d (inl less) =
+        let here : origin_at (origins ++ o ∷ []) k ≡ origin_at origins k = get_or-append origins (o ∷ []) no_origin k (omega (arith, h.as_many, less)) in
+        let there : slice_index_or (states ++ s ∷ []) k d ≡ slice_index_or states k d = get_or-append states (s ∷ []) d k less in
+        rw (here, there) (h.marked k less d)
+    marked k d (inr same) =
+        let here : origin_at (origins ++ o ∷ []) k ≡ o = rw (same, sym h.as_many) (get_or-append_seam origins o [] no_origin) in
+        let there : slice_index_or (states ++ s ∷ []) k d ≡ s = rw same (get_or-append_seam states s [] d) in
+        rw (here, there) marks
+
     later : (k : ℕ) → 0 < k → (k < length states) ⊎ (k ≡ length states) → ComesFrom next can (states ++ s ∷ []) (origin_at (origins ++ o ∷ []) k) k
     later k some (inl less) =
         let e : origin_at (origins ++ o ∷ []) k ≡ origin_at origins k = get_or-append origins (o ∷ []) no_origin k (omega (arith, h.as_many)) in
@@ -153,18 +164,18 @@ holds_last xs x = (length xs, omega (arith, length-append xs (x ∷ [])), get_or
 
 -- ---- a search that goes on
 
-pub searched_on : {S : Type 0} (next : S → Event → S) (can : S → Event → Bool) (alike : S → S → Type 0) (old new : List S) (os origins : List Origin) (n : ℕ) → IsSearched next can alike old os n
-    → Grows old new → IsTraced next can new origins → IsSearched next can alike new origins n
-searched_on next can alike old new os origins n h grows traced = record {
+pub searched_on : {S : Type 0} (next : S → Event → S) (can : S → Event → Bool) (alike : S → S → Type 0) (last : S → Bool) (old new : List S) (os origins : List Origin) (n : ℕ) → IsSearched next can alike last old os n
+    → Grows old new → IsTraced next can last new origins → IsSearched next can alike last new origins n
+searched_on next can alike last old new os origins n h grows traced = record {
   some = within_more old new 0 grows h.some;
   traced = traced;
   closed_below = closed_on next can alike old new n h.within h.closed_below grows;
   within = rw grows.same (omega (arith, length-append old grows.more, h.within));
 }
 
-pub searched_more : {S : Type 0} (next : S → Event → S) (can : S → Event → Bool) (alike : S → S → Type 0) (old new : List S) (os origins : List Origin) (n : ℕ) → IsSearched next can alike old os n → n < length old
-    → Grows old new → IsTraced next can new origins → LeadsInto next can alike old n new → IsSearched next can alike new origins (n + 1)
-searched_more next can alike old new os origins n h less grows traced leads = record {
+pub searched_more : {S : Type 0} (next : S → Event → S) (can : S → Event → Bool) (alike : S → S → Type 0) (last : S → Bool) (old new : List S) (os origins : List Origin) (n : ℕ) → IsSearched next can alike last old os n → n < length old
+    → Grows old new → IsTraced next can last new origins → LeadsInto next can alike old n new → IsSearched next can alike last new origins (n + 1)
+searched_more next can alike last old new os origins n h less grows traced leads = record {
   some = within_more old new 0 grows h.some;
   traced = traced;
   closed_below = closed_more next can alike old new n less h.closed_below grows leads;

@@ -63,17 +63,17 @@ kept_more {S} states kept more marks mark state h grows is_kept = record {
         let there : slice_index_or (states ++ state ∷ []) k d ≡ state = rw same (get_or-append_seam states state [] d) in
         rw (here, there) is_kept
 
-pub space_more : {S : Type 0} (next : S → Event → S) (can : S → Event → Bool) (alike : S → S → Type 0) (first : S) (origins : List Origin) (closed : ℕ) (kept : List S) (marks : List (Option ℕ)) (o : Origin) (s : S) (more : List S) (mark : Option ℕ)
-    → IsSpace next can alike first origins closed kept marks → o.parent < length origins → CanAt can (states_of next first origins) o.parent o.event → s ≡ next (state_at next first origins o.parent) o.event → Grows kept more → IsKept more mark s
-    → IsSpace next can alike first (origins ++ o ∷ []) closed more (marks ++ mark ∷ [])
-space_more {S} next can alike first origins closed kept marks o s more mark h within comes made grows is_kept =
+pub space_more : {S : Type 0} (next : S → Event → S) (can : S → Event → Bool) (alike : S → S → Type 0) (last : S → Bool) (first : S) (origins : List Origin) (closed : ℕ) (kept : List S) (marks : List (Option ℕ)) (o : Origin) (s : S) (more : List S) (mark : Option ℕ)
+    → IsSpace next can alike last first origins closed kept marks → o.parent < length origins → CanAt can (states_of next first origins) o.parent o.event → o.is_last ≡ last s → s ≡ next (state_at next first origins o.parent) o.event → Grows kept more → IsKept more mark s
+    → IsSpace next can alike last first (origins ++ o ∷ []) closed more (marks ++ mark ∷ [])
+space_more {S} next can alike last first origins closed kept marks o s more mark h within comes marked made grows is_kept =
     let states = states_of next first origins in
     let as_many : length origins ≡ length states = h.searched.traced.as_many in
     let new : states_of next first (origins ++ o ∷ []) ≡ states ++ s ∷ [] = states_more next first origins o (omega (arith, within)) ∙ ap (λ x. states ++ x ∷ []) (sym made) in
-    let traced = traced_more next can states origins s o h.searched.traced (omega (arith, within, as_many)) comes
+    let traced = traced_more next can last states origins s o h.searched.traced (omega (arith, within, as_many)) comes marked
     (λ d. made ∙ ap (λ x. next x o.event) (get_or_default states o.parent first d (omega (arith, within, as_many)))) in
     record {
-      searched = rw new (searched_on next can alike states (states ++ s ∷ []) origins (origins ++ o ∷ []) closed h.searched (record { more = s ∷ []; same = refl }) traced);
+      searched = rw new (searched_on next can alike last states (states ++ s ∷ []) origins (origins ++ o ∷ []) closed h.searched (record { more = s ∷ []; same = refl }) traced);
       whole_ones = rw new (kept_more states kept more marks mark s h.whole_ones grows is_kept);
     }
 
@@ -100,10 +100,10 @@ comes_on next x y s e made same = made ∙ ap (λ z. next z e) same
 
 -- ---- one state expanded
 
-pub space_closed : {S : Type 0} (next : S → Event → S) (can : S → Event → Bool) (alike : S → S → Type 0) (first : S) (os origins : List Origin) (closed : ℕ) (kept older : List S) (marks earlier : List (Option ℕ)) → IsSpace next can alike first os closed older earlier
-    → IsSpace next can alike first origins closed kept marks → closed < length os → Grows (states_of next first os) (states_of next first origins) → LeadsInto next can alike (states_of next first os) closed (states_of next first origins)
-    → IsSpace next can alike first origins (closed + 1) kept marks
-space_closed next can alike first os origins closed kept older marks earlier old new less grows leads = record {
-  searched = searched_more next can alike (states_of next first os) (states_of next first origins) os origins closed old.searched (omega (arith, less, old.searched.traced.as_many)) grows new.searched.traced leads;
+pub space_closed : {S : Type 0} (next : S → Event → S) (can : S → Event → Bool) (alike : S → S → Type 0) (last : S → Bool) (first : S) (os origins : List Origin) (closed : ℕ) (kept older : List S) (marks earlier : List (Option ℕ)) → IsSpace next can alike last first os closed older earlier
+    → IsSpace next can alike last first origins closed kept marks → closed < length os → Grows (states_of next first os) (states_of next first origins) → LeadsInto next can alike (states_of next first os) closed (states_of next first origins)
+    → IsSpace next can alike last first origins (closed + 1) kept marks
+space_closed next can alike last first os origins closed kept older marks earlier old new less grows leads = record {
+  searched = searched_more next can alike last (states_of next first os) (states_of next first origins) os origins closed old.searched (omega (arith, less, old.searched.traced.as_many)) grows new.searched.traced leads;
   whole_ones = new.whole_ones;
 }

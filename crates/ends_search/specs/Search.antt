@@ -1,9 +1,9 @@
 -- The states that a search of a machine finds. `next` is the effect of an event on a state, and
--- `can` says whether the event can come there. The search keeps one of two states that are `alike`
--- (this project's own).
+-- `can` says whether the event can come there. The search keeps one of two states that are `alike`.
+-- It is for the states that are `last` (this project's own).
 use Rattle.std.specs.Prelude.{◌≡◌, ℕ, ◌<◌, ◌≤◌, ◌⊎◌, List, [], ◌∷◌, ◌++◌, fold, length}
 use Rattle.std.specs.Prelude.{slice_index_or}
-use Rattle.std.specs.Prelude.{Bool, true, drop, Option, Some, None}
+use Rattle.std.specs.Prelude.{Bool, true, false, drop, Option, Some, None}
 use Rattle.std.specs.List.{Contains}
 use Rattle.sts_model.specs.declared.event.Event.{Event}
 use Rattle.sts_model.specs.declared.event.Event.TheVariants.{Step}
@@ -25,7 +25,7 @@ pub record IsWay {S : Type 0} (next : S → Event → S) (can : S → Event → 
 -- ---- how states were found
 
 abbrev pub no_origin : Origin
-no_origin = record { parent = 0; event = Step 0 }
+no_origin = record { parent = 0; event = Step 0; is_last = false }
 
 abbrev pub origin_at : List Origin → ℕ → Origin
 origin_at origins k = slice_index_or origins k no_origin
@@ -43,10 +43,12 @@ pub record ComesFrom {S : Type 0} (next : S → Event → S) (can : S → Event 
   pub state : (d : S) → slice_index_or states k d
       ≡ next (slice_index_or states origin.parent d) origin.event
 
--- each state except the first comes from one that was found before
-pub record IsTraced {S : Type 0} (next : S → Event → S) (can : S → Event → Bool) (states : List S)
-    (origins : List Origin) : Type 0 where
+-- each state except the first comes from one that was found before, and the last ones are marked
+pub record IsTraced {S : Type 0} (next : S → Event → S) (can : S → Event → Bool) (last : S → Bool)
+    (states : List S) (origins : List Origin) : Type 0 where
   pub as_many : length origins ≡ length states
+  pub marked : (k : ℕ) → k < length states → (d : S)
+      → (origin_at origins k).is_last ≡ last (slice_index_or states k d)
   pub later : (k : ℕ) → 0 < k → k < length states
       → ComesFrom next can states (origin_at origins k) k
 
@@ -101,9 +103,10 @@ pub record Grows {S : Type 0} (old new : List S) : Type 0 where
 -- A search so far. It has a first state. Each other state was found from an older one. Any event
 -- leads from each of the first `closed` states to one of the states.
 pub record IsSearched {S : Type 0} (next : S → Event → S) (can : S → Event → Bool)
-    (alike : S → S → Type 0) (states : List S) (origins : List Origin) (closed : ℕ) : Type 0 where
+    (alike : S → S → Type 0) (last : S → Bool) (states : List S) (origins : List Origin) (closed : ℕ)
+    : Type 0 where
   pub some : 0 < length states
-  pub traced : IsTraced next can states origins
+  pub traced : IsTraced next can last states origins
   pub closed_below : IsClosed next can alike states closed
   pub within : closed ≤ length states
 
@@ -127,7 +130,7 @@ pub record AreKept {S : Type 0} (states kept : List S) (marks : List (Option ℕ
 -- A search so far. Its states follow from the first one and from how the others were found, and
 -- some of them are kept whole.
 pub record IsSpace {S : Type 0} (next : S → Event → S) (can : S → Event → Bool)
-    (alike : S → S → Type 0) (first : S) (origins : List Origin) (closed : ℕ) (kept : List S)
-    (marks : List (Option ℕ)) : Type 0 where
-  pub searched : IsSearched next can alike (states_of next first origins) origins closed
+    (alike : S → S → Type 0) (last : S → Bool) (first : S) (origins : List Origin) (closed : ℕ)
+    (kept : List S) (marks : List (Option ℕ)) : Type 0 where
+  pub searched : IsSearched next can alike last (states_of next first origins) origins closed
   pub whole_ones : AreKept (states_of next first origins) kept marks

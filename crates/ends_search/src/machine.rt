@@ -18,6 +18,8 @@ pub trait StateMachine: Drop {
 
     ghost alike: { Self.Setting → Self → Self → Type 0 };
 
+    ghost last: { Self → Bool };
+
     /// The events that can come.
     fn events(&self, alloc: Global, setting: &Self::Setting) -> Result<Vec<Event>, AllocError>
         ensures all { IfOk result (λ es. (e : Event)
@@ -47,6 +49,10 @@ pub trait StateMachine: Drop {
         other: &Self,
     ) -> Result<bool, AllocError>
         ensures { IfOk result (λ r. r ≡ true → alike setting.now self.now other.now) };
+
+    /// Is the state one of those that the search is for? They are marked when they are found.
+    fn is_last(&self) -> bool
+        ensures { result ≡ last self.now };
 
     /// A number that states mostly share if they are alike.
     fn hash(&self, alloc: Global, setting: &Self::Setting) -> Result<u64, AllocError>;

@@ -47,7 +47,7 @@ fn whole<'s, S: StateMachine>(
 ) -> Option<&'s S>
     requires within { place < length space.now.origins.items }
     requires space { IsSpace (S.next setting.now) (S.can setting.now)
-        (S.alike setting.now) space.now.first space.now.origins.items space.now.closed
+        (S.alike setting.now) S.last space.now.first space.now.origins.items space.now.closed
         space.now.kept.items space.now.marks.items }
     ensures some { IfSome result (λ s.
         s.now ≡ state_at (S.next setting.now) space.now.first space.now.origins.items place) }
@@ -76,7 +76,7 @@ pub fn restored<S: StateMachine>(
 ) -> Result<S, AllocError>
     requires within { place < length space.now.origins.items }
     requires space { IsSpace (S.next setting.now) (S.can setting.now)
-        (S.alike setting.now) space.now.first space.now.origins.items space.now.closed
+        (S.alike setting.now) S.last space.now.first space.now.origins.items space.now.closed
         space.now.kept.items space.now.marks.items }
     ensures { IfOk result (λ s.
         s ≡ state_at (S.next setting.now) space.now.first space.now.origins.items place) }
@@ -102,7 +102,7 @@ fn is_at<S: StateMachine>(
 ) -> Result<bool, AllocError>
     requires within { place < length space.now.origins.items }
     requires space { IsSpace (S.next setting.now) (S.can setting.now)
-        (S.alike setting.now) space.now.first space.now.origins.items space.now.closed
+        (S.alike setting.now) S.last space.now.first space.now.origins.items space.now.closed
         space.now.kept.items space.now.marks.items }
     ensures { IfOk result (λ r. r ≡ true → IsAmong (S.alike setting.now)
         (states_of (S.next setting.now) space.now.first space.now.origins.items) state.now) }
@@ -120,7 +120,7 @@ fn is_known<S: StateMachine>(
     hash: u64,
 ) -> Result<bool, AllocError>
     requires { IsSpace (S.next setting.now) (S.can setting.now)
-        (S.alike setting.now) space.now.first space.now.origins.items space.now.closed
+        (S.alike setting.now) S.last space.now.first space.now.origins.items space.now.closed
         space.now.kept.items space.now.marks.items }
     ensures { IfOk result (λ r. r ≡ true → IsAmong (S.alike setting.now)
         (states_of (S.next setting.now) space.now.first space.now.origins.items) state.now) }
@@ -168,11 +168,12 @@ fn add<S: StateMachine>(
         origin.parent origin.event }
     requires comes { state ≡ S.next setting.now (state_at (S.next setting.now)
         space.old.first space.old.origins.items origin.parent) origin.event }
+    requires marked { origin.is_last ≡ S.last state }
     requires space { IsSpace (S.next setting.now) (S.can setting.now)
-        (S.alike setting.now) space.old.first space.old.origins.items space.old.closed
+        (S.alike setting.now) S.last space.old.first space.old.origins.items space.old.closed
         space.old.kept.items space.old.marks.items }
     ensures space { OnOk result (IsSpace (S.next setting.now) (S.can setting.now)
-        (S.alike setting.now) space.new.first space.new.origins.items space.new.closed
+        (S.alike setting.now) S.last space.new.first space.new.origins.items space.new.closed
         space.new.kept.items space.new.marks.items) }
     ensures first { OnOk result (space.new.first ≡ space.old.first) }
     ensures closed { OnOk result (space.new.closed ≡ space.old.closed) }
@@ -223,10 +224,10 @@ fn expand<S: StateMachine>(
 ) -> Result<bool, AllocError>
     requires within { place < length space.old.origins.items }
     requires space { IsSpace (S.next setting.now) (S.can setting.now)
-        (S.alike setting.now) space.old.first space.old.origins.items space.old.closed
+        (S.alike setting.now) S.last space.old.first space.old.origins.items space.old.closed
         space.old.kept.items space.old.marks.items }
     ensures space { OnOk result (IsSpace (S.next setting.now) (S.can setting.now)
-        (S.alike setting.now) space.new.first space.new.origins.items space.new.closed
+        (S.alike setting.now) S.last space.new.first space.new.origins.items space.new.closed
         space.new.kept.items space.new.marks.items) }
     ensures first { OnOk result (space.new.first ≡ space.old.first) }
     ensures closed { OnOk result (space.new.closed ≡ space.old.closed) }
@@ -245,6 +246,7 @@ fn expand<S: StateMachine>(
         let origin = Origin {
             parent: place,
             event: *event,
+            is_last: next.is_last(),
         };
         let there = add(alloc, setting, space, next, origin)?;
         if !there {
@@ -267,7 +269,8 @@ pub fn begin<S: StateMachine>(
 ) -> Result<Space<S>, AllocError>
     ensures first { IfOk result (λ r. r.first ≡ first) }
     ensures space { IfOk result (λ r. IsSpace (S.next setting.now) (S.can setting.now)
-        (S.alike setting.now) r.first r.origins.items r.closed r.kept.items r.marks.items) }
+        (S.alike setting.now) S.last r.first r.origins.items r.closed
+        r.kept.items r.marks.items) }
 {
     let mut origins = Vec::new(alloc);
     let mut marks = Vec::new(alloc);
@@ -277,6 +280,7 @@ pub fn begin<S: StateMachine>(
     origins.push(Origin {
         parent: 0,
         event: Event::Step(0),
+        is_last: first.is_last(),
     })?;
     Ok(Space {
         first,
@@ -302,11 +306,13 @@ pub fn advance<S: StateMachine>(
     space: Space<S>,
     count: usize,
 ) -> Result<Space<S>, AllocError>
-    requires { IsSpace (S.next setting.now) (S.can setting.now) (S.alike setting.now)
-        space.first space.origins.items space.closed space.kept.items space.marks.items }
+    requires { IsSpace (S.next setting.now) (S.can setting.now)
+        (S.alike setting.now) S.last space.first space.origins.items space.closed
+        space.kept.items space.marks.items }
     ensures first { IfOk result (λ r. r.first ≡ space.first) }
     ensures space { IfOk result (λ r. IsSpace (S.next setting.now) (S.can setting.now)
-        (S.alike setting.now) r.first r.origins.items r.closed r.kept.items r.marks.items) }
+        (S.alike setting.now) S.last r.first r.origins.items r.closed
+        r.kept.items r.marks.items) }
 {
     let mut space = space;
     for _ in 0..count {
@@ -336,7 +342,7 @@ pub fn trace<S: StateMachine>(
 ) -> Result<Vec<Event>, AllocError>
     requires within { place < length space.now.origins.items }
     requires space { IsSpace (S.next setting.now) (S.can setting.now)
-        (S.alike setting.now) space.now.first space.now.origins.items space.now.closed
+        (S.alike setting.now) S.last space.now.first space.now.origins.items space.now.closed
         space.now.kept.items space.now.marks.items }
     ensures { IfOk result (λ es. IsWay (S.next setting.now) (S.can setting.now)
         space.now.first es.items

@@ -16,8 +16,8 @@ pub returns-clause-space : goal.returns-clause-space
 returns-clause-space g c =
     let s = c.args.space.now in
     rw (c.in_ok-push.ensures.items, c.in_ok-push-2.ensures.items)
-    (space_more (g.S.StateMachine.next c.args.setting.now) (g.S.StateMachine.can c.args.setting.now) (g.S.StateMachine.alike c.args.setting.now) s.first s.origins.items s.closed s.kept.items s.marks.items c.args.origin c.args.state c.keep.new.kept.items c.in_ok-mark.mark
-    c.requires.space c.requires.within c.requires.can c.requires.comes c.in_ok-mark.ensures.grows c.in_ok-mark.ensures.is_kept)
+    (space_more (g.S.StateMachine.next c.args.setting.now) (g.S.StateMachine.can c.args.setting.now) (g.S.StateMachine.alike c.args.setting.now) g.S.StateMachine.last s.first s.origins.items s.closed s.kept.items s.marks.items c.args.origin c.args.state c.keep.new.kept.items c.in_ok-mark.mark
+    c.requires.space c.requires.within c.requires.can c.requires.marked c.requires.comes c.in_ok-mark.ensures.grows c.in_ok-mark.ensures.is_kept)
 
 pub returns-clause-grows : goal.returns-clause-grows
 returns-clause-grows g c =

@@ -15,7 +15,7 @@ loop-preserved g c =
     elim c.if-branch.branch [
       | then-branch w ↦ rw w.space-is (
         d.first ∙ i.0,
-        rw d.first (space_closed next can (g.S.StateMachine.alike c.args.setting.now) old.first old.origins.items new.origins.items old.closed new.kept.items old.kept.items new.marks.items old.marks.items i.1 (rw (d.first, d.closed) at d.space) less (rw d.first at d.grows) (rw d.first at (d.all w.if-branch.true))),
+        rw d.first (space_closed next can (g.S.StateMachine.alike c.args.setting.now) g.S.StateMachine.last old.first old.origins.items new.origins.items old.closed new.kept.items old.kept.items new.marks.items old.marks.items i.1 (rw (d.first, d.closed) at d.space) less (rw d.first at d.grows) (rw d.first at (d.all w.if-branch.true))),
       )
       | else-branch w ↦ rw w.space-is (d.first ∙ i.0, d.space)
     ]

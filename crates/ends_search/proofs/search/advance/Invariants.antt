@@ -6,4 +6,4 @@ abbrev pub invariant-loop : goal.invariant-loop
 invariant-loop g l =
     let s = l.space in
     (s.first ≡ l.fn.space.first)
-    × IsSpace (g.S.StateMachine.next l.setting) (g.S.StateMachine.can l.setting) (g.S.StateMachine.alike l.setting) s.first s.origins.items s.closed s.kept.items s.marks.items
+    × IsSpace (g.S.StateMachine.next l.setting) (g.S.StateMachine.can l.setting) (g.S.StateMachine.alike l.setting) g.S.StateMachine.last s.first s.origins.items s.closed s.kept.items s.marks.items

@@ -9,7 +9,7 @@ invariant-loop-event g l =
     let s = l.space in
     let old = states_of next l.fn.space.first l.fn.space.origins.items in
     let new = states_of next s.first s.origins.items in
-    IsSpace next (g.S.StateMachine.can l.setting) (g.S.StateMachine.alike l.setting) s.first s.origins.items s.closed s.kept.items s.marks.items
+    IsSpace next (g.S.StateMachine.can l.setting) (g.S.StateMachine.alike l.setting) g.S.StateMachine.last s.first s.origins.items s.closed s.kept.items s.marks.items
     × (s.first ≡ l.fn.space.first)
     × (s.closed ≡ l.fn.space.closed)
     × Grows old new
