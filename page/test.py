@@ -37,7 +37,7 @@ ROOT = os.path.dirname(HERE)
 sys.path.append(ROOT)
 from checks.programs import taken  # noqa: E402
 from checks.tests import ends, look_rows  # noqa: E402
-from checks.tests.looks import untitled  # noqa: E402
+from checks.tests.looks import untitled, without_lines  # noqa: E402
 
 PAGE = os.path.join(HERE, "out", "index.html")
 EXAMPLES = sorted(glob.glob(os.path.join(ROOT, "examples", "*.sts")))
@@ -118,7 +118,9 @@ class Programs:
         return [done.returncode, done.stdout]
 
     def view(self, text, trace, *options):
-        return self.says(self.look, "view", [text, trace], *options)
+        """Returns the status and the view without the lines of the text: the page has none."""
+        status, printed = self.says(self.look, "view", [text, trace], *options)
+        return [status, without_lines(printed)]
 
     def explain(self, text, trace):
         return self.says(self.look, "explain", [text, trace])

@@ -5,7 +5,7 @@
 ghost use Rattle.std.specs.Prelude.{[], None, false};
 ghost use Rattle.sts_output.specs.Output.{IsOutputOf};
 ghost use Rattle.look_picture.specs.Picture.{IsPictureOf};
-ghost use Rattle.look_refusal.specs.Output.{IsExplanation};
+ghost use Rattle.look_places.specs.Named.{IsNamedExplanation};
 ghost use Rattle.look_run.specs.Output.{IsRunExplanation};
 ghost use Rattle.look_lines.specs.View.{IsViewOf};
 ghost use Rattle.look_page.specs.Ends.{HandsEnds, IsListing};
@@ -124,7 +124,7 @@ pub extern "C" fn sts_view(
 /// Why a text is no program or a program is refused, handed over as by `sts_verify`.
 #[unsafe(no_mangle)]
 pub extern "C" fn sts_explain(alloc: Global, text: &[u8], out: &mut [u8], size: &mut usize) -> u8
-    ensures { Hands (IsExplanation text.now)
+    ensures { Hands (IsNamedExplanation text.now)
         (record { status = result; size = size.new; before = out.old; after = out.new }) }
 {
     shown(alloc, Asked::Explanation, text, &[], out, size)

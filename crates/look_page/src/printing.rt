@@ -9,7 +9,7 @@ use look_ends::{Silent, write_ends};
 use look_lines::write_run;
 use look_options::{DrawOptions, ViewOptions, Window};
 use look_picture::draw;
-use look_refusal::explain;
+use look_places::write_named;
 use look_run::explain_run;
 use std::alloc::Global;
 use sts_output::{TextMode, WriteFailed, play_text};
@@ -51,7 +51,7 @@ pub(crate) fn print(
     match asked {
         Asked::Mode(mode) => play_text(alloc, mode, text, trace, printed),
         Asked::View(wanted) => write_run(alloc, &wanted, text, trace, printed),
-        Asked::Explanation => explain(alloc, text, printed),
+        Asked::Explanation => write_named(alloc, text, printed),
         Asked::RunExplanation => explain_run(alloc, text, trace, printed),
         Asked::Picture { brief } => {
             let options = DrawOptions {
