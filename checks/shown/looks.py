@@ -40,10 +40,10 @@ def titled(look):
     page = TITLED.findall(read("docs/LOOK.md"))
     yield "LOOK.md shows a title", page != []
     for count, name, window, block in page:
-        text = os.path.join(ROOT, "examples", f"{name}.sts")
-        with open(text[:-4] + ".trace") as file:
+        text = f"examples/{name}.sts"
+        with open(os.path.join(ROOT, text[:-4] + ".trace")) as file:
             yield f"the events of {name}", len(file.readlines()) == int(count)
-        drawn_now = says(look, "draw", text, text[:-4] + ".trace", "--events", window)[1]
+        drawn_now = says(look, "draw", text, text[:-4] + ".trace", "--events", window, cwd=ROOT)[1]
         yield f"the title of {name} in LOOK.md", ElementTree.fromstring(drawn_now).find(SVG + "title").text == dedented(block)
 
 

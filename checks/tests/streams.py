@@ -400,9 +400,11 @@ def reasons(program, look, folder):
     yield from unwritten_reasons(program, look)
     for words in (["verify", SUM], ["plain", SUM, TRACE]):
         yield f"nothing of {words}", told(program, words), ""
-    for words in (["explain", "-"], ["view", "-", TRACE], ["draw", "-", TRACE], ["explain", "-", TRACE]):
+    for words in (["explain", "-"], ["view", "-", TRACE], ["tell", "-", TRACE], ["explain", "-", TRACE]):
         with open(SUM) as given:
             yield f"{words}", answer(look, words, given), answer(look, [SUM if it == "-" else it for it in words])
+    with open(SUM) as given:
+        yield "the title of a picture of standard input", f"<title>-, {TRACE}: " in str(answer(look, ["draw", "-", TRACE], given)), True
     with open(TRACE) as given:
         yield "a trace at -", answer(look, ["view", SUM, "-"], given), answer(look, ["view", SUM, TRACE])
     for words in (["--help"], ["help"], ["draw", "--help"]):
