@@ -37,6 +37,11 @@ class Calls {
     return this.call("sts_view", [Number(each), Number(full)], [text, trace]);
   }
 
+  // With lines and names of the text.
+  namedView(text, trace, { each = false, full = false } = {}) {
+    return this.call("sts_named_view", [Number(each), Number(full)], [text, trace]);
+  }
+
   draw(text, trace, { brief = false } = {}) {
     return this.call("sts_draw", [Number(brief)], [text, trace]);
   }

@@ -18,6 +18,7 @@ let calls = null;
 let mostStates = STATES_AT_ONCE; // of the search whose ends are shown
 let marked = null; // the line of the text that is marked
 let parts = []; // what stands before the first event and after each
+let namedParts = []; // the same with lines and names of the text
 let place = 0; // how many events are to be shown
 let at = 0; // how many are shown: fewer where the trace has fewer, or is at fault
 let drawn = ""; // the picture of the whole run
@@ -149,8 +150,9 @@ function button(event, words) {
   return node;
 }
 
-function standing(line, canPlay) {
-  const item = made("li", {}, made("span", { className: "words" }, line));
+// A line of a view, with the buttons of its events; it is shown with lines and names of the text.
+function standing(line, shown, canPlay) {
+  const item = made("li", {}, made("span", { className: "words" }, shown));
   item.append(...(canPlay ? eventsOf(line) : []).map((event) => button(event, event)));
   return item;
 }
@@ -186,8 +188,8 @@ function show() {
   const canPlay = !isAtFault(part);
   const focused = document.activeElement.dataset.event;
   const isOnColumn = document.activeElement.closest(".columns") !== null;
-  element("head").textContent = part.head;
-  element("stands").replaceChildren(...part.lines.map((line) => standing(line, canPlay)));
+  element("head").textContent = namedParts[at].head;
+  element("stands").replaceChildren(...part.lines.map((line, i) => standing(line, namedParts[at].lines[i], canPlay)));
   markTasks(part, canPlay);
   element("told").textContent = told();
   element("picture").replaceChildren(...(hasRun ? picture(drawn, parts, at, guarded(move)) : []));
@@ -208,12 +210,16 @@ function move(to) {
 // Runs the trace. If there is no run, the page shows what is wrong with the text or the trace instead.
 function run() {
   const text = element("text").value;
-  const viewed = calls.view(text, trace(), { each: true, full: element("full").checked });
+  const options = { each: true, full: element("full").checked };
+  const viewed = calls.view(text, trace(), options);
+  const named = calls.namedView(text, trace(), options);
   hasRun = !HAS_NO_RUN.includes(viewed.status);
   drawn = hasRun ? calls.draw(text, trace(), { brief: element("brief").checked }).text : "";
   shareRun();
-  parts = partsOf(viewed.text, hasRun ? "before the first event" : "");
-  element("course-words").textContent = viewed.text;
+  const firstHead = hasRun ? "before the first event" : "";
+  parts = partsOf(viewed.text, firstHead);
+  namedParts = partsOf(named.text, firstHead);
+  element("course-words").textContent = named.text;
   show();
 }
 

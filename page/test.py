@@ -118,9 +118,7 @@ class Programs:
         return [done.returncode, done.stdout]
 
     def view(self, text, trace, *options):
-        """Returns the status and the view without the lines of the text: the page has none."""
-        status, printed = self.says(self.look, "view", [text, trace], *options)
-        return [status, without_lines(printed)]
+        return self.says(self.look, "view", [text, trace], *options)
 
     def explain(self, text, trace):
         return self.says(self.look, "explain", [text, trace])
@@ -153,7 +151,7 @@ class Programs:
     def marks(self, text, trace):
         """Returns of each task that lives the line of the listing where it is, its number, and whether it can step."""
         lines = places(self.says(self.sts, "list", [text])[1])
-        viewed = self.view(text, trace)[1]
+        viewed = without_lines(self.view(text, trace)[1])
         living = [(lines.get((name, int(place))), task, stands) for task, name, place, stands in LIVING.findall(viewed)]
         can_step = not viewed.startswith("fault ")
         return [[line, task, can_step and stands == "ready"] for line, task, stands in living if line is not None]
@@ -259,8 +257,10 @@ def same_calls(page, programs, name, text, traces):
             status, drawn = page.call("draw", text, trace, options)
             yield f"draw of {name} after {events} {words}", [status, untitled(drawn)] == programs.draw(text, trace, *words)
         for option in ("each", "full"):
-            viewed = programs.view(text, trace, f"--{option}")
-            yield f"view of {name} after {events}, {option}", page.call("view", text, trace, {option: True}) == viewed
+            status, viewed = programs.view(text, trace, f"--{option}")
+            yield f"view of {name} after {events}, {option}", page.call("namedView", text, trace, {option: True}) == [status, viewed]
+            plain = [status, without_lines(viewed)]
+            yield f"view without lines of {name} after {events}, {option}", page.call("view", text, trace, {option: True}) == plain
 
 
 def same_ends(page, programs, name, text):

@@ -7,6 +7,7 @@ use Rattle.look_options.specs.declared.pictures.DrawOptions.{DrawOptions}
 use Rattle.look_places.specs.Named.{IsNamedExplanation}
 use Rattle.look_run.specs.Output.{IsRunExplanation}
 use Rattle.look_lines.specs.View.{IsViewOf}
+use Rattle.look_view.specs.View.{IsNamedViewOf}
 use Rattle.look_page.specs.Ends.{IsListing}
 use Rattle.look_page.specs.declared.printing.Asked.{Asked}
 use Rattle.look_page.specs.declared.printing.Asked.TheVariants as asked
@@ -18,6 +19,7 @@ all_events brief = record { window = Some (record { first = 1; last = 4294967295
 abbrev pub Prints : Asked → List ℕ → List ℕ → Output → Type 0
 Prints (asked.Mode mode) text trace o = IsOutputOf (mode_of mode) text trace o
 Prints (asked.View wanted) text trace o = IsViewOf wanted text trace o
+Prints (asked.NamedView wanted) text trace o = IsNamedViewOf wanted text trace o
 Prints asked.Explanation text trace o = IsNamedExplanation text o
 Prints asked.RunExplanation text trace o = IsRunExplanation text trace o
 Prints (asked.Picture brief) text trace o = IsPictureOf (all_events brief) None text trace o

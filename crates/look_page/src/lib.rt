@@ -8,6 +8,7 @@ ghost use Rattle.look_picture.specs.Picture.{IsPictureOf};
 ghost use Rattle.look_places.specs.Named.{IsNamedExplanation};
 ghost use Rattle.look_run.specs.Output.{IsRunExplanation};
 ghost use Rattle.look_lines.specs.View.{IsViewOf};
+ghost use Rattle.look_view.specs.View.{IsNamedViewOf};
 ghost use Rattle.look_page.specs.Ends.{HandsEnds, IsListing};
 ghost use Rattle.look_page.specs.Handed.{Hands, IsHanded};
 ghost use Rattle.look_page.specs.Printed.{Prints, all_events};
@@ -92,7 +93,8 @@ pub extern "C" fn sts_plain(
     shown(alloc, Asked::Mode(TextMode::Plain), text, trace, out, size)
 }
 
-/// What `look view` prints, with `--each` and `--full` by choice, handed over as by `sts_verify`.
+/// What `look view` prints, with `--each` and `--full` by choice, but without lines and names of the
+/// text. It is handed over as by `sts_verify`.
 #[unsafe(no_mangle)]
 pub extern "C" fn sts_view(
     alloc: Global,
@@ -110,6 +112,35 @@ pub extern "C" fn sts_view(
     shown(
         alloc,
         Asked::View(ViewOptions {
+            each,
+            full,
+            living: false,
+        }),
+        text,
+        trace,
+        out,
+        size,
+    )
+}
+
+/// What `look view` prints, with `--each` and `--full` by choice, handed over as by `sts_verify`.
+#[unsafe(no_mangle)]
+pub extern "C" fn sts_named_view(
+    alloc: Global,
+    each: bool,
+    full: bool,
+    text: &[u8],
+    trace: &[u8],
+    out: &mut [u8],
+    size: &mut usize,
+) -> u8
+    ensures { Hands
+        (IsNamedViewOf (record { each = each; full = full; living = false }) text.now trace.now)
+        (record { status = result; size = size.new; before = out.old; after = out.new }) }
+{
+    shown(
+        alloc,
+        Asked::NamedView(ViewOptions {
             each,
             full,
             living: false,

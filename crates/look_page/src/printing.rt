@@ -11,6 +11,7 @@ use look_options::{DrawOptions, ViewOptions, Window};
 use look_picture::draw;
 use look_places::write_named;
 use look_run::explain_run;
+use look_view::write_view;
 use std::alloc::Global;
 use sts_output::{TextMode, WriteFailed, play_text};
 
@@ -25,6 +26,8 @@ const ALL: Window = Window {
 pub(crate) enum Asked {
     Mode(TextMode),
     View(ViewOptions),
+    /// The same with lines and names of the text.
+    NamedView(ViewOptions),
     Explanation,
     RunExplanation,
     /// Of all events, or of those that the story of the run lists.
@@ -51,6 +54,7 @@ pub(crate) fn print(
     match asked {
         Asked::Mode(mode) => play_text(alloc, mode, text, trace, printed),
         Asked::View(wanted) => write_run(alloc, &wanted, text, trace, printed),
+        Asked::NamedView(wanted) => write_view(alloc, wanted, text, trace, printed),
         Asked::Explanation => write_named(alloc, text, printed),
         Asked::RunExplanation => explain_run(alloc, text, trace, printed),
         Asked::Picture { brief } => {
