@@ -17,8 +17,8 @@ def floor_rows():
 
 
 def floors():
-    """Fails if crates/README.md doesn't have each crate once, or a crate uses one of a higher floor. Returns each crate's floor."""
-    names, rows = zip(*floor_rows())
+    """Fails if crates/README.md doesn't have each crate once, or a crate uses one of a higher floor."""
+    rows = [row for _, row in floor_rows()]
     floor = {it: number for number, row in enumerate(rows) for it in row}
     if sorted(it for row in rows for it in row) != sorted(crates()):
         fail(f"crates/README.md doesn't have each crate once: {sorted(set(floor) ^ set(crates()))}")
@@ -26,21 +26,20 @@ def floors():
         for it in others:
             if floor[it] > floor[name]:
                 fail(f"{name} uses {it}, which is of a higher floor")
-    return {it: names[number] for it, number in floor.items()}
 
 
-def neighbours(floor, is_writing):
-    """Fails if the last line of a crate's page doesn't say its floor and the crates that it uses. Or writes these lines."""
+def neighbours(is_writing):
+    """Fails if the last line of a crate's page doesn't say which crates it uses. Or writes these lines."""
     for name, others in crates().items():
         uses = ", ".join(f"`{it}`" for it in others) or "no other crate"
-        line = f"*Floor*: {floor[name]}. *Uses*: {uses}."
+        line = f"*Uses*: {uses}."
         text = read(page(name))
-        said = re.search(r"\n(\*Floor\*: .*)\n\Z", text)
+        said = re.search(r"\n(\*Uses\*: .*)\n\Z", text)
         if is_writing:
             with open(f"{ROOT}/{page(name)}", "w") as file:
                 file.write((text[: said.start()] if said else text.rstrip("\n") + "\n") + f"\n{line}\n")
         elif not said or said[1] != line:
-            fail(f"{page(name)} doesn't say its floor and what it uses: python3 -m checks documents write")
+            fail(f"{page(name)} doesn't say what it uses: python3 -m checks documents write")
 
 
 def edits():
@@ -72,7 +71,8 @@ def decisions():
 
 
 def check(is_writing):
-    neighbours(floors(), is_writing)
+    floors()
+    neighbours(is_writing)
     edits()
     proofs_of_others()
     decisions()
