@@ -1,5 +1,7 @@
 -- The columns of a list of events, one after another.
-use Rattle.std.proofs.Common.{◌≡◌, ℕ, ◌+◌, ◌<◌, ◌≤◌, List, [], ◌∷◌, Bool, ◌++◌, length, arith, ap, ap₂, sym, ◌∙◌, take, drop, get_or}
+use Rattle.std.proofs.Common.{◌≡◌, ℕ, ◌+◌, ◌<◌, ◌≤◌, List, Bool, ◌++◌, length, arith, ap, ap₂, sym, ◌∙◌, take, drop, get_or}
+use Rattle.std.specs.Prelude.{◌==◌, true, false, if◌then◌else◌}
+use Rattle.std.proofs.Math.Nat.{le_refl}
 use Rattle.std.proofs.lemmas.List.{take_more, length-take-le, drop_more}
 use Rattle.sts_code.specs.Program.{Program}
 use Rattle.sts_model.specs.declared.event.Event.{Event}
@@ -40,6 +42,9 @@ count_next text brief p n es i d inside =
     ∙ ap₂ (λ (m : ℕ) done. count_from text brief p (one_more (event_words text brief (m + 1) (after_events p (take i es)) e) n) done (drop (i + 1) es)) long (sym (take_more es i d inside))
 
 -- one column more at most
+few_if : (is_none : Bool) (n : ℕ) → (if is_none then n else n + 1) ≤ n + 1
+few_if true n = omega arith
+few_if false n = le_refl (n + 1)
+
 pub one_more_few : (words : List ℕ) (n : ℕ) → one_more words n ≤ n + 1
-one_more_few [] n = omega arith
-one_more_few (b ∷ bs) n = omega arith
+one_more_few words n = few_if (length words == 0) n

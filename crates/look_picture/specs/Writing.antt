@@ -43,13 +43,18 @@ escaped text = flat_map escaped_char text
 abbrev pub escaped_words : List ℕ → List ℕ
 escaped_words text = escaped (chars text)
 
--- the attribute of words of more letters than their room has: they are written so small that they fit
+-- the size of letters that are more than a room has: so small that they fit, but at least a pixel
+abbrev pub small : ℕ → Room → ℕ
+small letters room = max 1 (room.letters * room.size / letters)
+
+-- the attribute of a size of letters
+unfoldable pub sized : ℕ → List ℕ
+sized size = codes " style='font-size:" ++ decimal size ++ codes "px'"
+
+-- the attribute of words of more letters than their room has: they are written smaller
 abbrev pub shrunk : ℕ → Room → List ℕ
 shrunk letters room =
-    if nat_lt room.letters letters
-    then codes " style='font-size:" ++ decimal (max 1 (room.letters * room.size / letters))
-    ++ codes "px'"
-    else []
+    if nat_lt room.letters letters then sized (small letters room) else []
 
 -- a text of a class at a point, before its further attributes
 unfoldable pub text_place : List ℕ → ℕ → ℕ → List ℕ

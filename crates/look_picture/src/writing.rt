@@ -1,6 +1,6 @@
 //! The elements of a picture, and the escapes of their words.
 
-ghost use Rattle.std.specs.Prelude.{◌≡◌, ◌++◌, OnOk};
+ghost use Rattle.std.specs.Prelude.{◌≡◌, ◌++◌, ◌<◌, OnOk};
 ghost use Rattle.std.specs.String.{string_bytes};
 ghost use Rattle.look_picture.specs.Writing as def;
 
@@ -84,8 +84,24 @@ pub(crate) struct Room {
     pub(crate) size: u32,
 }
 
-/// The attribute of words of more letters than their room has: they are written so small that they
-/// fit.
+/// The size of letters that are more than a room has: so small that they fit, but at least a pixel.
+fn small(letters: usize, room: Room) -> u64
+    requires { 0 < letters }
+    ensures { result ≡ def.small letters room }
+{
+    let fitting = u64::from(room.letters) * u64::from(room.size) / letters as u64;
+    cmp::max(1, fitting)
+}
+
+/// The attribute of a size of letters.
+#[tactic(auto, unfolding(crate::specs::Writing::sized))]
+fn say_size(out: &mut String, size: u64) -> Result<(), AllocError>
+    ensures { OnOk result (string_bytes out.new ≡ string_bytes out.old ++ def.sized size) }
+{
+    write!(out, " style='font-size:{size}px'")
+}
+
+/// The attribute of words of more letters than their room has: they are written smaller.
 fn shrink(out: &mut String, letters: usize, room: Room) -> Result<(), AllocError>
     ensures { OnOk result (string_bytes out.new
         ≡ string_bytes out.old ++ def.shrunk letters room) }
@@ -93,9 +109,7 @@ fn shrink(out: &mut String, letters: usize, room: Room) -> Result<(), AllocError
     if letters <= room.letters as usize {
         return Ok(());
     }
-    let size = u64::from(room.letters) * u64::from(room.size) / letters as u64;
-    let size = cmp::max(1, size);
-    write!(out, " style='font-size:{size}px'")
+    say_size(out, small(letters, room))
 }
 
 /// A text of a class at a point, before its further attributes.

@@ -1,12 +1,9 @@
-use Rattle.std.proofs.Common.{◌≡◌, ℕ, ◌++◌, ◌∙◌, ap, ap₂, sym, arith, append_assoc, false, take, drop, get_or, ◌+◌, ◌-◌, List, length, ◌<◌, ◌≤◌, ◌^◌}
+use Rattle.std.proofs.Common.{ℕ, ◌++◌, ◌∙◌, ap, ap₂, sym, arith, append_assoc, false, take, drop, get_or, ◌+◌, List}
 use Rattle.std.specs.String.{string_bytes}
-use Rattle.sts_code.specs.Program.{Program}
-use Rattle.sts_model.specs.declared.event.Event.{Event}
 use Rattle.sts_model.specs.declared.event.Event.TheVariants.{Step}
 use Rattle.sts_model.specs.World.{World}
 use Rattle.look_lines.proofs.WatchedLemmas.{watched_next}
 use Rattle.look_lines.specs.Watched.{Watched, after_event, watched}
-use Rattle.look_lines.specs.declared.watch.Applied.{Applied}
 use Rattle.look_tell.specs.Story.{Story, after_events, next}
 use Rattle.look_tell.proofs.StoryLemmas.{after_next, watched_taken, watched_told}
 use Rattle.look_picture.proofs.Columns.{applied_of, columns_next, count_next, numbered, numbered_at, one_more_few}
