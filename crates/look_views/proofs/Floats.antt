@@ -22,7 +22,6 @@ use Rattle.sts_plain.specs.declared.misstep.PlainState.TheVariants as plain
 use Rattle.sts_asm.specs.Fault.{code_error}
 use Rattle.sts_asm.specs.declared.fault.AsmError.{AsmError}
 use Rattle.sts_trace.specs.declared.error.TraceError.{TraceError}
-use Rattle.sts_trace.specs.declared.error.TraceError.TheVariants as trace
 use Rattle.look_cases.proofs.FloatLemmas.{integer_plain, maybe_plain, text_fault_plain}
 use Rattle.look_cases.proofs.FloatLemmas.{trace_fault_plain}
 use Rattle.look_cases.proofs.FloatLemmas as answers
@@ -31,7 +30,7 @@ use Rattle.look_lines.specs.Watched.{Watched}
 use Rattle.look_options.specs.declared.views.ViewOptions.{ViewOptions}
 use Rattle.look_lines.specs.declared.watch.Applied.{Applied}
 use Rattle.look_names.specs.Names.{value_name}
-use Rattle.look_views.proofs.NamedFloats.{named_plain, placed_plain}
+use Rattle.look_views.proofs.NamedFloatLemmas.{named_plain, placed_plain}
 use Rattle.look_views.specs.Scope as scope
 use Rattle.look_views.specs.Task as task
 use Rattle.look_views.specs.Views as def

@@ -1,5 +1,5 @@
 -- A value as a line.
-use Rattle.std.proofs.Common.{◌≡◌, ℕ, List, ◌++◌, Bool, false, Result, OnOk, ap, ◌∙◌}
+use Rattle.std.proofs.Common.{◌≡◌, ℕ, List, ◌++◌, false, Result, OnOk, ap, ◌∙◌}
 use Rattle.std.proofs.lemmas.Result.{on_ok_weaker}
 use Rattle.serde_json.specs.Data.{Data}
 use Rattle.serde_json.specs.Written.{has_float}

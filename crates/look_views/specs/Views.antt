@@ -12,6 +12,7 @@ use Rattle.sts_model.specs.World.{World}
 use Rattle.sts_asm.specs.Fault.{code_error}
 use Rattle.sts_asm.specs.declared.fault.AsmError.{AsmError}
 use Rattle.sts_plain.specs.Seen.{shown}
+use Rattle.sts_plain.specs.declared.misstep.Misstep.{Misstep}
 use Rattle.sts_plain.specs.declared.misstep.PlainState.{PlainState}
 use Rattle.sts_plain.specs.declared.misstep.PlainState.TheVariants as plain
 use Rattle.sts_trace.specs.Spelling.{event_text}
@@ -41,17 +42,23 @@ abbrev pub named_end : List ℕ → End → ℕ → Data
 named_end text (Success v) steps = named (codes "name") (value_name text v) (ended (Success v) steps)
 named_end text (Failed c) steps = named (codes "name") (value_name text c) (ended (Failed c) steps)
 
+-- a fault with its place, and the steps before it
+abbrev pub fault : Program → Misstep → ℕ → Data
+fault p m steps = object_of (
+    (codes "fault", string (fault_word m.kind)) ∷
+    (codes "function", string (routine p m.function).name) ∷
+    (codes "outcome", string (codes "fault")) ∷
+    (codes "place", count m.pc) ∷
+    (codes "steps", count steps) ∷
+    (codes "task", count m.task) ∷ [])
+
 -- the state of a run, and the steps that it took
 abbrev pub run : List ℕ → Program → PlainState → ℕ → Data
 run text p plain.Running steps = running steps
 run text p (plain.Ended end) steps = named_end text end steps
-run text p (plain.Fault kind task f pc) steps = placed text f pc (object_of (
-    (codes "fault", string (fault_word kind)) ∷
-    (codes "function", string (routine p f).name) ∷
-    (codes "outcome", string (codes "fault")) ∷
-    (codes "place", count pc) ∷
-    (codes "steps", count steps) ∷
-    (codes "task", count task) ∷ []))
+run text p (plain.Fault kind task f pc) steps =
+    placed text f pc
+    (fault p (record { kind = kind; task = task; function = f; pc = pc }) steps)
 
 -- the state of a machine; after a fault its tasks and scopes are shown as before it
 abbrev pub stand_members : List ℕ → Bool → Watched → List (List ℕ × Data)

@@ -12,7 +12,7 @@ use std::alloc::{AllocError, Global};
 use sts_code::{Program, name_of};
 use sts_model::End;
 use sts_output::printed::fault_word;
-use sts_plain::PlainState;
+use sts_plain::{Misstep, PlainState};
 
 /// Returns how a run ended, the steps that it took, and the name of its value or code.
 fn named_end(alloc: Global, names: &Names<'_>, end: End, steps: u64) -> Result<Value, AllocError>
@@ -23,6 +23,20 @@ fn named_end(alloc: Global, names: &Names<'_>, end: End, steps: u64) -> Result<V
         End::Success(value) => with_name(alloc, ended, "name", names.value(value)),
         End::Failed(code) => with_name(alloc, ended, "name", names.value(code)),
     }
+}
+
+/// Returns a fault with its place, and the steps before it.
+fn fault(alloc: Global, program: &Program, fault: Misstep, steps: u64) -> Result<Value, AllocError>
+    ensures { IfOk result (λ v. view v ≡ def.fault program.now fault steps) }
+{
+    json!(in alloc; {
+        "fault": fault_word(fault.kind),
+        "function": name_of(program, fault.function),
+        "outcome": "fault",
+        "place": fault.pc,
+        "steps": steps,
+        "task": fault.task
+    })
 }
 
 /// Returns the state of a run, and the steps that it took.
@@ -48,14 +62,13 @@ pub(crate) fn run(
             function,
             pc,
         } => {
-            let fault = json!(in alloc; {
-                "fault": fault_word(kind),
-                "function": name_of(program, function),
-                "outcome": "fault",
-                "place": pc,
-                "steps": steps,
-                "task": task
-            })?;
+            let misstep = Misstep {
+                kind,
+                task,
+                function,
+                pc,
+            };
+            let fault = fault(alloc, program, misstep, steps)?;
             placed(alloc, names, function, pc, fault)
         }
     }
