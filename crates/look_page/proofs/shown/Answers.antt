@@ -10,6 +10,7 @@ use Rattle.look_page.proofs.shown.Goals as goal
 refused : (a : Asked) (text trace : List ℕ) → Prints a text trace memory_output
 refused (asked.Mode mode) text trace = inr refl
 refused (asked.View wanted) text trace = inr refl
+refused (asked.NamedView wanted) text trace = inr refl
 refused asked.Explanation text trace = inr refl
 refused asked.RunExplanation text trace = inr refl
 refused (asked.Picture brief) text trace = inr refl
