@@ -1,4 +1,4 @@
-use Rattle.std.proofs.Common.{inl, inr, refl, sym, subst, ◌∙◌, ap}
+use Rattle.std.proofs.Common.{inl, inr, refl, subst, ◌∙◌, ap}
 use Rattle.std.proofs.lemmas.Result.{IfOk-weaker}
 use Rattle.std.specs.Prelude.{unwrap_or}
 use Rattle.sts_output.specs.Output.{memory_output}
@@ -9,14 +9,14 @@ pub returns-in-Ok-Some : goal.returns-in-Ok-Some
 returns-in-Ok-Some g c =
     let full = c.as_slice.ensures.value ∙ ap (λ r. unwrap_or r c.args.trace.now) (rw c.in-Ok-Some.field-0-is at c.in-Ok-Some.ensures) in
     IfOk-weaker c.show.result _ _
-    (λ s h. (h.0, inl (subst (λ t. def.Shows c.args.showing.entry c.args.text.now t h.0) full h.1), h.2))
+    (λ s h. (h.0, inl (subst (λ t. def.Shows c.args.showing c.args.text.now t h.0) full h.1), h.2))
     c.show.ensures
 
 pub returns-in-Ok-None : goal.returns-in-Ok-None
 returns-in-Ok-None g c =
     let full = ap (λ r. unwrap_or r c.args.trace.now) (rw c.in-Ok-None.field-0-is at c.in-Ok-None.ensures) in
     IfOk-weaker c.show-in-Ok-None.result _ _
-    (λ s h. (h.0, inl (subst (λ t. def.Shows c.args.showing.entry c.args.text.now t h.0) full h.1), h.2))
+    (λ s h. (h.0, inl (subst (λ t. def.Shows c.args.showing c.args.text.now t h.0) full h.1), h.2))
     c.show-in-Ok-None.ensures
 
 pub returns-in-Err : goal.returns-in-Err
