@@ -11,10 +11,9 @@ use Rattle.std.specs.Option.{option_copied, option_copied_mut, IsSome}
 use Rattle.sts_records.specs.Holes.{Holes, key_at}
 use Rattle.sts_records.specs.Pages.{Comes, Goes, HasPagesFor, KeepsKeys}
 use Rattle.sts_records.specs.Slots.{AreGiven, birth_of, births, body_of, slots}
-use Rattle.slab.specs.Slab.{Slab, Updates, get}
+use Rattle.sts_records.specs.Places.{Entry, Places, Updates, get}
 use Rattle.sts_records.specs.declared.pages.Pages.{Pages}
 use Rattle.sts_records.proofs.Cells.{came, inside_of, stayed}
-use Rattle.sts_records.specs.declared.held.Entry.{Entry}
 
 some_same : {X : Type 0} → (a b : X) → Some a ≡ Some b → a ≡ b
 some_same a b e = cc
@@ -207,8 +206,8 @@ module _ {T : Type 0} where
   no_entries p entries none kept = subst (λ (l : List (Option (Entry T))). KeepsKeys p 0 (births l)) (sym none) kept
 
   -- an entry of a new birth
-  pub comes : (keys : List ℕ) (entries after : Slab (Entry T)) (key birth : ℕ) (x : T) → birth ≡ length keys → AreGiven keys (births entries.slots) → get entries key ≡ None → Updates entries after key (Some (record { birth = birth; body = x })) → Comes (births entries.slots) (births after.slots) key birth
-  comes keys entries after key birth x last given vacant u = record {
+  pub comes : (keys : List ℕ) (places after : Places T) (key birth : ℕ) (x : T) → birth ≡ length keys → AreGiven keys (births places.slots) → get places key ≡ None → Updates places after key (Some (record { birth = birth; body = x })) → Comes (births places.slots) (births after.slots) key birth
+  comes keys places after key birth x last given vacant u = record {
     was = ap birth_of vacant;
     is = ap birth_of u.changed;
     others = λ k ne. ap birth_of (u.others k ne);

@@ -10,28 +10,11 @@ ghost use Rattle.laws_live.specs.Reading.{live_scope_at, lives_in, scope_in};
 ghost use Rattle.sts_store.specs.Parts.{frame_of, live_of, unseen_of};
 ghost use Rattle.laws_live.specs.Order.{InOrder};
 
-use crate::running::Running;
+use crate::beginning::{begin, entry_locals};
 use crate::store::Store;
 use sts_code::{Program, args};
-use sts_frames::{entry_frame, leave_fork};
+use sts_frames::leave_fork;
 use sts_model::Slot;
-use sts_records::Held;
-
-/// A place for the next birth, with its own state if it lives.
-fn place(frames: &mut Held<Running>, running: Running, lives: bool)
-    requires room { 0 < frames.old.room }
-    requires births { length frames.old.slots < MAX_BIRTHS }
-    ensures slots { frames.new.slots
-        ≡ frames.old.slots ++ (if lives then Some running else None) ∷ [] }
-    ensures room { frames.new.room
-        ≡ (if lives then frames.old.room - 1 else frames.old.room) }
-{
-    if lives {
-        frames.push(running);
-    } else {
-        frames.skip();
-    }
-}
 
 impl Store {
     /// Forks a subtask in an open scope, and goes on. In a cancelled scope the subtask never runs.
@@ -59,9 +42,13 @@ impl Store {
         let args = args(program, function);
         let env = *self.tree.env(s);
         let forker = self.frames.record(t as usize);
-        let frame = entry_frame(function, args, &forker.frame, Slot::Lent(s));
+        let locals = entry_locals(args as usize, &forker.frame);
         let (child, lives) = self.tree.add_subtask(s);
-        place(&mut self.frames, Running { frame, env }, lives);
+        if lives {
+            begin(&mut self.frames, function, locals, Slot::Lent(s), env);
+        } else {
+            self.frames.skip();
+        }
         leave_fork(
             &mut self.frames.at(t as usize).frame,
             args as usize,

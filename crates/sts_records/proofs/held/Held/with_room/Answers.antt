@@ -1,5 +1,5 @@
 use Rattle.std.proofs.Common.{◌≡◌, ◌+◌, [], refl, arith}
-use Rattle.slab.specs.Slab.{slab_len}
+use Rattle.sts_records.specs.Places.{filled}
 use Rattle.sts_records.proofs.Slots.{no_entries}
 use Rattle.sts_records.proofs.held.Held.with_room.Goals as goal
 
@@ -10,5 +10,5 @@ invariant_of-result g c =
     let room = c.in_ok-reserve_exact.ensures.room in
     let keys = c.new.ensures in
     let pages = c.in_ok-pages.ensures in
-    let total : slab_len c.reserve_exact.new.self + c.args.room ≡ c.args.room = rw none (omega arith) in
+    let total : filled c.reserve_exact.new.self + c.args.room ≡ c.args.room = rw none (omega arith) in
     (room, omega (arith, total), omega (arith, capacity), rw keys refl, omega arith, rw (none, keys) (λ key b is. absurd (let no = is in cc)), no_entries c.in_ok-pages.pages c.reserve_exact.new.self.slots none pages.keys, rw total pages.room)
