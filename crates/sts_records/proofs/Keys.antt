@@ -2,7 +2,7 @@
 use Rattle.std.proofs.Common.{◌≡◌, ◌≢◌, ℕ, zero, suc, ◌+◌, ◌<◌, ◌≤◌, ◌^◌, List, [], ◌∷◌, ◌++◌, length, map}
 use Rattle.std.proofs.Common.{Option, Some, None, refl, sym, ◌∙◌, ap, arith, get_or, set, nat_eq, subst}
 use Rattle.std.proofs.Common.{Bool, true, false, nat_lt, length-set, get_or-set_same, slice_get}
-use Rattle.std.proofs.Common.{get_or-set_other, length-append, cond, count_by, is_some, append-nil}
+use Rattle.std.proofs.Common.{get_or-set_other, cond, count_by, is_some}
 use Rattle.std.proofs.Math.Seq.{get_or-append_seam}
 use Rattle.std.proofs.lemmas.Bool.Decides.{nat_tests}
 use Rattle.std.proofs.lemmas.List.{get_or-map, get_or_append_left, get_or_past, length-map, length_push}
@@ -10,7 +10,7 @@ use Rattle.std.proofs.lemmas.List.Sums.{sum_by-set, sum_by_push}
 use Rattle.std.proofs.lemmas.Option.{get_or_from_slice_get, slice_get_within}
 use Rattle.sts_records.specs.Cells.{AreVacant, IsSound, entry_of, entry_with}
 use Rattle.sts_records.specs.PlaceLends.{with_body}
-use Rattle.sts_records.specs.Places.{Entry, Places, Updates}
+use Rattle.sts_records.specs.Places.{Entry, Updates}
 use Rattle.sts_records.specs.Slots.{birth_of, body_of}
 use Rattle.sts_records.specs.declared.places.Cell.{Cell}
 use Rattle.sts_records.proofs.Cells.{as_many, inside_of}
@@ -124,9 +124,10 @@ module _ {T : Type 0} where
   pub popped : (slots : List (Option (Entry T))) (keys : List ℕ) (key : ℕ) → AreVacant slots (keys ++ key ∷ []) → (key < length slots) × (get_or slots key None ≡ None)
   popped slots keys key v =
       let long = length_push keys key in
-      let less : length keys < length (keys ++ key ∷ []) = omega (arith, long) in
-      (subst (λ (k : ℕ). k < length slots) (last_of keys key) (v.inside (length keys) less),
-       subst (λ (k : ℕ). get_or slots k None ≡ None) (last_of keys key) (v.vacant (length keys) less))
+      let less : length keys < length (keys ++ key ∷ []) = omega (arith, long) in (
+        subst (λ (k : ℕ). k < length slots) (last_of keys key) (v.inside (length keys) less),
+        subst (λ (k : ℕ). get_or slots k None ≡ None) (last_of keys key) (v.vacant (length keys) less),
+      )
 
   -- the last vacant key, where all is sound
   pub vacant_of : (slots : List (Option (Entry T))) (old keys : List ℕ) (key cells room : ℕ) → old ≡ keys ++ key ∷ [] → IsSound slots old cells room → (key < length slots) × (get_or slots key None ≡ None)

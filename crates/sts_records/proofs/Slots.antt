@@ -251,6 +251,31 @@ module _ {T : Type 0} where
       let same : Some e.birth ≡ Some birth = sym (ap birth_of is) ∙ at in
       ne cc
 
+  -- what a look-up of a birth finds, by its key
+  pub looked_up : (keys : List ℕ) (entries : List (Option (Entry T))) (birth key : ℕ) → AreGiven keys (births entries) → ((k : ℕ) → births entries k ≡ Some birth → key ≡ k) → body_of birth (get_or entries key None) ≡ get_or (slots 0 keys entries) birth None
+  looked_up keys entries birth key given leads = by (get_or entries key None) refl
+    where
+      by : (o : Option (Entry T)) → get_or entries key None ≡ o → body_of birth o ≡ get_or (slots 0 keys entries) birth None
+      by None q = sym (not_found keys entries birth key leads (none_of entries key birth q))
+      by (Some e) q = own (nat_eq e.birth birth) refl
+        where
+          own : (t : Bool) → nat_eq e.birth birth ≡ t → body_of birth (Some e) ≡ get_or (slots 0 keys entries) birth None
+          own true r =
+              let s : e.birth ≡ birth = grind (arith, nat_tests) in
+              rw r (sym (found keys entries birth key e given q s))
+          own false r =
+              let s : e.birth ≢ birth = grind (arith, nat_tests) in
+              rw r (sym (not_found keys entries birth key leads (other_of entries key birth e q s)))
+
+  -- the record at a key
+  pub at_key : (entries : List (Option (Entry T))) (key k : ℕ) (e : Entry T) → key ≡ k → get_or entries k None ≡ Some e → get_or entries key None ≡ Some e
+  at_key entries key k e same is = ap (λ (n : ℕ). get_or entries n None) same ∙ is
+
+  pub is_at_key : (entries : List (Option (Entry T))) (key k : ℕ) (e : Entry T) → key ≡ k → get_or entries k None ≡ Some e → get_or entries key None ≢ None
+  is_at_key entries key k e same is none =
+      let no : Some e ≡ None = sym (at_key entries key k e same is) ∙ none in
+      cc
+
   -- an entry that is written over keeps its birth
   rewritten_births : (entries : List (Option (Entry T))) (k : ℕ) (e : Entry T) (x : T) → get_or entries k None ≡ Some e → k < length entries → (j : ℕ) → births (set entries k (Some (record { birth = e.birth; body = x }))) j ≡ births entries j
   rewritten_births entries k e x is inside j = by (nat_eq j k) refl

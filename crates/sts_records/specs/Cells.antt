@@ -1,5 +1,5 @@
 -- How places for records lie in cells. No public clause cites this module (this project's own).
-use Rattle.std.specs.Prelude.{◌≡◌, ◌≢◌, ◌+◌, ◌<◌, ◌≤◌, ◌^◌, ℕ, List, length, Option, Some, None}
+use Rattle.std.specs.Prelude.{◌≡◌, ◌≢◌, ◌+◌, ◌<◌, ◌^◌, ℕ, List, length, Option, Some, None}
 use Rattle.std.specs.Prelude.{is_some, count_by, slice_index_or}
 use Rattle.sts_records.specs.Places.{Entry}
 use Rattle.sts_records.specs.declared.places.Cell.{Cell}

@@ -1,4 +1,5 @@
--- The records at keys after a `&mut` to one of them was returned and has ended (this project's own).
+-- The records at keys after a `&mut` to one of them was returned and has ended (this project's
+-- own).
 use Rattle.std.specs.Prelude.{ℕ, Option, Some, None, slice_set}
 use Rattle.std.specs.Borrow.{Lends, Fml, RattleType, MutBor}
 use Rattle.sts_records.specs.Places.{Entry, Places, get}

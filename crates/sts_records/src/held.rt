@@ -1,8 +1,8 @@
 //! Records found by birth, until they are discarded.
 
 ghost use Rattle.std.specs.Prelude.{◌≡◌, ◌≢◌, ◌+◌, ◌-◌, ◌<◌, ◌≤◌, ◌++◌, [], ◌∷◌, ℕ, length};
-ghost use Rattle.std.specs.Prelude.{Option, Some, None, IfOk, slice_index_or, slice_set, true, false};
-ghost use Rattle.std.specs.Prelude.{option_copied};
+ghost use Rattle.std.specs.Prelude.{Option, Some, None, IfOk, slice_index_or, slice_set};
+ghost use Rattle.std.specs.Prelude.{true, false, option_copied};
 ghost use Rattle.std.specs.Borrow.{sem};
 ghost use Rattle.sts_records.specs.Holes.{key_at};
 ghost use Rattle.sts_records.specs.Lends.{lends_slot};

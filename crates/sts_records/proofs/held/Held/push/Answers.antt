@@ -19,17 +19,17 @@ pub turn-requires-clause-keys : goal.turn-requires-clause-keys
 turn-requires-clause-keys g c =
     let keys = c.self.inside.given.keys in
     let places = c.self.inside.places in
-    let after = c.insert_reserved.new.self in
+    let after = c.insert-key.new.self in
     let i = c.self.invariant in
-    let e = c.insert_reserved.ensures in
-    same_latest c.put.new.self c.self.inside.born (births after.slots) (c.put.ensures.keys (births places.slots) (births after.slots) i.5 (comes keys places after c.insert_reserved.result c.self.inside.born c.args.body i.2 i.4 e.was_vacant e.updates))
+    let e = c.insert-key.ensures in
+    same_latest c.put.new.self c.self.inside.born (births after.slots) (c.put.ensures.keys (births places.slots) (births after.slots) i.5 (comes keys places after c.insert-key.result c.self.inside.born c.args.body i.2 i.4 e.was_vacant e.updates))
 
 pub turn-requires-clause-room : goal.turn-requires-clause-room
 turn-requires-clause-room g c =
     let some = rw (← c.self.view_is) at c.requires.room in
     let places = c.self.inside.places in
-    let after = c.insert_reserved.new.self in
-    let len = c.insert_reserved.ensures.len in
+    let after = c.insert-key.new.self in
+    let len = c.insert-key.ensures.filled in
     has_pages c.self.inside.pages c.put.new.self (filled after) (filled places + c.self.inside.room) c.put.ensures.pages (omega (arith, len, some)) c.self.invariant.6
 
 pub invariant_of-self : goal.invariant_of-self
@@ -38,14 +38,13 @@ invariant_of-self g c =
     let some = rw (← c.self.view_is) at c.requires.room in
     let keys = c.self.inside.given.keys in
     let places = c.self.inside.places in
-    let after = c.insert_reserved.new.self in
-    let key = c.insert_reserved.result in
+    let after = c.insert-key.new.self in
+    let key = c.insert-key.result in
     let n = length-slots 0 keys places.slots in
     let i = c.self.invariant in
     let last = i.2 in
-    let small = i.2 in
-    let e = c.insert_reserved.ensures in
-    let len = e.len in
+    let e = c.insert-key.ensures in
+    let len = e.filled in
     let cap = e.capacity in
     let long = length-append keys (key ∷ []) in
     let more = c.and-self-inside.ensures in
@@ -54,7 +53,6 @@ invariant_of-self g c =
     let total : filled after + (c.self.inside.room - 1) ≡ filled places + c.self.inside.room = omega (arith, len, some) in (
       omega (arith, len, cap, some),
       omega (arith, len, some),
-      omega (arith, cap, small),
       (rw more (omega (arith, last, long))),
       omega (arith, last, n, few),
       (rw more (given_pushed keys (births places.slots) (births after.slots) key c.self.inside.born last came i.4)),
@@ -67,6 +65,6 @@ returns-clause-birth g c = rw (← c.self.view_is) (c.self.invariant.2 ∙ sym (
 
 pub returns-clause-slots : goal.returns-clause-slots
 returns-clause-slots g c =
-    let e = c.insert_reserved.ensures in
-    let b = born c.self.inside.given.keys c.self.inside.places.slots c.insert_reserved.new.self.slots c.insert_reserved.result c.args.body e.was_vacant (rw c.self.invariant.2 at e.updates.changed) e.updates.others in
+    let e = c.insert-key.ensures in
+    let b = born c.self.inside.given.keys c.self.inside.places.slots c.insert-key.new.self.slots c.insert-key.result c.args.body e.was_vacant (rw c.self.invariant.2 at e.updates.changed) e.updates.others in
     rw (← c.self.view_is, c.and-self-inside.ensures, b) refl

@@ -29,7 +29,6 @@ invariant_of-self g c =
     let long = length-append keys (0 ∷ []) in (
       i.0,
       i.1,
-      i.2,
       (rw more (omega (arith, last, long))),
       omega (arith, last, few, n),
       (rw more (given_more keys (births places.slots) 0 i.4)),

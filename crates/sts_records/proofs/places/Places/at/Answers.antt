@@ -1,8 +1,6 @@
-use Rattle.std.proofs.Common.{◌≡◌, ◌<◌, ℕ, Option, Some, None, ap, arith, get_or, length, map, refl, set, sym, ◌∙◌}
+use Rattle.std.proofs.Common.{map, refl, sym, ◌∙◌}
 use Rattle.std.proofs.lemmas.List.{map-set}
-use Rattle.sts_records.specs.Cells.{entry_of, entry_with}
-use Rattle.sts_records.specs.Places.{Entry, Places}
-use Rattle.sts_records.specs.PlaceLends.{with_body}
+use Rattle.sts_records.specs.Cells.{entry_of}
 use Rattle.sts_records.proofs.Keys.{entry_is, inside_cells, read, some_entry, sound_rewrite, with_other}
 use Rattle.sts_records.proofs.places.Places.at.Goals as goal
 

@@ -1,4 +1,4 @@
-use Rattle.std.proofs.Common.{◌≡◌, ℕ, Option, Some, None, arith, ap, get_or, map, refl, rules, sym, ◌∙◌}
+use Rattle.std.proofs.Common.{None, get_or, map}
 use Rattle.std.proofs.lemmas.List.{map-set}
 use Rattle.sts_records.specs.Cells.{entry_of}
 use Rattle.sts_records.proofs.Cells.{inside_of}

@@ -1,7 +1,7 @@
-use Rattle.std.proofs.Common.{ℕ, Some, map}
+use Rattle.std.proofs.Common.{Some, map}
 use Rattle.std.proofs.lemmas.List.{map-set}
 use Rattle.sts_records.specs.Cells.{entry_of}
-use Rattle.sts_records.proofs.Keys.{one_more_filled, popped, sound_fill, updates_set, vacant_of}
+use Rattle.sts_records.proofs.Keys.{one_more_filled, sound_fill, updates_set, vacant_of}
 use Rattle.sts_records.proofs.places.Places.insert.Goals as goal
 
 pub invariant_of-self : goal.invariant_of-self
