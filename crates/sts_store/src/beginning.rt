@@ -1,8 +1,7 @@
 //! The own state of a new subtask, written over that of an ended task where there is one.
 
-ghost use Rattle.std.specs.Prelude.{◌≡◌, ◌<◌, ◌≤◌, ◌+◌, ◌-◌, ◌++◌, ◌∷◌, [], length, reverse, take};
-ghost use Rattle.std.specs.Prelude.{Some};
-ghost use Rattle.sts_code.specs.declared.limits.TheConstants.{LAST_SLOT, MAX_BIRTHS};
+ghost use Rattle.std.specs.Prelude.{◌≡◌, ◌<◌, ◌-◌, ◌++◌, ◌∷◌, [], length, Some};
+ghost use Rattle.sts_code.specs.declared.limits.TheConstants.{MAX_BIRTHS};
 ghost use Rattle.sts_model.specs.World as def;
 
 use crate::running::Running;
@@ -10,19 +9,6 @@ use sts_env::Env;
 use sts_frames::root_frame;
 use sts_model::{Frame, Slot};
 use sts_records::Held;
-
-/// The arguments, and zeros after them.
-#[inline(always)]
-pub(crate) fn entry_locals(args: usize, forker: &Frame) -> [i64; 16]
-    requires few { args ≤ LAST_SLOT + 1 }
-    requires enough { args ≤ length forker.now.operands }
-    ensures { result ≡ def.entry_locals (reverse (take args forker.now.operands)) }
-{
-    let mut locals = [0i64; 16];
-    let operands = forker.operands.as_slice();
-    locals[..args].copy_from_slice(&operands[operands.len() - args..]);
-    locals
-}
 
 /// A frame at place 0, with these locals, and this slot 0.
 fn first_frame(function: u32, locals: [i64; 16], slot: Slot) -> Frame
@@ -49,7 +35,7 @@ fn begin_over(frame: &mut Frame, function: u32, locals: [i64; 16], slot: Slot)
     frame.slots[0] = slot;
 }
 
-/// Gives the next birth the frame at place 0, with these locals and this slot 0.
+/// Gives the next birth the frame at place 0, with these locals, this slot 0 and this environment.
 #[inline(always)]
 pub(crate) fn begin(
     frames: &mut Held<Running>,
