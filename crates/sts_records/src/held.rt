@@ -152,7 +152,7 @@ impl<T: Drop> Held<T> {
         let key = self.places.insert(self.born, body);
         self.pages.put(birth, key);
         self.given = self.given.and(&key);
-        self.born += 1;
+        self.born = birth as u32 + 1;
         self.room -= 1;
         self.pages.turn(birth + 1, &self.places);
         birth
@@ -176,7 +176,7 @@ impl<T: Drop> Held<T> {
         };
         self.pages.put(birth, key);
         self.given = self.given.and(&key);
-        self.born += 1;
+        self.born = birth as u32 + 1;
         self.room -= 1;
         self.pages.turn(birth + 1, &self.places);
         true

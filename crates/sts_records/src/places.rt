@@ -121,18 +121,19 @@ impl<T: Drop> Places<T> {
         ensures filled { filled self.new ≡ filled self.old + 1 }
         ensures capacity { self.new.capacity ≡ self.old.capacity }
     {
-        let cell = Cell {
-            birth: Some(birth),
-            body,
-        };
         match self.vacant.pop() {
             Some(key) => {
-                self.cells[key as usize] = cell;
+                let cell = &mut self.cells[key as usize];
+                cell.birth = Some(birth);
+                cell.body = body;
                 key
             }
             None => {
                 let key = self.cells.len() as u32;
-                self.cells.push_reserved(cell);
+                self.cells.push_reserved(Cell {
+                    birth: Some(birth),
+                    body,
+                });
                 key
             }
         }
