@@ -135,7 +135,7 @@ module _ {T : Type 0} where
           rw (s, is, was, body_other i birth x ne) (rw r refl)
       by i ne false q = let s : get_or keys i 0 ≢ get_or keys birth 0 = grind (arith, nat_tests) in rw (others (get_or keys i 0) s) refl
 
-  -- the entry of one birth is taken out
+  -- the entry of one birth is discarded
   pub emptied : (keys : List ℕ) (old new : List (Option (Entry T))) (birth : ℕ) (e : Entry T) → birth < length keys → get_or old (get_or keys birth 0) None ≡ Some e → e.birth ≡ birth → get_or new (get_or keys birth 0) None ≡ None → ((j : ℕ) → j ≢ get_or keys birth 0 → get_or new j None ≡ get_or old j None) → slots 0 keys new ≡ set (slots 0 keys old) birth None
   emptied keys old new birth e less was own is others =
       written keys old new birth None less (rw is refl)
