@@ -1,24 +1,22 @@
-use Rattle.std.proofs.Common.{None, get_or, map}
-use Rattle.std.proofs.lemmas.List.{map-set}
-use Rattle.sts_records.specs.Cells.{entry_of}
-use Rattle.sts_records.proofs.Cells.{inside_of}
-use Rattle.sts_records.proofs.Keys.{one_less_filled, some_entry, sound_leave, updates_set}
+use Rattle.std.proofs.Common.{None, get_or, refl}
+use Rattle.sts_records.proofs.Bodies.{as_births, changed, sound_go, there}
 use Rattle.sts_records.proofs.places.Places.discard.Goals as goal
 
-pub invariant_of-self : goal.invariant_of-self
-invariant_of-self g c =
-    let cells = c.self.inside.cells.items in
-    let e = some_entry (get_or (map entry_of cells) c.args.key None) (rw (← c.self.view_is) at c.requires) in
-    rw (map-set, c.push_reserved.ensures.items, c.push_reserved.ensures.capacity) (sound_leave (map entry_of cells) c.self.inside.vacant.items c.args.key _ _ e.0 e.1 c.self.invariant)
+pub remove-requires : goal.remove-requires
+remove-requires g c =
+    let e = there c.self.inside.births.slots c.self.inside.bodies.items c.args.key (rw (← c.self.view_is) at c.requires) in
+    rw e.1 refl
 
 pub returns-clause-updates : goal.returns-clause-updates
 returns-clause-updates g c =
-    let cells = c.self.inside.cells.items in
-    let e = some_entry (get_or (map entry_of cells) c.args.key None) (rw (← c.self.view_is) at c.requires) in
-    rw (← c.self.view_is, map-set, c.push_reserved.ensures.capacity) (updates_set (map entry_of cells) c.args.key _ None (inside_of (map entry_of cells) c.args.key e.0 e.1))
+    let bodies = c.self.inside.bodies.items in
+    rw (← c.self.view_is, c.remove.ensures.capacity) (changed c.self.inside.births c.remove.new.self bodies bodies c.args.key c.self.inside.births.capacity None (get_or bodies c.args.key None) c.remove.ensures.updates refl (λ other ne. refl))
 
 pub returns-clause-filled : goal.returns-clause-filled
 returns-clause-filled g c =
-    let cells = c.self.inside.cells.items in
-    let e = some_entry (get_or (map entry_of cells) c.args.key None) (rw (← c.self.view_is) at c.requires) in
-    rw (← c.self.view_is, map-set) (one_less_filled (map entry_of cells) c.args.key e.0 e.1 (inside_of (map entry_of cells) c.args.key e.0 e.1))
+    let births = c.self.inside.births in
+    let bodies = c.self.inside.bodies.items in
+    let after = c.remove.new.self in
+    let old = as_births births bodies _ c.self.invariant in
+    let new = as_births after bodies _ (sound_go births after bodies c.args.key _ c.remove.ensures.updates c.remove.ensures.capacity c.self.invariant) in
+    rw (← c.self.view_is, old, new) c.remove.ensures.len
