@@ -13,6 +13,9 @@ use slab::Slab;
 use std::alloc::{AllocError, Global};
 use std::marker::Model;
 
+/// How many keys of 32 bits there are. That is more than any room has.
+const KEYS: usize = 4_294_967_296;
+
 /// Records with their births, at keys. Contracts see a list by key, with a hole for each key
 /// without a record.
 #[derive(Drop)]
@@ -67,14 +70,15 @@ impl<T: Drop> Places<T> {
     ///
     /// Memory ran out.
     pub(crate) fn with_room(alloc: Global, room: u32) -> Result<Places<T>, AllocError>
-        ensures { IfOk result (λ p. p ≡ record { slots = []; capacity = room }) }
+        ensures slots { IfOk result (λ p. p.slots ≡ []) }
+        ensures capacity { IfOk result (λ p. room ≤ p.capacity) }
     {
         let births = Slab::with_capacity(alloc, room as usize)?;
-        // (a slab takes room for as many as it is asked for, but no contract says so)
-        if births.capacity() != room as usize {
+        // (a slab reserves no more than it is asked for, but no contract says so)
+        if births.capacity() >= KEYS {
             return Err(AllocError);
         }
-        let bodies = Vec::with_capacity(alloc, room as usize)?;
+        let bodies = Vec::with_capacity(alloc, births.capacity())?;
         Ok(Places { births, bodies })
     }
 

@@ -1,13 +1,12 @@
-use Rattle.std.proofs.Common.{◌≡◌, ◌+◌, refl, arith, ap}
+use Rattle.std.proofs.Common.{◌≡◌, ◌+◌, refl, arith}
 use Rattle.sts_records.specs.Places.{filled}
 use Rattle.sts_records.proofs.Slots.{no_entries}
 use Rattle.sts_records.proofs.held.Held.with_room.Goals as goal
 
 pub invariant_of-result : goal.invariant_of-result
 invariant_of-result g c =
-    let is = c.in_ok-places.ensures in
-    let none = ap (λ p. p.slots) is in
-    let capacity = ap (λ p. p.capacity) is in
+    let none = c.in_ok-places.ensures.slots in
+    let capacity = c.in_ok-places.ensures.capacity in
     let keys = c.new.ensures in
     let pages = c.in_ok-pages.ensures in
     let total : filled c.in_ok-places.places + c.args.room ≡ c.args.room = rw none (omega arith) in
