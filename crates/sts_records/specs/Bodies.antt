@@ -1,5 +1,5 @@
--- How records lie at keys: their births in a slab, and their bodies beside it. No public clause
--- cites this module (this project's own).
+-- How records lie at keys: their births in a slab, and their bodies in a list by its keys. No public
+-- clause cites this module (this project's own).
 use Rattle.std.specs.Prelude.{◌≡◌, ◌≢◌, ◌<◌, ◌^◌, ℕ, suc, List, [], ◌∷◌, Option, Some, None}
 use Rattle.std.specs.Prelude.{slice_index_or}
 use Rattle.slab.specs.Slab.{Slab}

@@ -35,7 +35,7 @@ module _ {T : Type 0} where
   abbrev pub filled : Places T → ℕ
   filled p = count_by is_some p.slots
 
-  -- so many more records fit
+  -- this number of records more fit
   abbrev pub HasRoomFor : Places T → ℕ → Type 0
   HasRoomFor p more = filled p + more ≤ p.capacity
 

@@ -55,7 +55,7 @@ set_last (x ∷ xs) old new = ap (λ l. x ∷ l) (set_last xs old new)
 abbrev pub with_subtask : Forest Env → ℕ → Bool → List ℕ → ℕ → Forest Env
 with_subtask f s lives keys room = record f { tasks = f.tasks ++ Some (subtask s lives) ∷ []; task_keys = keys; task_room = room }
 
--- what a subtask has at place 0, with these locals, this slot 0 and this environment
+-- the own state of a subtask at place 0, with these locals, this slot 0 and this environment
 abbrev pub begun : ℕ → List ℤ → Slot → Env → Running
 begun function locals slot env = record { frame = record (entry_frame function [] slot) { locals = locals }; env = env }
 
