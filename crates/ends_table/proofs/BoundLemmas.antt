@@ -1,6 +1,6 @@
 -- The test passes each scope that has a pick that fits.
-use Rattle.std.proofs.Common.{◌≡◌, ℕ, ◌+◌, ◌<◌, ◌≤◌, List, [], ◌∷◌, Bool, true, false, Option, Some, None}
-use Rattle.std.proofs.Common.{refl, sym, ◌∙◌, ap, subst, arith, cond, inl, inr, ◌&&◌, ◌||◌, sum_by}
+use Rattle.std.proofs.Common.{◌≡◌, ℕ, ◌<◌, ◌≤◌, List, [], ◌∷◌, Bool, true, false, Option, Some, None}
+use Rattle.std.proofs.Common.{refl, sym, ◌∙◌, ap, subst, arith, cond, inl, inr, ◌&&◌, ◌||◌}
 use Rattle.std.specs.Prelude.{count_by, nat_le, nat_lt}
 use Rattle.std.specs.List.{list_any, list_all}
 use Rattle.std.proofs.lemmas.Bool.Decides.{nat_tests}
@@ -9,7 +9,7 @@ use Rattle.sts_code.specs.declared.instr.Joiner.{Joiner}
 use Rattle.sts_model.specs.declared.event.End.{End}
 use Rattle.sts_model.specs.declared.event.Phase.{Phase}
 use Rattle.sts_model.specs.declared.event.Phase.TheVariants.{Opened, Attempted, Joined, Closing, Closed}
-use Rattle.laws_calls.specs.Tasks.{AllTwo, May, Picks, HasWay}
+use Rattle.laws_calls.specs.Tasks.{May, Picks, HasWay}
 use Rattle.laws_calls.specs.declared.table.Way.{Way}
 use Rattle.laws_calls.specs.declared.table.Part.{Part}
 use Rattle.laws_calls.specs.declared.table.Seen.{Seen}

@@ -1,9 +1,10 @@
 -- Places, ways and elements of lists.
-use Rattle.std.proofs.Common.{◌≡◌, ℕ, zero, suc, ◌+◌, ◌<◌, ◌≤◌, List, [], ◌∷◌, ◌++◌, Bool, true, false, Some}
-use Rattle.std.proofs.Common.{refl, sym, ◌∙◌, ap, subst, arith, length, get_or, set, cond, take, drop, inl, inr}
+use Rattle.std.proofs.Common.{◌≡◌, ℕ, zero, suc, ◌+◌, ◌<◌, ◌≤◌, List, [], ◌∷◌, Bool, true, false, Some}
+use Rattle.std.proofs.Common.{refl, sym, ◌∙◌, ap, subst, arith, length, get_or, set, cond, inl, inr}
 use Rattle.std.specs.Prelude.{◌==◌, nat_eq, slice_get, All}
 use Rattle.std.proofs.lemmas.Bool.Decides.{nat_tests}
-use Rattle.std.proofs.lemmas.List.Elements.{All-head, All-tail}
+use Rattle.std.specs.List.{AllWithin}
+use Rattle.std.proofs.lemmas.List.Elements.{All-head, All-tail, All-from_all_within, AllWithin-upto}
 use Rattle.sts_model.specs.declared.event.End.{End}
 use Rattle.laws_calls.specs.Tasks.{Among, at_place, put_place, HasWay}
 use Rattle.laws_calls.specs.declared.table.Way.{Way}
@@ -103,3 +104,9 @@ pub way_in : (ways : List Way) (i : ℕ) (d : Way) (e : End) → i < length ways
 way_in [] i d e less same = absurd (omega (arith, less))
 way_in (y ∷ ys) zero d e less same = inl same
 way_in (y ∷ ys) (suc i) d e less same = inr (way_in ys i d e (omega (arith, less)) same)
+
+-- what holds of each way of a slice that has the list
+pub each_way : (P : End → Type 0) (items ways : List Way) (i : ℕ) → items ≡ ways → length items ≤ i → AllWithin (λ (way : Way). P way.end) items 0 i → (e : End) → HasWay ways e → P e
+each_way P items ways i same done all e way =
+    let whole = All-from_all_within (λ (w : Way). P w.end) items (AllWithin-upto (λ (w : Way). P w.end) items 0 i (length items) done all) in
+    all_ways P items e whole (subst (λ ws. HasWay ws e) (sym same) way)

@@ -1,20 +1,18 @@
 -- The states to which each instruction leads.
-use Rattle.std.proofs.Common.{◌≡◌, ℕ, ◌+◌, ℤ, pos, List, [], ◌∷◌, Bool, true, false, Option, Some, None}
-use Rattle.std.proofs.Common.{refl, sym, ◌∙◌, subst, is_some, inl, inr, length}
+use Rattle.std.proofs.Common.{◌≡◌, ℕ, pos, List, [], ◌∷◌, Bool, true, false, Option, Some}
+use Rattle.std.proofs.Common.{refl, sym, ◌∙◌, subst, is_some}
 use Rattle.std.specs.Prelude.{unwrap_or, slice_get, drop, slice_set}
 use Rattle.sts_code.specs.Program.{Program}
 use Rattle.sts_code.specs.declared.instr.Instr.{Instr}
 use Rattle.sts_code.specs.declared.instr.Instr.TheVariants.{Open, Fork, Join, Close, Cancelled}
-use Rattle.sts_code.specs.declared.instr.Instr.TheVariants.{Case, Get, Except, Tally, Total, Forget}
+use Rattle.sts_code.specs.declared.instr.Instr.TheVariants.{Case, Get, Except, Forget}
 use Rattle.sts_code.specs.declared.instr.Instr.TheVariants.{Bind, Unbind, Read, Bound, OrElse}
 use Rattle.sts_code.specs.declared.instr.Instr.TheVariants.{Interrupted, Ret, Fail}
 use Rattle.sts_code.specs.declared.instr.Joiner.{Joiner}
-use Rattle.sts_model.specs.declared.event.End.{End}
 use Rattle.sts_model.specs.declared.event.End.TheVariants.{Success, Failed}
 use Rattle.sts_model.specs.declared.record.Entry.TheVariants as entry
-use Rattle.sts_model.specs.declared.record.Frame.{Frame}
 use Rattle.sts_model.specs.World.{code}
-use Rattle.sts_model.specs.Local.{is_local, local, operand, goes, steps, truth}
+use Rattle.sts_model.specs.Local.{is_local, local, operand, steps, truth}
 use Rattle.sts_model.specs.Environment.{read}
 use Rattle.laws_calls.specs.declared.table.Held.TheVariants as held
 use Rattle.laws_calls.specs.Tasks.{at_place, held_at, bindings}
@@ -22,7 +20,7 @@ use Rattle.laws_calls.specs.declared.table.Call.{Call}
 use Rattle.laws_calls.specs.declared.table.Own.{Own}
 use Rattle.laws_calls.specs.declared.table.Seen.{Seen}
 use Rattle.laws_calls.specs.declared.table.Part.{Part}
-use Rattle.laws_calls.specs.Steps.{Table, Steps, Leads, Owns, Knows, MayEnd, to, pushes, opened, closed}
+use Rattle.laws_calls.specs.Steps.{Table, Leads, Owns, Knows, to, pushes, opened, closed}
 use Rattle.laws_calls.specs.Steps.{local_step, read_step, bound_step, or_else_step, bind_step}
 use Rattle.laws_calls.specs.Steps.{unbind_step, forget_step, interrupted_step, lent_step}
 use Rattle.laws_calls.specs.Steps.{going_step, cancelled_step, expired_step, open_step}
@@ -30,13 +28,9 @@ use Rattle.laws_calls.specs.Steps.{unstarted_step, close_step, timeout_step, by_
 use Rattle.laws_calls.specs.Steps.{by_count_step, heard_step, none_step, success_step}
 use Rattle.laws_calls.specs.Steps.{failure_step, missed_step, get_step, except_step}
 use Rattle.laws_calls.specs.Steps.{tally_step, total_step}
-use Rattle.laws_calls.specs.Steps.{is_cancelled, may_decide, may_be_late, is_heard, is_by_one}
-use Rattle.laws_calls.specs.Steps.{is_until, is_any, with_seen, after_cancel, after_expiry}
-use Rattle.laws_calls.specs.Steps.{timed_out, joined, after_all, with_part, missed}
-use Rattle.laws_calls.specs.Triggers.{is_trigger}
-use Rattle.sts_model.specs.Joining.{is_failure, result_of}
+use Rattle.laws_calls.specs.Steps.{is_cancelled, may_decide, may_be_late}
+use Rattle.laws_calls.specs.Steps.{with_seen, after_cancel, after_expiry}
 use Rattle.ends_table.specs.Led.{AllLead, LooksLead, JoinsLead, CasesLead, ReadsLead, ForkLeads}
-use Rattle.ends_table.specs.Led.{OneLeads, FirstLeads, KindLeads}
 
 module _ (p : Program) (c : Call) (states : List Own) (own : Own) where
   -- ---- what a slot holds

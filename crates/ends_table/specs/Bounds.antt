@@ -1,6 +1,6 @@
 -- A test that passes each scope that has a pick that fits (this project's own). It asks only how
 -- many ends may count towards a cancel, and whether each part has a state that is possible.
-use Rattle.std.specs.Prelude.{ℕ, List, [], ◌∷◌, Bool, true, false, count_by, nat_le, nat_lt, not}
+use Rattle.std.specs.Prelude.{ℕ, List, [], ◌∷◌, Bool, true, false, count_by, nat_le, nat_lt}
 use Rattle.std.specs.Prelude.{◌&&◌, ◌||◌}
 use Rattle.std.specs.List.{list_any, list_all}
 use Rattle.sts_code.specs.declared.instr.Joiner.{Joiner}

@@ -12,7 +12,6 @@ use Rattle.sts_model.specs.Local.{truth, goes}
 use Rattle.sts_model.specs.World.{instr_at}
 use Rattle.laws_calls.specs.declared.table.Held.TheVariants as held
 use Rattle.laws_calls.specs.Tasks.{Among, HasWay, begin}
-use Rattle.laws_calls.specs.declared.table.Way.{Way}
 use Rattle.laws_calls.specs.declared.table.Part.{Part}
 use Rattle.laws_calls.specs.declared.table.Seen.{Seen}
 use Rattle.laws_calls.specs.declared.table.Own.{Own}

@@ -1,13 +1,14 @@
 //! The scoped values of a task.
 
-ghost use Rattle.std.specs.Prelude.{◌≡◌, ◌∷◌, ◌++◌, [], IfOk, OnOk, filter_map};
+ghost use Rattle.std.specs.Prelude.{◌≡◌, ◌∷◌, ◌++◌, [], IfOk, OnOk, filter_map, pos, is_some};
+ghost use Rattle.std.specs.Prelude.{unwrap_or};
 ghost use Rattle.std.specs.Option.{option_to_list};
 ghost use Rattle.laws_calls.specs.Tasks as def;
 ghost use Rattle.sts_model.specs.Environment as scoped;
 ghost use Rattle.sts_model.specs.Local as locals;
 ghost use Rattle.sts_model.specs.declared.record.Entry.TheVariants as entry;
 
-use crate::frames::stepped;
+use crate::frames::{pushed, stepped};
 use crate::stop::Stop;
 use laws_calls::table::{Call, Own};
 use std::alloc::{AllocError, Global};
@@ -48,13 +49,49 @@ pub fn bindings(alloc: Global, call: &Call, own: &Own) -> Result<Items<Bound>, A
 }
 
 /// The value of the first binding of a key.
-pub fn value_of(bindings: &[Bound], key: u8) -> Option<i64>
+fn value_of(bindings: &[Bound], key: u8) -> Option<i64>
     ensures { result ≡ scoped.read bindings.now key }
 {
     bindings
         .iter()
         .find(|bound| bound.key == key)
         .map(|bound| bound.value)
+}
+
+/// The value of a key, if it is bound.
+fn found(alloc: Global, call: &Call, own: &Own, key: u8) -> Result<Option<i64>, AllocError>
+    ensures { IfOk result (λ v. v ≡ scoped.read (def.bindings call.now own.now) key) }
+{
+    let bindings = bindings(alloc, call, own)?;
+    Ok(value_of(bindings.as_slice(), key))
+}
+
+/// The frame after the value of a key was pushed, or 0.
+pub fn after_read(alloc: Global, call: &Call, own: &Own, key: u8) -> Result<Frame, Stop>
+    ensures { IfOk result (λ f. f ≡ locals.steps own.now.frame 0
+        (unwrap_or (scoped.read (def.bindings call.now own.now) key) (pos 0) ∷ [])) }
+{
+    let value = found(alloc, call, own, key)?.unwrap_or(0);
+    pushed(&own.frame, 0, value)
+}
+
+/// The frame after it was pushed whether a key is bound.
+pub fn after_bound(alloc: Global, call: &Call, own: &Own, key: u8) -> Result<Frame, Stop>
+    ensures { IfOk result (λ f. f ≡ locals.steps own.now.frame 0
+        (locals.truth (is_some (scoped.read (def.bindings call.now own.now) key)) ∷ [])) }
+{
+    let is_bound = found(alloc, call, own, key)?.is_some();
+    pushed(&own.frame, 0, i64::from(is_bound))
+}
+
+/// The frame after the top operand was replaced by the value of a key, if it is bound.
+pub fn after_or_else(alloc: Global, call: &Call, own: &Own, key: u8) -> Result<Frame, Stop>
+    ensures { IfOk result (λ f. f ≡ locals.steps own.now.frame 1 (unwrap_or
+        (scoped.read (def.bindings call.now own.now) key) (locals.operand own.now.frame 0) ∷ [])) }
+{
+    let otherwise = own.frame.operand(0);
+    let value = found(alloc, call, own, key)?.unwrap_or(otherwise);
+    pushed(&own.frame, 1, value)
 }
 
 /// The frame after a key was bound to the top operand.

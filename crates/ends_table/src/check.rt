@@ -128,7 +128,7 @@ fn check_root(alloc: Global, program: &Program, root: &Row) -> Result<(), Stop>
 pub fn check_table(alloc: Global, program: &Program, table: &[Row]) -> Result<(), Stop>
     ensures { OnOk result (led.IsClosed program.now table.now) }
 {
-    let Some(root) = table.first() else {
+    let Some(root) = table.get(0) else {
         return Ok(());
     };
     check_root(alloc, program, root)?;

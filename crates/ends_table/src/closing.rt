@@ -11,6 +11,9 @@ use std::alloc::{AllocError, Global};
 use sts_code::Program;
 use sts_model::{End, Items};
 
+/// The most states of a row. A state is compared with each other one of its row.
+const MOST_OF_ROW: usize = 4_000;
+
 /// A row whose states are not all done. It is at a place of the table.
 #[derive(Clone, Copy)]
 struct Open {
@@ -52,8 +55,11 @@ impl Closing {
     }
 
     /// Adds a state to the row that is worked on.
-    fn add_state(&mut self, at: usize, own: Own) -> Result<(), AllocError> {
+    fn add_state(&mut self, at: usize, own: Own) -> Result<(), Stop> {
         if let Some(row) = self.rows.get_mut(at) {
+            if row.states.as_slice().len() >= MOST_OF_ROW {
+                return Err(Stop::Unknown);
+            }
             row.states.push(own)?;
         }
         self.states = self.states.saturating_add(1);
@@ -113,8 +119,8 @@ impl Closing {
     }
 }
 
-/// The rows of the smallest table that is closed, or that it has more states than `most`, or steps
-/// that can't be listed.
+/// The rows of the smallest table that is closed, or that it has too many states, or steps that
+/// can't be listed.
 fn table_of(alloc: Global, program: &Program, most: usize) -> Result<Vec<Row>, Stop> {
     let mut closing = Closing {
         rows: Vec::new(alloc),
@@ -135,7 +141,7 @@ fn table_of(alloc: Global, program: &Program, most: usize) -> Result<Vec<Row>, S
 }
 
 /// A table of a program that is closed. Its first row is the root's. `None` if it has more than
-/// `most` states, or if some instruction's steps can't be listed.
+/// `most` states, or a row has more than 4,000, or if some instruction's steps can't be listed.
 ///
 /// # Errors
 ///

@@ -1,7 +1,7 @@
 //! The states after a `join`.
 
 ghost use Rattle.std.specs.Prelude.{◌≡◌, ◌<◌, ℕ, [], ◌∷◌, false, true, OnOk, IfOk, length, Some};
-ghost use Rattle.std.specs.Prelude.{slice_get};
+ghost use Rattle.std.specs.Prelude.{unwrap_or};
 ghost use Rattle.ends_table.specs.Led as led;
 ghost use Rattle.laws_calls.specs.Steps as def;
 ghost use Rattle.laws_calls.specs.Tasks.{HasWay};
@@ -24,6 +24,16 @@ use laws_calls::table::{Knowledge, Own, Part, Seen};
 use std::alloc::{AllocError, Global};
 use sts_model::{End, Phase, Verdict};
 use sts_same::copied::copy_items;
+
+/// A place to go to, if one is named.
+pub fn target(to: Option<u32>) -> u32
+    ensures { result ≡ unwrap_or to 0 }
+{
+    match to {
+        Some(place) => place,
+        None => 0,
+    }
+}
 
 /// The scope after all its subtasks ended.
 fn after_all(alloc: Global, seen: &Seen) -> Result<Seen, AllocError>

@@ -7,11 +7,11 @@ ghost use Rattle.laws_calls.specs.declared.table.Held.TheVariants as held;
 ghost use Rattle.sts_code.specs.declared.instr.Instr.TheVariants as instrs;
 ghost use Rattle.sts_model.specs.Local as locals;
 
-use crate::bindings::{bindings, bound, value_of};
+use crate::bindings::{after_bound, after_or_else, after_read, bound};
 use crate::cases::{cases, reads};
 use crate::forks::forks;
 use crate::frames::{after_local, left, pushed, stepped};
-use crate::joins::joins;
+use crate::joins::{joins, target};
 use crate::looks::{looks, not_cancelled};
 use crate::places::{held_at, known, owned, set_held, with_frame};
 use crate::reached::{leads, leads_by};
@@ -45,9 +45,7 @@ impl<'a> Around<'a> {
     fn read(&self, alloc: Global, key: u8) -> Result<(), Stop>
         ensures { OnOk result (led.LeadsOn self.now (instrs.Read key)) }
     {
-        let bindings = bindings(alloc, self.call, self.own)?;
-        let value = value_of(bindings.as_slice(), key).unwrap_or(0);
-        let frame = pushed(&self.own.frame, 0, value)?;
+        let frame = after_read(alloc, self.call, self.own, key)?;
         leads_by(alloc, self.states, self.own, frame)?;
         Ok(())
     }
@@ -55,9 +53,7 @@ impl<'a> Around<'a> {
     fn is_bound(&self, alloc: Global, key: u8) -> Result<(), Stop>
         ensures { OnOk result (led.LeadsOn self.now (instrs.Bound key)) }
     {
-        let bindings = bindings(alloc, self.call, self.own)?;
-        let is_bound = value_of(bindings.as_slice(), key).is_some();
-        let frame = pushed(&self.own.frame, 0, i64::from(is_bound))?;
+        let frame = after_bound(alloc, self.call, self.own, key)?;
         leads_by(alloc, self.states, self.own, frame)?;
         Ok(())
     }
@@ -65,10 +61,7 @@ impl<'a> Around<'a> {
     fn or_else(&self, alloc: Global, key: u8) -> Result<(), Stop>
         ensures { OnOk result (led.LeadsOn self.now (instrs.OrElse key)) }
     {
-        let bindings = bindings(alloc, self.call, self.own)?;
-        let otherwise = self.own.frame.operand(0);
-        let value = value_of(bindings.as_slice(), key).unwrap_or(otherwise);
-        let frame = pushed(&self.own.frame, 1, value)?;
+        let frame = after_or_else(alloc, self.call, self.own, key)?;
         leads_by(alloc, self.states, self.own, frame)?;
         Ok(())
     }
@@ -174,8 +167,8 @@ impl<'a> Around<'a> {
         ensures { OnOk result (led.LeadsOn self.now (instrs.Join slot failed timeout interrupted)) }
     {
         let (place, seen) = owned(self.own, slot)?;
-        let failed = failed.unwrap_or(0);
-        let timeout = timeout.unwrap_or(0);
+        let failed = target(failed);
+        let timeout = target(timeout);
         joins(alloc, self.states, self.own, place, seen, failed, timeout)?;
         Ok(())
     }

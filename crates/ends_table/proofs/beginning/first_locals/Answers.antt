@@ -1,4 +1,4 @@
-use Rattle.std.proofs.Common.{◌≡◌, ◌++◌, List, ℤ, pos, drop, length, replicate, ap, ◌∙◌}
+use Rattle.std.proofs.Common.{◌++◌, List, ℤ, pos, drop, length, replicate, ap, ◌∙◌}
 use Rattle.std.proofs.lemmas.List.{drop-replicate}
 use Rattle.ends_table.proofs.beginning.first_locals.Goals as goal
 

@@ -1,7 +1,7 @@
 use Rattle.std.proofs.Common.{◌≡◌, ℕ, ◌-◌, ◌≤◌, ℤ, List, ◌++◌, length, take, drop, reverse, arith, refl, sym, ◌∙◌, ap}
 use Rattle.std.specs.List.{between}
 use Rattle.std.proofs.Math.Seq.{drop-append_seam}
-use Rattle.std.proofs.lemmas.List.{take-append-drop, reverse-append, reverse-reverse, length-take, length-drop, length-reverse}
+use Rattle.std.proofs.lemmas.List.{take-append-drop, reverse-append, reverse-reverse, length-drop, length-reverse}
 use Rattle.std.proofs.lemmas.Slice.{between_to_end}
 use Rattle.ends_table.proofs.forks.arguments.Goals as goal
 

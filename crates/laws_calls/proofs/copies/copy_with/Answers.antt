@@ -1,4 +1,4 @@
-use Rattle.std.proofs.Common.{◌≡◌, ◌<◌, ◌+◌, ℕ, suc, List, [], ◌∷◌, ◌++◌, length, set, take, drop, ◌∙◌, ap, sym, append_assoc, add-one, rules, arith}
+use Rattle.std.proofs.Common.{◌≡◌, ◌<◌, ◌+◌, ℕ, List, [], ◌∷◌, ◌++◌, length, set, take, drop, ◌∙◌, ap, append_assoc, add-one, rules, arith}
 use Rattle.std.specs.List.{between}
 use Rattle.std.proofs.lemmas.List.{set_split}
 use Rattle.std.proofs.lemmas.Slice.{between_to_end}
