@@ -1,6 +1,6 @@
 -- From the states of the rows to the table.
-use Rattle.std.proofs.Common.{◌≡◌, [], ◌∷◌, Some, get_or, inl, subst, refl}
-use Rattle.std.specs.Prelude.{All, slice_get}
+use Rattle.std.proofs.Common.{◌≡◌, [], ◌∷◌, get_or, inl, subst, refl}
+use Rattle.std.specs.Prelude.{All}
 use Rattle.sts_code.specs.Program.{Program}
 use Rattle.laws_calls.specs.Tasks.{Among}
 use Rattle.laws_calls.specs.declared.table.Own.{Own}
@@ -25,10 +25,3 @@ is_table p t root there is all =
 pub is_closed : (p : Program) (t : Table) (root : Row) → root ≡ get_or t 0 root → IsRoot p root → All (IsLedRow p t) t → IsClosed p t
 is_closed p [] root at is all = tt
 is_closed p (first ∷ rows) root at is all = is_table p (first ∷ rows) first (inl refl) (subst (λ r. IsRoot p r) at is) all
-
--- the row that comes first
-pub first_row : (p : Program) (t : Table) (root : Row) → IsClosed p t → slice_get t 0 ≡ Some root → IsTable p t root
-first_row p [] root closed at = cc
-first_row p (first ∷ rows) root closed at =
-    let same : first ≡ root = cc in
-    subst (λ r. IsTable p (first ∷ rows) r) same closed

@@ -28,7 +28,7 @@ can_be part = part.is_open || has_ways part.ways
 abbrev pub can_count : Joiner → Part → Bool
 can_count j part = list_any (λ (way : Way). is_trigger j way.end) part.ways
 
--- may so many ends count, if they are at least `least` and at most `greatest`?
+-- may the number of ends that count be one from `least` to `greatest`?
 abbrev pub counts_fit : Knowledge → Phase → Joiner → ℕ → ℕ → Bool
 counts_fit Unseen Joined j least greatest = false
 counts_fit ByJoiner Joined j least greatest = nat_le (limit j) greatest && nat_le least (most j)

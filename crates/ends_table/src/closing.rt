@@ -11,8 +11,11 @@ use std::alloc::{AllocError, Global};
 use sts_code::Program;
 use sts_model::{End, Items};
 
-/// The most states of a row. A state is compared with each other one of its row.
+/// The most states of a row. A state is compared with others of its row.
 const MOST_OF_ROW: usize = 4_000;
+
+/// The most work: a look at a state is as much work as the state has parts, times the looks at it.
+const MOST_WORK: usize = 30_000_000;
 
 /// A row whose states are not all done. It is at a place of the table.
 #[derive(Clone, Copy)]
@@ -29,6 +32,18 @@ struct Closing {
     /// The rows whose states are not all done. Each waits for the one behind it.
     open: Vec<Open>,
     states: usize,
+    /// How often the state was looked at that isn't done.
+    looks: usize,
+    work: usize,
+}
+
+/// How many subtasks a state has in its open scopes, and one.
+fn weight(own: &Own) -> usize {
+    let mut parts: usize = 1;
+    for seen in own.scopes.as_slice() {
+        parts = parts.saturating_add(seen.parts.as_slice().len());
+    }
+    parts
 }
 
 impl Closing {
@@ -87,8 +102,26 @@ impl Closing {
         Ok(true)
     }
 
+    /// Counts a look at a state.
+    fn count(&mut self, at: Open) -> Result<(), Stop> {
+        self.looks = self.looks.saturating_add(1);
+        let own = match self.rows.get(at.row) {
+            Some(row) => row.states.as_slice().get(at.done),
+            None => None,
+        };
+        if let Some(own) = own {
+            let work = weight(own).saturating_mul(self.looks);
+            self.work = self.work.saturating_add(work);
+        }
+        if self.work > MOST_WORK {
+            return Err(Stop::Unknown);
+        }
+        Ok(())
+    }
+
     /// One state more is done, or the row is done.
     fn pass(&mut self, is_state: bool) {
+        self.looks = 0;
         if !is_state {
             let _ = self.open.pop();
             return;
@@ -111,6 +144,7 @@ impl Closing {
 
     /// Works on a state of the innermost row that is open.
     fn advance(&mut self, alloc: Global, program: &Program, at: Open) -> Result<(), Stop> {
+        self.count(at)?;
         match self.look(alloc, program, at) {
             Ok(is_state) => self.pass(is_state),
             Err(stop) => self.mend(alloc, at.row, stop)?,
@@ -126,6 +160,8 @@ fn table_of(alloc: Global, program: &Program, most: usize) -> Result<Vec<Row>, S
         rows: Vec::new(alloc),
         open: Vec::new(alloc),
         states: 0,
+        looks: 0,
+        work: 0,
     };
     closing.begin(alloc, root_call(alloc, program)?, Held::Empty)?;
     for _ in 0..u64::MAX {
@@ -141,7 +177,8 @@ fn table_of(alloc: Global, program: &Program, most: usize) -> Result<Vec<Row>, S
 }
 
 /// A table of a program that is closed. Its first row is the root's. `None` if it has more than
-/// `most` states, or a row has more than 4,000, or if some instruction's steps can't be listed.
+/// `most` states, or a row more than 4,000, or if it is too much work, or if some instruction's
+/// steps can't be listed.
 ///
 /// # Errors
 ///

@@ -68,7 +68,7 @@ fn all_can_be(parts: &[Part]) -> bool
     parts.iter().all(|part| can_be(part))
 }
 
-/// May so many ends count, if they are at least `least` and at most `greatest`?
+/// May the number of ends that count be one from `least` to `greatest`?
 fn counts_fit(
     knowledge: Knowledge,
     phase: Phase,

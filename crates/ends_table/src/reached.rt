@@ -12,12 +12,13 @@ use std::alloc::Global;
 use sts_model::Frame;
 use sts_same::same::Same;
 
-/// Is the state among these?
+/// Is the state among these? The last one, which was added last, comes first.
 pub fn is_among(states: &[Own], own: &Own) -> bool
     ensures { result ≡ true → Among states.now own.now }
 {
-    for state in states {
-        if state.same(own) {
+    for i in 0..states.len() {
+        let at = states.len() - 1 - i;
+        if states[at].same(own) {
             return true;
         }
     }

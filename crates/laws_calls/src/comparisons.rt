@@ -49,7 +49,7 @@ fn same_facts(a: &Seen, b: &Seen) -> bool
     a.joiner == b.joiner && a.timed == b.timed && a.phase == b.phase
 }
 
-/// Does the owner know the same of a cancel and of a failure?
+/// Is what the owner knows of a cancel the same, and whether it saw a failure?
 fn same_looks(a: &Seen, b: &Seen) -> bool
     ensures knowledge { result ≡ true → a.now.knowledge ≡ b.now.knowledge }
     ensures has_failure { result ≡ true → a.now.has_failure ≡ b.now.has_failure }
