@@ -112,14 +112,14 @@ fn flaky() -> [Instr; 12] {
     ]
 }
 
-fn fan_out(alloc: Global, joiner: Joiner, count: u32) -> Result<Program, Fail> {
+fn fan_out(alloc: Global, joiner: Joiner, count: u16) -> Result<Program, Fail> {
     let mut main = Vec::new(alloc);
     main.push(open(joiner))?;
     for k in 0..count {
         main.push(Instr::Push(i64::from(k)))?;
         main.push(fork(1))?;
     }
-    main.push(join(2 * count + 4))?;
+    main.push(join(2 * u32::from(count) + 4))?;
     main.push(Instr::Close(0))?;
     main.push(Instr::Ret)?;
     main.push(Instr::Close(0))?;
@@ -131,7 +131,7 @@ fn fan_out(alloc: Global, joiner: Joiner, count: u32) -> Result<Program, Fail> {
     Ok(Program::new(functions)?)
 }
 
-fn ways_of(alloc: Global, joiner: Joiner, count: u32) -> Result<usize, Fail> {
+fn ways_of(alloc: Global, joiner: Joiner, count: u16) -> Result<usize, Fail> {
     let program = fan_out(alloc, joiner, count)?;
     let Some(rows) = closed_table(alloc, &program, 100_000)? else {
         return Ok(0);
