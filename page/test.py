@@ -81,15 +81,15 @@ RACE = (
     "func give 1\nload 0\nret\nend\nfunc main 0\nopen s0 any\npush 5\nfork s0 give _\npush 4\nfork s0 give _\njoin s0 bad - intr\nclose s0\n"
     "ret\nbad:\nclose s0\nfail\nintr:\npush 0\nclose s0\nfail\nend\n"
 )
-# Ten subtasks of four steps have far more states than any search here may keep.
+# Ten subtasks of four steps have far more states than any search here may keep. No table of calls has the steps of `total`.
 MANY_STATES = "func kid 0\npush 1\ninterrupted\nadd\nret\nend\nfunc main 0\nopen s0 all\n" + "fork s0 kid _\n" * 10 + (
-    "join s0 bad - intr\nclose s0\nret\nbad:\nclose s0\nfail\nintr:\npush 0\nclose s0\nfail\nend\n"
+    "join s0 bad - intr\npop\ntotal s0\nclose s0\nret\nbad:\nclose s0\nfail\nintr:\npush 0\nclose s0\nfail\nend\n"
 )
-# (each subtask takes four steps. A search by calls has two states of it, and 14 of `main`: at `open`, ten times at `fork`, at
-# `join`, `close` and `ret`)
+# (each subtask takes four steps. A search by calls has two states of it, and 15 of `main`: at `open`, ten times at `fork`, at
+# `join`, `pop`, `close` and `ret`)
 MANY_ENDS = (
-    "1 after 54 events: success 10\n"
-    "a search by calls of 16 states found no other end; that there is none is not proved\n"
+    "1 after 56 events: success 10\n"
+    "a search by calls of 17 states found no other end; that there is none is not proved\n"
 )
 PATIENCE = 10  # seconds that a search of the page may take at most
 # A text whose longest path ends in line 10.

@@ -342,10 +342,10 @@ def ends_of_flaky(joiner, count):
 
 
 def by_calls(look, text, words, most):
-    """Returns the ends, whether a search by calls found no other, and the status."""
+    """Returns the ends, whether a search by calls found no other, and the status: 0 if a table shows that there is none."""
     status, printed = says(look, "ends", text, *words, "--most", str(most))
     found = [it[3] for it in map(LINE.fullmatch, printed) if it]
-    return found, any(it.startswith("a search by calls") for it in printed), status
+    return found, status == 0 or any(it.startswith("a search by calls") for it in printed), status
 
 
 def calls_of_look(look, folder, count=30, seed="1"):

@@ -1,6 +1,7 @@
 //! The ends that a search by calls finds.
 
 ghost use Rattle.std.specs.Prelude.{◌≡◌, true, IfOk, IfSome};
+ghost use Rattle.ends_calls.specs.Whole.{AreWhole};
 ghost use Rattle.ends_plain.specs.Configs.{can};
 ghost use Rattle.ends_plain.specs.Listed.{AreEnds, IsEndOf, IsShownBy};
 ghost use Rattle.ends_plain.specs.declared.config.Setting.{Setting};
@@ -9,6 +10,7 @@ use crate::call::number;
 use crate::player::Player;
 use crate::search::{Search, explored};
 use crate::table::Explored;
+use crate::whole::are_whole;
 use ends_plain::config::{Config, Found, Setting};
 use ends_plain::ends::is_end_at;
 use ends_plain::shorter::can_come;
@@ -28,6 +30,8 @@ pub struct FoundByCalls {
     /// Was each state expanded, and has each end that the search found a trace? Then the ends that
     /// were known are among those that it found, too.
     pub is_closed: bool,
+    /// Are these all ends, if no run of the program faults?
+    pub whole: bool,
 }
 
 /// The event, if there is one and it can come.
@@ -153,16 +157,12 @@ fn listed(
         found,
         states: search.states,
         is_closed,
+        whole: false,
     })
 }
 
-/// Ends of an accepted program, found call by call, after those that are known. The search stops
-/// once it has more than `most` states.
-///
-/// # Errors
-///
-/// There is no memory.
-pub fn ends_by_calls(
+/// The ends that a search finds, after those that are known.
+fn searched(
     alloc: Global,
     setting: &Setting,
     most: usize,
@@ -178,6 +178,44 @@ pub fn ends_by_calls(
             found: known,
             states: search.states,
             is_closed: false,
+            whole: false,
         }),
     }
+}
+
+/// Are these all ends, if no run of the program faults?
+fn is_whole(
+    alloc: Global,
+    setting: &Setting,
+    calls: &FoundByCalls,
+    most: usize,
+) -> Result<bool, AllocError>
+    ensures { IfOk result (λ yes. AreWhole yes setting.now calls.now.found.items) }
+{
+    if !calls.is_closed {
+        return Ok(false);
+    }
+    are_whole(alloc, setting, calls.found.as_slice(), most)
+}
+
+/// Ends of an accepted program, found call by call, after those that are known. The search stops
+/// once it has more than `most` states, and its table of calls has at most `most_in_table`.
+///
+/// # Errors
+///
+/// There is no memory.
+pub fn ends_by_calls(
+    alloc: Global,
+    setting: &Setting,
+    most: usize,
+    most_in_table: usize,
+    known: Vec<Found>,
+) -> Result<FoundByCalls, AllocError>
+    requires { AreEnds setting.now known.items }
+    ensures sound { IfOk result (λ r. AreEnds setting.now r.found.items) }
+    ensures complete { IfOk result (λ r. AreWhole r.whole setting.now r.found.items) }
+{
+    let mut calls = searched(alloc, setting, most, known)?;
+    calls.whole = is_whole(alloc, setting, &calls, most_in_table)?;
+    Ok(calls)
 }

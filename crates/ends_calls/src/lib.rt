@@ -17,3 +17,4 @@ pub mod search;
 pub mod seen;
 pub mod steps;
 pub mod table;
+pub mod whole;

@@ -1,9 +1,8 @@
 -- The states that are covered are possible: what became of the subtasks is a pick that fits.
-use Rattle.std.proofs.Common.{◌≡◌, ◌⊎◌, inl, inr, Option, ℕ, ◌<◌, ◌≤◌, List, [], ◌∷◌, ◌++◌, Bool, true, false, refl, sym, ◌∙◌, ap, subst, Some, None, length, not, ◌&&◌}
+use Rattle.std.proofs.Common.{◌≡◌, ◌⊎◌, inl, inr, Option, ℕ, ◌<◌, ◌≤◌, List, [], ◌∷◌, ◌++◌, Bool, true, false, refl, sym, ◌∙◌, ap, subst, length, ◌&&◌}
 use Rattle.std.proofs.Common.{map, arith, cond, sum_by}
-use Rattle.std.proofs.lemmas.Bool.{leb-true, or_parts, and_parts}
+use Rattle.std.proofs.lemmas.Bool.{leb-true, and_parts}
 use Rattle.std.specs.Prelude.{nat_le, count_by}
-use Rattle.std.specs.List.{list_any}
 use Rattle.laws_calls.proofs.Turns.{Facts}
 use Rattle.laws_calls.proofs.Lists.{no}
 use Rattle.std.proofs.lemmas.List.Sums.{sum_by-cons}
@@ -16,9 +15,9 @@ use Rattle.sts_model.specs.Living.{completion_of, ends, ends_of}
 use Rattle.sts_model.specs.declared.record.Scope.{Scope}
 use Rattle.sts_model.specs.Joining.{cancels}
 use Rattle.laws_runs.proofs.EventLemmas.{Right}
-use Rattle.laws_calls.specs.Tasks.{AllTwo, May, Part, Seen, Knowledge, Unseen, ByJoiner, Heard, Asked, nothing, Way, HasWay, Late}
+use Rattle.laws_calls.specs.Tasks.{AllTwo, May, Part, Seen, Knowledge, Unseen, ByJoiner, Heard, Asked, nothing, Late}
 use Rattle.laws_calls.specs.Triggers.{is_trigger, limit, triggers}
-use Rattle.laws_calls.specs.Fitting.{heard_in, Answers, most, MayCount, Fits, ArePossible}
+use Rattle.laws_calls.specs.Fitting.{Answers, most, MayCount, Fits, ArePossible}
 use Rattle.laws_calls.specs.Steps.{Row, is_heard, is_cancelled, is_sure, settled, after_cancel, may_decide, is_unseen}
 use Rattle.laws_calls.specs.Covers.{subs, PartFits, SeenFits, alive_in, IsRight}
 use Rattle.laws_calls.proofs.Counts.{states_in}

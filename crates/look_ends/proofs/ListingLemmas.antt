@@ -1,5 +1,5 @@
 -- A listing of a search says what was searched.
-use Rattle.std.proofs.Common.{◌≡◌, ℕ, List, Bool, true, Option, Result, Ok, Err, subst, sym, ◌∙◌}
+use Rattle.std.proofs.Common.{◌≡◌, ℕ, List, Bool, true, Option, Result, Ok, Err, subst, ◌∙◌}
 use Rattle.ends_plain.specs.Ends.{AreAll}
 use Rattle.ends_plain.specs.Listed.{AreEnds, ends_of}
 use Rattle.ends_plain.specs.declared.config.Found.{Found}
@@ -10,13 +10,6 @@ use Rattle.look_refusal.specs.declared.explanation.ExplainError.{ExplainError}
 use Rattle.look_refusal.proofs.StopLemmas.{says_less}
 use Rattle.look_ends.specs.Form.{EndsForm, IsFaultIn}
 use Rattle.look_ends.specs.Listing.{IsSearch, IsVerdict, Listing, lines_form, searched_listing}
-
--- an answer that is whole has the ends of a search that is whole
-pub still_all : (g : Setting) (found more : List Found) (whole now : Bool) → (whole ≡ true → AreAll g.program g.expiries g.interrupts (ends_of found))
-    → (now ≡ true → (whole ≡ true) × (more ≡ found)) → now ≡ true → AreAll g.program g.expiries g.interrupts (ends_of more)
-still_all g found more whole now complete keeps is_whole =
-    let kept = keeps is_whole in
-    subst (λ (fs : List Found). AreAll g.program g.expiries g.interrupts (ends_of fs)) (sym kept.1) (complete kept.0)
 
 -- what was searched is what was asked for
 pub search_of : (form : EndsForm) (g e x : Setting) (text : List ℕ) (number : Option ℕ) (is_refused : Bool) (found : List Found) (states : ℕ) (whole : Bool) (by_calls : Option ℕ) (r : Listing)

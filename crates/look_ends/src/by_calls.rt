@@ -1,8 +1,10 @@
 //! The ends that a search by calls finds before a search over all schedules.
 
 ghost use Rattle.std.specs.Prelude.{◌≡◌, true, false, IfOk};
+ghost use Rattle.ends_calls.specs.Whole.{AreAllOf, AreWhole};
 ghost use Rattle.ends_plain.specs.Listed.{AreEnds, IsEndOf};
 ghost use Rattle.ends_plain.specs.declared.config.Setting.{Setting};
+ghost use Rattle.laws_runs.specs.Runs.{NeverFaults};
 
 use crate::progress::Progress;
 use ends_calls::ends::{FoundByCalls, ends_by_calls};
@@ -28,11 +30,13 @@ const STATES_TIMES_EVENTS: usize = 10_000_000;
 #[derive(Drop)]
 pub struct Answer {
     pub found: Vec<Found>,
-    /// How many states a search over all schedules found.
+    /// How many states the search found. If a search over all schedules stopped, and one by calls
+    /// has all ends, these are the states of that one.
     pub states: usize,
     /// Are these the ends of all schedules?
     pub whole: bool,
-    /// The states of a search by calls, if it found no other end.
+    /// The states of a search by calls, if it found no other end, and it is not proved that there
+    /// is none.
     pub by_calls: Option<usize>,
 }
 
@@ -43,12 +47,14 @@ fn most_of(limits: Limits) -> u32 {
 
 /// A search by calls that found nothing.
 fn nothing(alloc: Global) -> FoundByCalls
-    ensures { (g : Setting) → AreEnds g result.found.items }
+    ensures sound { (g : Setting) → AreEnds g result.found.items }
+    ensures part { result.whole ≡ false }
 {
     FoundByCalls {
         found: Vec::new(alloc),
         states: 0,
         is_closed: false,
+        whole: false,
     }
 }
 
@@ -60,18 +66,20 @@ fn tried<P: Progress>(
     limits: Limits,
     progress: &mut P,
 ) -> Result<FoundByCalls, AllocError>
-    ensures { IfOk result (λ r. AreEnds setting.now r.found.items) }
+    ensures sound { IfOk result (λ r. AreEnds setting.now r.found.items) }
+    ensures complete { IfOk result (λ r. AreWhole r.whole setting.now r.found.items) }
 {
     let most = most_of(limits);
+    let table = most as usize;
     let mut room = most.min(FIRST_TRY);
-    let mut calls = ends_by_calls(alloc, setting, room as usize, Vec::new(alloc))?;
+    let mut calls = ends_by_calls(alloc, setting, room as usize, table, Vec::new(alloc))?;
     for _ in 0..u64::MAX {
         let is_cut_off = calls.states > room as usize;
         if !is_cut_off || room >= most || !progress.goes_on(limits.seconds) {
             break;
         }
         room = room.saturating_mul(MORE).min(most);
-        calls = ends_by_calls(alloc, setting, room as usize, Vec::new(alloc))?;
+        calls = ends_by_calls(alloc, setting, room as usize, table, Vec::new(alloc))?;
     }
     Ok(calls)
 }
@@ -84,7 +92,8 @@ pub(crate) fn by_calls<P: Progress>(
     limits: Limits,
     progress: &mut P,
 ) -> Result<FoundByCalls, AllocError>
-    ensures { IfOk result (λ r. AreEnds setting.now r.found.items) }
+    ensures sound { IfOk result (λ r. AreEnds setting.now r.found.items) }
+    ensures complete { IfOk result (λ r. AreWhole r.whole setting.now r.found.items) }
 {
     if is_refused {
         return Ok(nothing(alloc));
@@ -177,6 +186,27 @@ fn joined(setting: &Setting, calls: FoundByCalls, ends: EndsFound) -> Result<Ans
     })
 }
 
+/// The ends of a search by calls, if these are all ends. If not, those of a search over all
+/// schedules that stopped are there, too.
+fn called(setting: &Setting, calls: FoundByCalls, ends: EndsFound) -> Result<Answer, AllocError>
+    requires calls { AreEnds setting.now calls.found.items }
+    requires all { AreWhole calls.whole setting.now calls.found.items }
+    requires never { NeverFaults setting.now.program }
+    requires ends { AreEnds setting.now ends.found.items }
+    ensures sound { IfOk result (λ a. AreEnds setting.now a.found.items) }
+    ensures complete { IfOk result (λ a. a.whole ≡ true → AreAllOf setting.now a.found.items) }
+{
+    if calls.whole {
+        return Ok(Answer {
+            found: calls.found,
+            states: calls.states,
+            whole: true,
+            by_calls: None,
+        });
+    }
+    joined(setting, calls, ends)
+}
+
 /// The ends of a search over all schedules. If it stopped, and the program is accepted, those of a
 /// search by calls are there, too.
 pub(crate) fn answered(
@@ -186,10 +216,12 @@ pub(crate) fn answered(
     ends: EndsFound,
 ) -> Result<Answer, AllocError>
     requires calls { AreEnds setting.now calls.found.items }
+    requires called { AreWhole calls.whole setting.now calls.found.items }
+    requires never { is_refused ≡ false → NeverFaults setting.now.program }
     requires ends { AreEnds setting.now ends.found.items }
+    requires all { ends.whole ≡ true → AreAllOf setting.now ends.found.items }
     ensures sound { IfOk result (λ a. AreEnds setting.now a.found.items) }
-    ensures whole { IfOk result (λ a. a.whole ≡ true →
-        (ends.whole ≡ true) × (a.found.items ≡ ends.found.items)) }
+    ensures complete { IfOk result (λ a. a.whole ≡ true → AreAllOf setting.now a.found.items) }
 {
     if ends.whole || is_refused {
         return Ok(Answer {
@@ -199,5 +231,5 @@ pub(crate) fn answered(
             by_calls: None,
         });
     }
-    joined(setting, calls, ends)
+    called(setting, calls, ends)
 }

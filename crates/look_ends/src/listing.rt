@@ -1,6 +1,7 @@
 //! What is printed of the ends of a text.
 
-ghost use Rattle.std.specs.Prelude.{◌≡◌, IfOk, option_map};
+ghost use Rattle.std.specs.Prelude.{◌≡◌, false, IfOk, option_map};
+ghost use Rattle.laws_runs.specs.Runs.{NeverFaults};
 ghost use Rattle.sts_asm.specs.Text.{judged};
 ghost use Rattle.look_refusal.specs.Stops.{Gives};
 ghost use Rattle.look_ends.specs.Listing as def;
@@ -147,7 +148,8 @@ fn of_all<F: EndsForm, P: Progress>(
     number: Option<u32>,
     progress: &mut P,
 ) -> Result<Listing, AllocError>
-    requires { def.IsVerdict setting.program is_refused }
+    requires verdict { def.IsVerdict setting.program is_refused }
+    requires never { is_refused ≡ false → NeverFaults setting.program }
     ensures { IfOk result (def.IsSearch (F.shows form.now) names.now setting number) }
 {
     let calls = by_calls(alloc, &setting, is_refused, limits, progress)?;

@@ -1,4 +1,4 @@
-use Rattle.std.proofs.Common.{◌≡◌, ℕ, List, ◌∙◌, Result, ap, sym, subst}
+use Rattle.std.proofs.Common.{ℕ, List, Result, ap, sym, subst}
 use Rattle.std.specs.Prelude.{Option}
 use Rattle.std.proofs.lemmas.Result.{err_from_is_err_and}
 use Rattle.sts_asm.specs.Text.{judged}

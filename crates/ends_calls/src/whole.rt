@@ -1,0 +1,66 @@
+//! Whether ends that were found are all ends.
+
+ghost use Rattle.std.specs.Prelude.{◌≡◌, true, IfOk};
+ghost use Rattle.std.specs.List.{All, Contains};
+ghost use Rattle.ends_calls.specs.Whole.{AreWhole};
+ghost use Rattle.ends_plain.specs.Listed.{ends_of};
+ghost use Rattle.laws_calls.specs.declared.table.Way.{Way};
+ghost use Rattle.sts_plain.specs.declared.misstep.PlainState.TheVariants as plain;
+
+use ends_plain::config::{Found, Setting};
+use ends_table::closing::closed_table;
+use laws_calls::ends_are_ways;
+use laws_calls::table::Way;
+use std::alloc::{AllocError, Global};
+use sts_plain::PlainState;
+
+/// Is the end among these?
+fn is_found(found: &[Found], end: PlainState) -> bool
+    ensures { result ≡ true → Contains (ends_of found.now) end }
+{
+    for one in found {
+        if one.end == end {
+            return true;
+        }
+    }
+    false
+}
+
+/// Is the end of each way among these?
+fn have_ways(found: &[Found], ways: &[Way]) -> bool
+    ensures { result ≡ true
+        → All (λ (way : Way). Contains (ends_of found.now) (plain.Ended way.end)) ways.now }
+{
+    for way in ways {
+        if !is_found(found, PlainState::Ended(way.end)) {
+            return false;
+        }
+    }
+    true
+}
+
+/// Is each way of a closed table among these ends? Then they are all ends, if no interrupt comes.
+///
+/// # Errors
+///
+/// Memory ran out.
+pub fn are_whole(
+    alloc: Global,
+    setting: &Setting,
+    found: &[Found],
+    most: usize,
+) -> Result<bool, AllocError>
+    ensures { IfOk result (λ yes. AreWhole yes setting.now found.now) }
+{
+    ends_are_ways();
+    if setting.interrupts > 0 {
+        return Ok(false);
+    }
+    let Some(rows) = closed_table(alloc, &setting.program, most)? else {
+        return Ok(false);
+    };
+    match rows.as_slice().get(0) {
+        Some(root) => Ok(have_ways(found, root.ways.as_slice())),
+        None => Ok(false),
+    }
+}

@@ -1,0 +1,4 @@
+pub mod BoundLemmas
+pub mod PlaceLemmas
+pub mod StepLemmas
+pub mod TableLemmas

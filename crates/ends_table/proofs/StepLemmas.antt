@@ -1,0 +1,190 @@
+-- The states to which each instruction leads.
+use Rattle.std.proofs.Common.{◌≡◌, ℕ, pos, List, [], ◌∷◌, Bool, true, false, Option, Some}
+use Rattle.std.proofs.Common.{refl, sym, ◌∙◌, subst, is_some}
+use Rattle.std.specs.Prelude.{unwrap_or, slice_get, drop, slice_set}
+use Rattle.sts_code.specs.Program.{Program}
+use Rattle.sts_code.specs.declared.instr.Instr.{Instr}
+use Rattle.sts_code.specs.declared.instr.Instr.TheVariants.{Open, Fork, Join, Close, Cancelled}
+use Rattle.sts_code.specs.declared.instr.Instr.TheVariants.{Case, Get, Except, Forget}
+use Rattle.sts_code.specs.declared.instr.Instr.TheVariants.{Bind, Unbind, Read, Bound, OrElse}
+use Rattle.sts_code.specs.declared.instr.Instr.TheVariants.{Interrupted, Ret, Fail}
+use Rattle.sts_code.specs.declared.instr.Joiner.{Joiner}
+use Rattle.sts_model.specs.declared.event.End.TheVariants.{Success, Failed}
+use Rattle.sts_model.specs.declared.record.Entry.TheVariants as entry
+use Rattle.sts_model.specs.World.{code}
+use Rattle.sts_model.specs.Local.{is_local, local, operand, steps, truth}
+use Rattle.sts_model.specs.Environment.{read}
+use Rattle.laws_calls.specs.declared.table.Held.TheVariants as held
+use Rattle.laws_calls.specs.Tasks.{at_place, held_at, bindings}
+use Rattle.laws_calls.specs.declared.table.Call.{Call}
+use Rattle.laws_calls.specs.declared.table.Own.{Own}
+use Rattle.laws_calls.specs.declared.table.Seen.{Seen}
+use Rattle.laws_calls.specs.declared.table.Part.{Part}
+use Rattle.laws_calls.specs.Steps.{Table, Leads, Owns, Knows, to, pushes, opened, closed}
+use Rattle.laws_calls.specs.Steps.{local_step, read_step, bound_step, or_else_step, bind_step}
+use Rattle.laws_calls.specs.Steps.{unbind_step, forget_step, interrupted_step, lent_step}
+use Rattle.laws_calls.specs.Steps.{going_step, cancelled_step, expired_step, open_step}
+use Rattle.laws_calls.specs.Steps.{unstarted_step, close_step, timeout_step, by_one_step}
+use Rattle.laws_calls.specs.Steps.{by_count_step, heard_step, none_step, success_step}
+use Rattle.laws_calls.specs.Steps.{failure_step, missed_step, get_step, except_step}
+use Rattle.laws_calls.specs.Steps.{tally_step, total_step}
+use Rattle.laws_calls.specs.Steps.{is_cancelled, may_decide, may_be_late}
+use Rattle.laws_calls.specs.Steps.{with_seen, after_cancel, after_expiry}
+use Rattle.ends_table.specs.Led.{AllLead, LooksLead, JoinsLead, CasesLead, ReadsLead, ForkLeads}
+
+module _ (p : Program) (c : Call) (states : List Own) (own : Own) where
+  -- ---- what a slot holds
+
+  -- a slot holds one scope
+  owned : (P : ℕ → Seen → Type 0) (x a b : ℕ) (s r : Seen) → Owns own x a s → Owns own x b r → P a s → P b r
+  owned P x a b s r o q h =
+      let e : held.Own a ≡ held.Own b = sym o.holds ∙ q.holds in
+      let same : a ≡ b = cc in
+      let there : at_place own.scopes b ≡ Some s = subst (λ k. at_place own.scopes k ≡ Some s) same o.there in
+      let e2 : Some s ≡ Some r = sym there ∙ q.there in
+      let one : s ≡ r = cc in
+      subst (λ k. P b k) one (subst (λ k. P k s) same h)
+
+  -- a slot holds one subtask
+  knows : (P : ℕ → Seen → ℕ → Part → Type 0) (x a b : ℕ) (s r : Seen) (i j : ℕ) (y z : Part) → Knows own x a s i y → Knows own x b r j z → P a s i y → P b r j z
+  knows P x a b s r i j y z o q h =
+      let e : held.Sub a i ≡ held.Sub b j = sym o.holds ∙ q.holds in
+      let same : a ≡ b = cc in
+      let same2 : i ≡ j = cc in
+      let there : at_place own.scopes b ≡ Some s = subst (λ k. at_place own.scopes k ≡ Some s) same o.there in
+      let e2 : Some s ≡ Some r = sym there ∙ q.there in
+      let one : s ≡ r = cc in
+      let known : slice_get r.parts j ≡ Some y = subst (λ k. slice_get r.parts k ≡ Some y) same2 (subst (λ k. slice_get k.parts i ≡ Some y) one o.known) in
+      let e3 : Some y ≡ Some z = sym known ∙ q.known in
+      let part : y ≡ z = cc in
+      subst (λ k. P b r j k) part (subst (λ k. P b r k y) same2 (subst (λ k. P b k i y) one (subst (λ k. P k s i y) same h)))
+
+  -- ---- the frame alone
+
+  pub local_leads : (i : Instr) → is_local i ≡ true → Leads states (to own (local (code p own.frame) i own.frame)) → AllLead p c states own i
+  local_leads i e h next (local_step same) = h
+  local_leads i e h next read_step = cc
+  local_leads i e h next bound_step = cc
+  local_leads i e h next or_else_step = cc
+  local_leads i e h next bind_step = cc
+  local_leads i e h next unbind_step = cc
+  local_leads i e h next forget_step = cc
+  local_leads i e h next interrupted_step = cc
+  local_leads i e h next (lent_step holds) = cc
+  local_leads i e h next (going_step place seen pick o free fits less) = cc
+  local_leads i e h next (cancelled_step place seen o may) = cc
+  local_leads i e h next (expired_step place seen o may timed) = cc
+  local_leads i e h next open_step = cc
+  local_leads i e h next (unstarted_step place seen o gone) = cc
+  local_leads i e h next close_step = cc
+  local_leads i e h next (timeout_step place seen o may timed) = cc
+  local_leads i e h next (by_one_step place seen j part end o may one way counts) = cc
+  local_leads i e h next (by_count_step place seen o may many) = cc
+  local_leads i e h next (heard_step place seen o free none) = cc
+  local_leads i e h next (none_step place seen j part end o free any way fails early) = cc
+  local_leads i e h next (success_step place seen j part counting k) = cc
+  local_leads i e h next (failure_step place seen j part counting k) = cc
+  local_leads i e h next (missed_step place seen j part k may) = cc
+  local_leads i e h next (get_step place seen j part v k way) = cc
+  local_leads i e h next (except_step place seen j part v k way) = cc
+  local_leads i e h next (tally_step place seen pick o fits) = cc
+  local_leads i e h next (total_step place seen pick o fits) = cc
+
+  pub read_leads : (k : ℕ) → Leads states (pushes own 0 (unwrap_or (read (bindings c own) k) (pos 0))) → AllLead p c states own (Read k)
+  read_leads k h next (local_step e) = cc
+  read_leads k h next read_step = h
+
+  pub bound_leads : (k : ℕ) → Leads states (pushes own 0 (truth (is_some (read (bindings c own) k)))) → AllLead p c states own (Bound k)
+  bound_leads k h next (local_step e) = cc
+  bound_leads k h next bound_step = h
+
+  pub or_else_leads : (k : ℕ) → Leads states (pushes own 1 (unwrap_or (read (bindings c own) k) (operand own.frame 0))) → AllLead p c states own (OrElse k)
+  or_else_leads k h next (local_step e) = cc
+  or_else_leads k h next or_else_step = h
+
+  pub bind_leads : (k : ℕ) → Leads states (to own (record (steps own.frame 1 []) { entries = entry.Binding k (operand own.frame 0) ∷ own.frame.entries })) → AllLead p c states own (Bind k)
+  bind_leads k h next (local_step e) = cc
+  bind_leads k h next bind_step = h
+
+  pub unbind_leads : Leads states (to own (record (steps own.frame 0 []) { entries = drop 1 own.frame.entries })) → AllLead p c states own Unbind
+  unbind_leads h next (local_step e) = cc
+  unbind_leads h next unbind_step = h
+
+  pub forget_leads : (x : ℕ) → Leads states (record own { frame = steps own.frame 0 []; held = slice_set own.held x held.Empty }) → AllLead p c states own (Forget x)
+  forget_leads x h next (local_step e) = cc
+  forget_leads x h next forget_step = h
+
+  pub interrupted_leads : Leads states (pushes own 0 (truth false)) → AllLead p c states own Interrupted
+  interrupted_leads h next (local_step e) = cc
+  interrupted_leads h next interrupted_step = h
+
+  pub ret_leads : AllLead p c states own Ret
+  ret_leads next (local_step e) = cc
+
+  pub fail_leads : AllLead p c states own Fail
+  fail_leads next (local_step e) = cc
+
+  -- ---- scopes
+
+  pub open_leads : (x : ℕ) (joiner : Joiner) (timed : Bool) → Leads states (opened c own x joiner timed) → AllLead p c states own (Open x joiner timed)
+  open_leads x joiner timed h next (local_step e) = cc
+  open_leads x joiner timed h next open_step = h
+
+  pub close_leads : (x : ℕ) → Leads states (closed own) → AllLead p c states own (Close x)
+  close_leads x h next (local_step e) = cc
+  close_leads x h next close_step = h
+
+  pub fork_leads : (t : Table) (x g : ℕ) (q : Option ℕ) → ((place : ℕ) (seen : Seen) → Owns own x place seen → ForkLeads p t states own x g q place seen) → AllLead p c states own (Fork x g q)
+  fork_leads t x g q h next (local_step e) = cc
+  fork_leads t x g q h next (unstarted_step place seen o gone) = (h place seen o).unstarted gone
+
+  not_lent : (x place : ℕ) (seen : Seen) → held_at own x ≡ held.Lent → Owns own x place seen → ⊥
+  not_lent x place seen holds o = let e : held.Lent ≡ held.Own place = sym holds ∙ o.holds in cc
+
+  pub lent_leads : (x : ℕ) → held_at own x ≡ held.Lent → Leads states (pushes own 0 (truth false)) → AllLead p c states own (Cancelled x)
+  lent_leads x holds h next (local_step e) = cc
+  lent_leads x holds h next (lent_step again) = h
+  lent_leads x holds h next (going_step place seen pick o free fits less) = h
+  lent_leads x holds h next (cancelled_step place seen o may) = absurd (not_lent x place seen holds o)
+  lent_leads x holds h next (expired_step place seen o may timed) = absurd (not_lent x place seen holds o)
+
+  pub looks_lead : (x place : ℕ) (seen : Seen) → Owns own x place seen → LooksLead states own place seen → AllLead p c states own (Cancelled x)
+  looks_lead x place seen o h next (local_step e) = cc
+  looks_lead x place seen o h next (lent_step holds) = absurd (not_lent x place seen holds o)
+  looks_lead x place seen o h next (going_step place2 seen2 pick q free fits less) = owned (λ a s. is_cancelled s.knowledge ≡ false → Leads states (pushes own 0 (truth false))) x place place2 seen seen2 o q h.going free
+  looks_lead x place seen o h next (cancelled_step place2 seen2 q may) = owned (λ a s. may_decide s.knowledge ≡ true → Leads states (pushes (with_seen own a (after_cancel s)) 0 (truth true))) x place place2 seen seen2 o q h.cancelled may
+  looks_lead x place seen o h next (expired_step place2 seen2 q may timed) = owned (λ a s. may_be_late s.knowledge ≡ true → s.timed ≡ true → Leads states (pushes (with_seen own a (after_expiry s)) 0 (truth true))) x place place2 seen seen2 o q h.expired may timed
+
+  pub joins_lead : (x to_i : ℕ) (failed timeout : Option ℕ) (place : ℕ) (seen : Seen) → Owns own x place seen → JoinsLead states own place seen (unwrap_or failed 0) (unwrap_or timeout 0) → AllLead p c states own (Join x failed timeout to_i)
+  joins_lead x to_i failed timeout place seen o h next (local_step e) = cc
+  joins_lead x to_i failed timeout place seen o h next (timeout_step place2 seen2 q may timed) =
+      (owned (λ a s. JoinsLead states own a s (unwrap_or failed 0) (unwrap_or timeout 0)) x place place2 seen seen2 o q h).late may timed
+  joins_lead x to_i failed timeout place seen o h next (by_one_step place2 seen2 j part end q may one way counts) =
+      (owned (λ a s. JoinsLead states own a s (unwrap_or failed 0) (unwrap_or timeout 0)) x place place2 seen seen2 o q h).by_one may one j part end way counts
+  joins_lead x to_i failed timeout place seen o h next (by_count_step place2 seen2 q may many) =
+      (owned (λ a s. JoinsLead states own a s (unwrap_or failed 0) (unwrap_or timeout 0)) x place place2 seen seen2 o q h).by_count may many
+  joins_lead x to_i failed timeout place seen o h next (heard_step place2 seen2 q free none) =
+      (owned (λ a s. JoinsLead states own a s (unwrap_or failed 0) (unwrap_or timeout 0)) x place place2 seen seen2 o q h).heard free none
+  joins_lead x to_i failed timeout place seen o h next (none_step place2 seen2 j part end q free any way fails early) =
+      (owned (λ a s. JoinsLead states own a s (unwrap_or failed 0) (unwrap_or timeout 0)) x place place2 seen seen2 o q h).none free any j part end way fails early
+
+  -- ---- subtasks
+
+  pub cases_lead : (x good bad place : ℕ) (seen : Seen) (i : ℕ) (part : Part) → Knows own x place seen i part → CasesLead states own place seen i part good bad → AllLead p c states own (Case x good bad)
+  cases_lead x good bad place seen i part o h next (local_step e) = cc
+  cases_lead x good bad place seen i part o h next (success_step place2 seen2 j part2 counting q) =
+      (knows (λ a s k y. CasesLead states own a s k y good bad) x place place2 seen seen2 i j part part2 o q h).success counting
+  cases_lead x good bad place seen i part o h next (failure_step place2 seen2 j part2 counting q) =
+      (knows (λ a s k y. CasesLead states own a s k y good bad) x place place2 seen seen2 i j part part2 o q h).failure counting
+  cases_lead x good bad place seen i part o h next (missed_step place2 seen2 j part2 q may) =
+      (knows (λ a s k y. CasesLead states own a s k y good bad) x place place2 seen seen2 i j part part2 o q h).unended may
+
+  pub get_leads : (x place : ℕ) (seen : Seen) (i : ℕ) (part : Part) → Knows own x place seen i part → ReadsLead states own place seen i part true → AllLead p c states own (Get x)
+  get_leads x place seen i part o h next (local_step e) = cc
+  get_leads x place seen i part o h next (get_step place2 seen2 j part2 v q way) =
+      knows (λ a s k y. ReadsLead states own a s k y true) x place place2 seen seen2 i j part part2 o q h (Success v) way refl
+
+  pub except_leads : (x place : ℕ) (seen : Seen) (i : ℕ) (part : Part) → Knows own x place seen i part → ReadsLead states own place seen i part false → AllLead p c states own (Except x)
+  except_leads x place seen i part o h next (local_step e) = cc
+  except_leads x place seen i part o h next (except_step place2 seen2 j part2 v q way) =
+      knows (λ a s k y. ReadsLead states own a s k y false) x place place2 seen seen2 i j part part2 o q h (Failed v) way refl

@@ -1,0 +1,7 @@
+use Rattle.ends_table.proofs.StepLemmas.{get_leads}
+use Rattle.ends_table.proofs.steps.Around.get.Goals as goal
+
+pub returns : goal.returns
+returns c =
+    let a = c.args.self.now in
+    get_leads a.program.now a.call.now a.states.now a.own.now c.args.handle _ _ _ _ c.in_ok-place.ensures c.in_ok-reads.ensures

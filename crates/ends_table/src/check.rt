@@ -1,0 +1,152 @@
+//! A check that a table is closed under the steps of tasks.
+
+ghost use Rattle.std.specs.Prelude.{◌≡◌, ℕ, Option, OnOk, IfOk, All, Some, false, true};
+ghost use Rattle.ends_table.specs.Led as led;
+ghost use Rattle.laws_calls.specs.declared.table.Held.TheVariants.{Empty};
+ghost use Rattle.laws_calls.specs.Steps as def;
+ghost use Rattle.laws_calls.specs.Tasks as tasks;
+ghost use Rattle.laws_calls.specs.declared.table.Seen.{Seen};
+ghost use Rattle.sts_code.specs.declared.instr.Instr.TheVariants as instrs;
+
+use crate::beginning::{first_state, root_call};
+use crate::forks::forks;
+use crate::reached::is_among;
+use crate::rows::ends;
+use crate::steps::Around;
+use crate::stop::Stop;
+use laws_calls::table::{Held, Own, Row};
+use std::alloc::{AllocError, Global};
+use sts_code::{Instr, Program};
+use sts_frames::instr_at;
+use sts_same::same::Same;
+
+/// If the instruction is a `fork`, the call of the new task has a row.
+fn check_fork(
+    alloc: Global,
+    program: &Program,
+    table: &[Row],
+    row: &Row,
+    own: &Own,
+    instr: Instr,
+) -> Result<(), Stop>
+    ensures { OnOk result (led.ForksLead program.now table.now row.now own.now instr) }
+{
+    if let Instr::Fork {
+        slot,
+        function,
+        handle,
+    } = instr
+    {
+        let states = row.states.as_slice();
+        forks(alloc, program, table, states, own, slot, function, handle)?;
+    }
+    Ok(())
+}
+
+/// All that a table owes at a state whose next instruction is this.
+fn check_instr(
+    alloc: Global,
+    program: &Program,
+    table: &[Row],
+    row: &Row,
+    own: &Own,
+    instr: Instr,
+) -> Result<(), Stop>
+    ensures { OnOk result (led.IsLed program.now table.now row.now own.now instr) }
+{
+    let around = Around {
+        program,
+        table,
+        call: &row.call,
+        states: row.states.as_slice(),
+        own,
+    };
+    check_fork(alloc, program, table, row, own, instr)?;
+    around.steps(alloc, instr)?;
+    ends(row.ways.as_slice(), own, instr)?;
+    Ok(())
+}
+
+/// All that a table owes at a state of a row.
+///
+/// # Errors
+///
+/// The table lacks something, or it is not known whether it does, or memory ran out.
+pub fn check_state(
+    alloc: Global,
+    program: &Program,
+    table: &[Row],
+    row: &Row,
+    own: &Own,
+) -> Result<(), Stop>
+    ensures { OnOk result (led.IsLedAt program.now table.now row.now own.now) }
+{
+    let Some(instr) = instr_at(program, &own.frame) else {
+        return Ok(());
+    };
+    check_instr(alloc, program, table, row, own, instr)?;
+    Ok(())
+}
+
+/// All that a table owes at the states of a row.
+fn check_row(alloc: Global, program: &Program, table: &[Row], row: &Row) -> Result<(), Stop>
+    ensures { OnOk result (All (led.IsLedAt program.now table.now row.now) row.now.states) }
+{
+    for own in row.states.as_slice() {
+        check_state(alloc, program, table, row, own)?;
+    }
+    Ok(())
+}
+
+/// All that a table owes at the states of its rows.
+fn check_rows(alloc: Global, program: &Program, table: &[Row]) -> Result<(), Stop>
+    ensures { OnOk result (All (led.IsLedRow program.now table.now) table.now) }
+{
+    for row in table {
+        check_row(alloc, program, table, row)?;
+    }
+    Ok(())
+}
+
+/// The row is that of the root's call, and has its first state.
+fn check_root(alloc: Global, program: &Program, root: &Row) -> Result<(), Stop>
+    ensures { OnOk result (led.IsRoot program.now root.now) }
+{
+    let call = root_call(alloc, program)?;
+    let first = first_state(alloc, &call, Held::Empty)?;
+    if !root.call.same(&call) || !is_among(root.states.as_slice(), &first) {
+        return Err(Stop::Unknown);
+    }
+    Ok(())
+}
+
+/// The table is closed, and its first row is the root's.
+///
+/// # Errors
+///
+/// The table lacks something, or it is not known whether it does, or memory ran out.
+pub fn check_table(alloc: Global, program: &Program, table: &[Row]) -> Result<(), Stop>
+    ensures { OnOk result (led.IsClosed program.now table.now) }
+{
+    let Some(root) = table.get(0) else {
+        return Ok(());
+    };
+    check_root(alloc, program, root)?;
+    check_rows(alloc, program, table)?;
+    Ok(())
+}
+
+/// Is the table closed, and is its first row the root's? The answer may be false though it is.
+///
+/// # Errors
+///
+/// Memory ran out.
+pub fn is_closed(alloc: Global, program: &Program, table: &[Row]) -> Result<bool, AllocError>
+    ensures { IfOk result (λ yes. yes ≡ true → led.IsClosed program.now table.now) }
+{
+    match check_table(alloc, program, table) {
+        Ok(()) => Ok(true),
+        Err(Stop::NoMemory(error)) => Err(error),
+        Err(_) => Ok(false),
+    }
+}

@@ -1,0 +1,103 @@
+//! How many ends of a scope may count towards a cancel.
+
+ghost use Rattle.std.specs.Prelude.{◌≡◌, count_by, not};
+ghost use Rattle.std.specs.List.{list_any, list_all};
+ghost use Rattle.ends_table.specs.Bounds as bounds;
+ghost use Rattle.laws_calls.specs.Steps as def;
+ghost use Rattle.laws_calls.specs.Triggers as triggers;
+ghost use Rattle.laws_calls.specs.declared.table.Way.{Way};
+
+use crate::joiners::{is_trigger, limit, most};
+use laws_calls::table::{Knowledge, Part, Seen, Way};
+use sts_code::Joiner;
+use sts_model::Phase;
+
+/// Is there a way that doesn't count?
+fn has_other(joiner: Joiner, ways: &[Way]) -> bool
+    ensures { result ≡ list_any (λ (way : Way). not (triggers.is_trigger joiner way.end)) ways.now }
+{
+    ways.iter().any(|way| !is_trigger(joiner, way.end))
+}
+
+/// Is there a way that counts?
+fn has_trigger(joiner: Joiner, ways: &[Way]) -> bool
+    ensures { result ≡ list_any (λ (way : Way). triggers.is_trigger joiner way.end) ways.now }
+{
+    ways.iter().any(|way| is_trigger(joiner, way.end))
+}
+
+/// Has the part ended by an end that counts, whichever it was?
+pub fn is_sure(joiner: Joiner, part: &Part) -> bool
+    ensures { result ≡ def.is_sure joiner part.now }
+{
+    !part.is_open && !has_other(joiner, part.ways.as_slice())
+}
+
+/// May the part end by an end that counts?
+fn can_count(joiner: Joiner, part: &Part) -> bool
+    ensures { result ≡ bounds.can_count joiner part.now }
+{
+    has_trigger(joiner, part.ways.as_slice())
+}
+
+/// Has the part a state that is possible?
+fn can_be(part: &Part) -> bool
+    ensures { result ≡ bounds.can_be part.now }
+{
+    part.is_open || !part.ways.as_slice().is_empty()
+}
+
+/// How many parts have ended by ends that count.
+pub fn sure_count(joiner: Joiner, parts: &[Part]) -> usize
+    ensures { result ≡ count_by (def.is_sure joiner) parts.now }
+{
+    parts.iter().filter(|part| is_sure(joiner, part)).count()
+}
+
+/// How many parts may end by ends that count.
+fn greatest_count(joiner: Joiner, parts: &[Part]) -> usize
+    ensures { result ≡ count_by (bounds.can_count joiner) parts.now }
+{
+    parts.iter().filter(|part| can_count(joiner, part)).count()
+}
+
+/// Has each part a state that is possible?
+fn all_can_be(parts: &[Part]) -> bool
+    ensures { result ≡ list_all bounds.can_be parts.now }
+{
+    parts.iter().all(|part| can_be(part))
+}
+
+/// May the number of ends that count be one from `least` to `greatest`?
+fn counts_fit(
+    knowledge: Knowledge,
+    phase: Phase,
+    joiner: Joiner,
+    least: usize,
+    greatest: usize,
+) -> bool
+    ensures { result ≡ bounds.counts_fit knowledge phase joiner least greatest }
+{
+    let most = most(joiner) as usize;
+    match (knowledge, phase) {
+        (Knowledge::Unseen, Phase::Joined) => false,
+        (Knowledge::ByJoiner, Phase::Joined) => limit(joiner) as usize <= greatest && least <= most,
+        (Knowledge::Heard, _) => least < most,
+        _ => least <= most,
+    }
+}
+
+/// May the scope have a pick that fits?
+pub fn may_fit(seen: &Seen) -> bool
+    ensures { result ≡ bounds.may_fit seen.now }
+{
+    let parts = seen.parts.as_slice();
+    all_can_be(parts)
+        && counts_fit(
+            seen.knowledge,
+            seen.phase,
+            seen.joiner,
+            sure_count(seen.joiner, parts),
+            greatest_count(seen.joiner, parts),
+        )
+}

@@ -1,0 +1,205 @@
+//! The states after `fork`.
+
+ghost use Rattle.std.specs.Prelude.{◌≡◌, ℕ, [], ◌∷◌, ◌++◌, IfOk, OnOk, reverse, take};
+ghost use Rattle.ends_table.specs.Led as led;
+ghost use Rattle.laws_calls.specs.Steps as def;
+ghost use Rattle.laws_calls.specs.declared.table.Seen.{Seen};
+ghost use Rattle.sts_code.specs.Program.{routine};
+
+use crate::beginning::first_state;
+use crate::frames::stepped;
+use crate::joiners::is_cancelled;
+use crate::places::{number, owned, set_held, with_scope};
+use crate::reached::leads;
+use crate::rows::row_of;
+use crate::stop::Stop;
+use laws_calls::table::{Call, Held, Own, Part, Row, Seen, Way};
+use std::alloc::{AllocError, Global};
+use sts_code::{Program, args};
+use sts_model::Items;
+use sts_same::copied::{Copied, copy_items};
+
+/// Numbers as a list that grows.
+fn listed(alloc: Global, values: &[i64]) -> Result<Items<i64>, AllocError>
+    ensures { IfOk result (λ xs. xs ≡ values.now) }
+{
+    let mut list = Items::new(alloc);
+    for value in values {
+        list.push(*value)?;
+    }
+    Ok(list)
+}
+
+/// The arguments, the one that was pushed last at the end.
+fn arguments(alloc: Global, program: &Program, own: &Own, function: u32) -> Result<Items<i64>, Stop>
+    ensures { IfOk result (λ xs. xs
+        ≡ reverse (take (routine program.now function).args own.now.frame.operands)) }
+{
+    let count = args(program, function) as usize;
+    let operands = own.frame.operands.as_slice();
+    if operands.len() < count {
+        return Err(Stop::Unknown);
+    }
+    Ok(listed(alloc, &operands[operands.len() - count..])?)
+}
+
+/// The call of a subtask.
+fn call_of(
+    alloc: Global,
+    program: &Program,
+    own: &Own,
+    seen: &Seen,
+    function: u32,
+) -> Result<Call, Stop>
+    ensures { IfOk result (λ call. call ≡ def.call_of program.now own.now seen.now function) }
+{
+    Ok(Call {
+        function,
+        args: arguments(alloc, program, own, function)?,
+        environment: copy_items(alloc, &seen.environment)?,
+    })
+}
+
+/// The slots, with a handle if there is one.
+fn with_handle(slots: &[Held; 16], handle: Option<u8>, held: Held) -> [Held; 16]
+    ensures { result ≡ def.with_handle slots.now handle held }
+{
+    let mut after = *slots;
+    if let Some(slot) = handle {
+        set_held(&mut after, slot, held);
+    }
+    after
+}
+
+/// The scope with a new part, which has these ways.
+fn with_new_part(alloc: Global, seen: &Seen, ways: &Items<Way>) -> Result<Seen, AllocError>
+    ensures { IfOk result (λ x. x ≡ record seen.now {
+      parts = seen.now.parts ++ def.new_part ways.now seen.now ∷ [];
+    }) }
+{
+    let mut after = seen.copied(alloc)?;
+    after.parts.push(Part {
+        ways: copy_items(alloc, ways)?,
+        is_open: true,
+        is_early: !seen.has_failure,
+    })?;
+    Ok(after)
+}
+
+/// The state after a `fork` in a scope at this place. The new part has these ways.
+fn forked(
+    alloc: Global,
+    program: &Program,
+    own: &Own,
+    place: u32,
+    seen: &Seen,
+    ways: &Items<Way>,
+    function: u32,
+    handle: Option<u8>,
+) -> Result<Own, Stop>
+    ensures { IfOk result (λ o. o
+        ≡ def.forked program.now own.now place seen.now ways.now function handle) }
+{
+    let count = number(seen.parts.as_slice().len())?;
+    let after = with_new_part(alloc, seen, ways)?;
+    let frame = stepped(&own.frame, args(program, function) as usize)?;
+    let mut next = with_scope(alloc, own, place, after, frame)?;
+    next.held = with_handle(&own.held, handle, Held::Sub(place, count));
+    Ok(next)
+}
+
+/// The row of the new task's call, and the state after the `fork`.
+fn started(
+    alloc: Global,
+    program: &Program,
+    table: &[Row],
+    states: &[Own],
+    own: &Own,
+    place: u32,
+    seen: &Seen,
+    slot: u8,
+    function: u32,
+    handle: Option<u8>,
+) -> Result<(), Stop>
+    ensures { OnOk result (def.Forks program.now table.now states.now own.now slot function handle
+        place seen.now) }
+{
+    let call = call_of(alloc, program, own, seen, function)?;
+    let first = first_state(alloc, &call, Held::Lent)?;
+    let Some(row) = row_of(table, &call, &first) else {
+        return Err(Stop::Call(call));
+    };
+    let next = forked(
+        alloc, program, own, place, seen, &row.ways, function, handle,
+    )?;
+    leads(states, next)?;
+    Ok(())
+}
+
+/// The state after a `fork` in a scope that is known to be cancelled.
+fn unstarted(
+    alloc: Global,
+    program: &Program,
+    states: &[Own],
+    own: &Own,
+    place: u32,
+    seen: &Seen,
+    function: u32,
+    handle: Option<u8>,
+) -> Result<(), Stop>
+    ensures { OnOk result (def.Leads states.now
+        (def.forked program.now own.now place seen.now [] function handle)) }
+{
+    let none = Items::new(alloc);
+    leads(
+        states,
+        forked(alloc, program, own, place, seen, &none, function, handle)?,
+    )
+}
+
+/// The states after a `fork` in a scope at this place.
+fn forks_at(
+    alloc: Global,
+    program: &Program,
+    table: &[Row],
+    states: &[Own],
+    own: &Own,
+    place: u32,
+    seen: &Seen,
+    slot: u8,
+    function: u32,
+    handle: Option<u8>,
+) -> Result<(), Stop>
+    ensures { OnOk result (led.ForkLeads program.now table.now states.now own.now slot function
+        handle place seen.now) }
+{
+    if is_cancelled(seen.knowledge) {
+        unstarted(alloc, program, states, own, place, seen, function, handle)?;
+    } else {
+        started(
+            alloc, program, table, states, own, place, seen, slot, function, handle,
+        )?;
+    }
+    Ok(())
+}
+
+/// The states after a `fork`.
+pub fn forks(
+    alloc: Global,
+    program: &Program,
+    table: &[Row],
+    states: &[Own],
+    own: &Own,
+    slot: u8,
+    function: u32,
+    handle: Option<u8>,
+) -> Result<(), Stop>
+    ensures { OnOk result ((place : ℕ) → (seen : Seen) → def.Owns own.now slot place seen
+        → led.ForkLeads program.now table.now states.now own.now slot function handle place seen) }
+{
+    let (place, seen) = owned(own, slot)?;
+    forks_at(
+        alloc, program, table, states, own, place, seen, slot, function, handle,
+    )?;
+    Ok(())
+}

@@ -1,0 +1,155 @@
+//! What an owner knows of its subtasks after it looked.
+
+ghost use Rattle.std.specs.Prelude.{◌≡◌, [], ◌∷◌, IfOk, map, ◌<◌, length, true, not};
+ghost use Rattle.std.specs.List.{filter};
+ghost use Rattle.ends_table.specs.Led as led;
+ghost use Rattle.laws_calls.specs.Steps as def;
+ghost use Rattle.laws_calls.specs.declared.table.Way.{Way};
+
+use crate::counts::sure_count;
+use crate::joiners::{is_failure, is_success, is_trigger, is_unseen, most};
+use crate::places::with_part;
+use laws_calls::table::{Knowledge, Part, Seen, Way};
+use std::alloc::{AllocError, Global};
+use sts_code::Joiner;
+use sts_model::{End, Items};
+use sts_same::copied::{Copied, copy_items};
+
+/// The part has ended by this end.
+pub fn only(alloc: Global, end: End, part: &Part) -> Result<Part, AllocError>
+    ensures { IfOk result (λ x. x ≡ def.only end part.now) }
+{
+    let mut ways = Items::new(alloc);
+    ways.push(Way { end })?;
+    Ok(Part {
+        ways,
+        is_open: false,
+        is_early: part.is_early,
+    })
+}
+
+/// The part has ended.
+fn ended(alloc: Global, part: &Part) -> Result<Part, AllocError>
+    ensures { IfOk result (λ x. x ≡ def.ended part.now) }
+{
+    Ok(Part {
+        ways: copy_items(alloc, &part.ways)?,
+        is_open: false,
+        is_early: part.is_early,
+    })
+}
+
+/// Each part has ended.
+pub fn all_ended(alloc: Global, parts: &[Part]) -> Result<Items<Part>, AllocError>
+    ensures { IfOk result (λ xs. xs ≡ map def.ended parts.now) }
+{
+    let mut after = Items::new(alloc);
+    for part in parts {
+        after.push(ended(alloc, part)?)?;
+    }
+    Ok(after)
+}
+
+/// Is the end of this kind?
+pub fn is_of_kind(succeeds: bool, end: End) -> bool
+    ensures { result ≡ led.of_kind succeeds end }
+{
+    if succeeds {
+        is_success(end)
+    } else {
+        is_failure(end)
+    }
+}
+
+/// Is the end of this kind, and does it count towards a cancel, or not?
+fn is_split(joiner: Joiner, counting: bool, succeeds: bool, end: End) -> bool
+    ensures { result ≡ def.split joiner counting (led.of_kind succeeds) end }
+{
+    is_of_kind(succeeds, end) && is_trigger(joiner, end) == counting
+}
+
+/// The ways of this kind that count towards a cancel, or don't.
+fn split(
+    alloc: Global,
+    joiner: Joiner,
+    counting: bool,
+    succeeds: bool,
+    ways: &[Way],
+) -> Result<Items<Way>, AllocError>
+    ensures { IfOk result (λ xs. xs ≡ filter
+        (λ (way : Way). def.split joiner counting (led.of_kind succeeds) way.end) ways.now) }
+{
+    let mut kept = Items::new(alloc);
+    for way in ways {
+        if is_split(joiner, counting, succeeds, way.end) {
+            kept.push(*way)?;
+        }
+    }
+    Ok(kept)
+}
+
+/// The scope is known to be cancelled, if as many parts as cancel it have ended by ends that count.
+fn settled(seen: Seen) -> Seen
+    ensures { result ≡ def.settled seen }
+{
+    let mut seen = seen;
+    let count = sure_count(seen.joiner, seen.parts.as_slice());
+    if is_unseen(seen.knowledge) && most(seen.joiner) as usize <= count {
+        seen.knowledge = Knowledge::ByJoiner;
+    }
+    seen
+}
+
+/// The scope after its owner saw a failure, if there was one.
+fn noted(alloc: Global, seen: &Seen, succeeds: bool) -> Result<Seen, AllocError>
+    ensures { IfOk result (λ x. x ≡ led.noted succeeds seen.now) }
+{
+    let mut after = seen.copied(alloc)?;
+    if !succeeds {
+        after.has_failure = true;
+    }
+    Ok(after)
+}
+
+/// The scope after its owner saw that a part has ended by an end of this kind.
+pub fn told(
+    alloc: Global,
+    seen: &Seen,
+    i: u32,
+    part: &Part,
+    counting: bool,
+    succeeds: bool,
+) -> Result<Seen, AllocError>
+    requires { i < length seen.now.parts }
+    ensures { IfOk result (λ x. x ≡ def.told (led.noted succeeds seen.now) i part.now counting
+        (led.of_kind succeeds)) }
+{
+    let part = Part {
+        ways: split(alloc, seen.joiner, counting, succeeds, part.ways.as_slice())?,
+        is_open: false,
+        is_early: part.is_early,
+    };
+    let after = noted(alloc, seen, succeeds)?;
+    Ok(settled(with_part(alloc, &after, i, part)?))
+}
+
+/// The part had not ended when the owner looked.
+pub fn missed(
+    alloc: Global,
+    knowledge: Knowledge,
+    has_failure: bool,
+    part: &Part,
+) -> Result<Part, AllocError>
+    ensures { IfOk result (λ x. x ≡ def.missed knowledge has_failure part.now) }
+{
+    let mut after = part.copied(alloc)?;
+    match (knowledge, has_failure) {
+        (Knowledge::Unseen, false) => {}
+        (Knowledge::Unseen, true) => after.is_early = false,
+        _ => {
+            after.ways = Items::new(alloc);
+            after.is_open = true;
+        }
+    }
+    Ok(after)
+}

@@ -1,0 +1,116 @@
+//! Comparisons: if the answer is true, the two are the same.
+
+ghost use Rattle.std.specs.Prelude.{◌≡◌, true};
+
+use crate::table::{Asked, Call, Held, Own, Part, Seen, Way};
+use sts_model::Bound;
+use sts_same::same::{Same, same_items, same_slices};
+
+impl Same for Held {
+    fn same(&self, other: &Held) -> bool {
+        *self == *other
+    }
+}
+
+impl Same for Way {
+    fn same(&self, other: &Way) -> bool {
+        *self == *other
+    }
+}
+
+impl Same for Part {
+    fn same(&self, other: &Part) -> bool {
+        self.is_open == other.is_open
+            && self.is_early == other.is_early
+            && same_items(&self.ways, &other.ways)
+    }
+}
+
+fn same_bounds(a: &[Bound], b: &[Bound]) -> bool
+    ensures { result ≡ true → a.now ≡ b.now }
+{
+    if a.len() != b.len() {
+        return false;
+    }
+    for i in 0..a.len() {
+        if a[i] != b[i] {
+            return false;
+        }
+    }
+    true
+}
+
+/// Are the two scopes the same, apart from their environments and parts?
+fn same_facts(a: &Seen, b: &Seen) -> bool
+    ensures joiner { result ≡ true → a.now.joiner ≡ b.now.joiner }
+    ensures timed { result ≡ true → a.now.timed ≡ b.now.timed }
+    ensures phase { result ≡ true → a.now.phase ≡ b.now.phase }
+{
+    a.joiner == b.joiner && a.timed == b.timed && a.phase == b.phase
+}
+
+/// Is what the owner knows of a cancel the same, and whether it saw a failure?
+fn same_looks(a: &Seen, b: &Seen) -> bool
+    ensures knowledge { result ≡ true → a.now.knowledge ≡ b.now.knowledge }
+    ensures has_failure { result ≡ true → a.now.has_failure ≡ b.now.has_failure }
+{
+    a.knowledge == b.knowledge && a.has_failure == b.has_failure
+}
+
+/// Are the counts the same?
+fn same_count(a: Option<u32>, b: Option<u32>) -> bool
+    ensures { result ≡ true → a ≡ b }
+{
+    match (a, b) {
+        (None, None) => true,
+        (Some(one), Some(other)) => one == other,
+        _ => false,
+    }
+}
+
+/// Are the sums the same?
+fn same_total(a: Option<i64>, b: Option<i64>) -> bool
+    ensures { result ≡ true → a ≡ b }
+{
+    match (a, b) {
+        (None, None) => true,
+        (Some(one), Some(other)) => one == other,
+        _ => false,
+    }
+}
+
+/// Are the answers the same?
+fn same_asked(a: Asked, b: Asked) -> bool
+    ensures { result ≡ true → a ≡ b }
+{
+    same_count(a.successes, b.successes)
+        && same_count(a.failures, b.failures)
+        && same_count(a.unavailable, b.unavailable)
+        && same_total(a.total, b.total)
+}
+
+impl Same for Seen {
+    fn same(&self, other: &Seen) -> bool {
+        same_facts(self, other)
+            && same_looks(self, other)
+            && same_asked(self.asked, other.asked)
+            && same_bounds(self.environment.as_slice(), other.environment.as_slice())
+            && same_items(&self.parts, &other.parts)
+    }
+}
+
+impl Same for Own {
+    fn same(&self, other: &Own) -> bool {
+        self.frame.same(&other.frame)
+            && same_slices(&self.held, &other.held)
+            && same_items(&self.scopes, &other.scopes)
+    }
+}
+
+impl Same for Call {
+    fn same(&self, other: &Call) -> bool {
+        self.function == other.function
+            && same_items(&self.args, &other.args)
+            && same_bounds(self.environment.as_slice(), other.environment.as_slice())
+    }
+}
