@@ -29,17 +29,19 @@ def floors():
 
 
 def neighbours(is_writing):
-    """Fails if the last line of a crate's page doesn't say which crates it uses. Or writes these lines."""
-    for name, others in crates().items():
-        uses = ", ".join(f"`{it}`" for it in others) or "no other crate"
-        line = f"*Uses*: {uses}."
-        text = read(page(name))
-        said = re.search(r"\n(\*Uses\*: .*)\n\Z", text)
-        if is_writing:
-            with open(f"{ROOT}/{page(name)}", "w") as file:
-                file.write((text[: said.start()] if said else text.rstrip("\n") + "\n") + f"\n{line}\n")
-        elif not said or said[1] != line:
-            fail(f"{page(name)} doesn't say what it uses: python3 -m checks documents write")
+    """Fails if crates/README.md doesn't say next to each crate which crates it uses. Or writes this."""
+    table = read("crates/README.md")
+
+    def with_uses(row):
+        uses = ", ".join(f"`{it}`" for it in crates()[row[2]]) or "none"
+        return f"{row[1]} | {uses} |"
+
+    written = re.sub(r"^(\| \w[^|]*? \| \[`(\w+)`\]\(\w+/README\.md\) \| [^|]*?)(?: \| [^|]*)? \|$", with_uses, table, flags=re.M)
+    if is_writing:
+        with open(f"{ROOT}/crates/README.md", "w") as file:
+            file.write(written)
+    elif written != table:
+        fail("crates/README.md doesn't say what each crate uses: python3 -m checks documents write")
 
 
 def edits():

@@ -14,7 +14,7 @@ The subjects are modules of this folder:
 - `java`: lines of a Java program that its file doesn't have; figures of jdk/README.md that aren't those of a run of
   jdk/check.py; a wrong count of differences; an instruction that the table of the API in JDK.md lacks;
 - `constants`: another version, kit or number of states than the programs have;
-- `crates`: floors in crates/README.md that don't fit crates.txt; a page of a crate whose last line doesn't say what it uses;
+- `crates`: floors in crates/README.md that don't fit crates.txt; a crate there without the crates that it uses;
   an edit that doesn't say what it makes wrong; decisions next to a page that doesn't link to them; proofs used of another
   crate from a file that isn't called `*Lemmas`;
 - `figures`: a table of SPEED.md that doesn't show the last figures of bench/figures.csv.
