@@ -33,8 +33,8 @@ def neighbours(is_writing):
     table = read("crates/README.md")
 
     def with_uses(row):
-        uses = ", ".join(f"`{it}`" for it in crates()[row[2]]) or "none"
-        return f"{row[1]} | {uses} |"
+        uses = " ".join(crates()[row[2]])
+        return f"{row[1]} | {f'`{uses}`' if uses else 'none'} |"
 
     written = re.sub(r"^(\| \w[^|]*? \| \[`(\w+)`\]\(\w+/README\.md\) \| [^|]*?)(?: \| [^|]*)? \|$", with_uses, table, flags=re.M)
     if is_writing:
