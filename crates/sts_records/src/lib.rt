@@ -9,6 +9,5 @@
 mod given;
 mod held;
 mod pages;
-mod places;
 
 pub use held::Held;

@@ -10,7 +10,6 @@
 #![tactic(auto)]
 
 pub mod agreement;
-mod beginning;
 mod binding;
 mod closing;
 mod ending;

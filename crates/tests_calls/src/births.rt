@@ -33,13 +33,13 @@ fn write(held: &mut Held<u32>, birth: usize, body: u32) -> bool {
     }
 }
 
-/// Returns what a record had that is discarded, if the birth has one.
+/// Returns what a record had that is removed, if the birth has one.
 fn remove(held: &mut Held<u32>, birth: usize) -> Option<u32> {
-    let body = held.get(birth).copied();
-    if body.is_some() {
-        held.discard(birth);
+    if held.get(birth).is_some() {
+        Some(held.remove(birth))
+    } else {
+        None
     }
-    body
 }
 
 /// Returns the birth in the record under the key of this birth: the same birth.
