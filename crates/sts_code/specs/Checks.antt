@@ -2,7 +2,7 @@
 -- project's own).
 use Rattle.std.specs.Prelude.{ℕ, ◌+◌, ◌-◌, List, [], ◌∷◌, ◌++◌, length, Bool, false, Option, Some}
 use Rattle.std.specs.Prelude.{None, ◌&&◌, ◌||◌, ◌==◌, not, nat_le, nat_lt, if◌then◌else◌}
-use Rattle.std.specs.Prelude.{option_map, slice_get, codes}
+use Rattle.std.specs.Prelude.{unwrap_or, option_map, slice_get, codes}
 use Rattle.std.specs.List.{list_any}
 use Rattle.std.specs.Option.{option_or}
 use Rattle.std.specs.Str.{bytes_eq}
@@ -12,16 +12,14 @@ use Rattle.sts_code.specs.declared.checking.CodeCause.TheVariants.{BadTarget, La
 use Rattle.sts_code.specs.declared.checking.CodeCause.TheVariants.{BadRange, DuplicateName}
 use Rattle.sts_code.specs.declared.checking.CodeError.{CodeError}
 use Rattle.sts_code.specs.declared.instr.Instr.{Instr}
-use Rattle.sts_code.specs.declared.instr.Instr.TheVariants.{Load, Store, Times, Open}
-use Rattle.sts_code.specs.declared.instr.Instr.TheVariants.{Fork, Join, Close, Cancelled, Case, Get}
-use Rattle.sts_code.specs.declared.instr.Instr.TheVariants.{Except, Tally, Total, Forget, Bind}
-use Rattle.sts_code.specs.declared.instr.Instr.TheVariants.{Read, Bound, OrElse}
+use Rattle.sts_code.specs.declared.instr.Instr.TheVariants.{Fork}
 use Rattle.sts_code.specs.declared.instr.Joiner.{Joiner}
 use Rattle.sts_code.specs.declared.instr.Joiner.TheVariants.{Until}
 use Rattle.sts_code.specs.declared.instr.Pred.TheVariants as pred
 use Rattle.sts_code.specs.declared.limits.TheConstants.{MAX_FUNCTIONS, MAX_INSTRUCTIONS, MAX_ARGS}
 use Rattle.sts_code.specs.declared.limits.TheConstants.{LAST_SLOT, MAX_TURNS, MAX_ENDS}
 use Rattle.sts_code.specs.Facts.{targets}
+use Rattle.sts_code.specs.Shape.{Operand, Local, Turns, InSlot, Handle, Key, Rule, shape}
 use Rattle.sts_code.specs.Name.{is_name}
 use Rattle.sts_code.specs.Program.{Routine}
 
@@ -53,27 +51,29 @@ has_bad_count (Until (pred.Failed n)) = is_bad_count n
 has_bad_count (Until (pred.Success n)) = is_bad_count n
 has_bad_count _ = false
 
+-- an operand's test of its range, if it has one
+abbrev pub range_fault : Operand → Option Bool
+range_fault (Local x) = Some (is_past x)
+range_fault (Turns n) = Some (n == 0 || nat_lt MAX_TURNS n)
+range_fault (InSlot role x) = Some (is_past x)
+range_fault (Handle h) = Some (handle_is_past h)
+range_fault (Key k) = Some (is_past k)
+range_fault (Rule joiner) = Some (has_bad_count joiner)
+range_fault _ = None
+
+-- one of two tests
+abbrev pub either_fault : Option Bool → Option Bool → Option Bool
+either_fault None b = b
+either_fault (Some a) None = Some a
+either_fault (Some a) (Some b) = Some (a || b)
+
+abbrev pub any_fault : List Operand → Option Bool
+any_fault [] = None
+any_fault (operand ∷ rest) = either_fault (range_fault operand) (any_fault rest)
+
 -- a slot, local, key or number that is out of its range?
 abbrev pub has_bad_range : Instr → Bool
-has_bad_range (Load x) = is_past x
-has_bad_range (Store x) = is_past x
-has_bad_range (Times n) = n == 0 || nat_lt MAX_TURNS n
-has_bad_range (Open s joiner timed) = is_past s || has_bad_count joiner
-has_bad_range (Fork s f h) = is_past s || handle_is_past h
-has_bad_range (Join s failed timeout interrupted) = is_past s
-has_bad_range (Close s) = is_past s
-has_bad_range (Cancelled s) = is_past s
-has_bad_range (Case h success failed) = is_past h
-has_bad_range (Get h) = is_past h
-has_bad_range (Except h) = is_past h
-has_bad_range (Tally s kind) = is_past s
-has_bad_range (Total s) = is_past s
-has_bad_range (Forget h) = is_past h
-has_bad_range (Bind k) = is_past k
-has_bad_range (Read k) = is_past k
-has_bad_range (Bound k) = is_past k
-has_bad_range (OrElse k) = is_past k
-has_bad_range _ = false
+has_bad_range instr = unwrap_or (any_fault (shape instr).operands) false
 
 -- the fault of an instruction, in the function at this index, which has n instructions
 abbrev pub instr_cause : ℕ → ℕ → Instr → Option CodeCause

@@ -3,3 +3,4 @@ pub mod Facts
 pub mod Loops
 pub mod Name
 pub mod Program
+pub mod Shape
