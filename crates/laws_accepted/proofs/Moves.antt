@@ -90,7 +90,7 @@ case_among (Some (Success v)) success failed next = inl refl
 case_among (Some (Failed c)) success failed next = inr (inl refl)
 
 abbrev Targets : Option ℕ → Option ℕ → ℕ → ℕ → List ℕ
-Targets failed timeout interrupted next = (option_to_list failed ++ option_to_list timeout ++ interrupted ∷ []) ++ next ∷ []
+Targets failed timeout interrupted next = (option_to_list failed ++ (option_to_list timeout ++ interrupted ∷ [])) ++ next ∷ []
 
 among_failed : (failed timeout : Option ℕ) (interrupted next : ℕ) → is_some failed ≡ true → Among (Targets failed timeout interrupted next) (unwrap_or failed 0)
 among_failed (Some q) timeout interrupted next e = inl refl

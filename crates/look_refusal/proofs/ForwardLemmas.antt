@@ -54,7 +54,7 @@ skip_later : (code : List Instr) (pc : ℕ) (s : TypeState) (o : Option ℕ) →
 skip_later code pc s None e = tt
 skip_later code pc s (Some q) e = let after = (ends code pc q e).after in (omega arith, tt)
 
-join_later : (pc : ℕ) (failed timeout : Option ℕ) (interrupted : ℕ) (a b c : TypeState) → ArePast pc (option_to_list failed ++ option_to_list timeout ++ interrupted ∷ []) → AreLater pc (to_optional failed a ++ to_optional timeout b ++ (interrupted, c) ∷ [])
+join_later : (pc : ℕ) (failed timeout : Option ℕ) (interrupted : ℕ) (a b c : TypeState) → ArePast pc (option_to_list failed ++ (option_to_list timeout ++ interrupted ∷ [])) → AreLater pc (to_optional failed a ++ to_optional timeout b ++ (interrupted, c) ∷ [])
 join_later pc None None i a b c h = h
 join_later pc None (Some t) i a b c h = h
 join_later pc (Some f) None i a b c h = h

@@ -136,9 +136,9 @@ spelled_as p names found other (i.Fork s f h) e k t g =
     let b = either (is_past s) (handle_is_past h) e in
     (slot s, (routine p f).name, handle h, refl, slot_good s b.0, g, handle_good h b.1)
 spelled_as p names found other (i.Join s failed timeout r) e f t g =
-    let a = all_split (Labels names found) (option_to_list failed ++ option_to_list timeout) (r ∷ []) t in
-    let b = all_split (Labels names found) (option_to_list failed) (option_to_list timeout) a.0 in
-    (slot s, maybe_label failed, maybe_label timeout, label r, refl, slot_good s e, maybe_good names found failed b.0, maybe_good names found timeout b.1, target_good names found r a.1.0)
+    let a = all_split (Labels names found) (option_to_list failed) (option_to_list timeout ++ r ∷ []) t in
+    let b = all_split (Labels names found) (option_to_list timeout) (r ∷ []) a.1 in
+    (slot s, maybe_label failed, maybe_label timeout, label r, refl, slot_good s e, maybe_good names found failed a.0, maybe_good names found timeout b.0, target_good names found r b.1.0)
 spelled_as p names found other (i.Case h s f) e k t g = (slot h, label s, label f, refl, slot_good h e, target_good names found s t.0, target_good names found f t.1.0)
 spelled_as p names found other (i.Tally s k) e f t g = (slot s, kind_word k, refl, slot_good s e, kind_good k)
 spelled_as p names found other _ e f t g = refl
@@ -226,9 +226,9 @@ operands_are_words p names found other (i.Fork s f h) e k t g =
     let b = either (is_past s) (handle_is_past h) e in
     (slot_is_word s b.0, (name_word (routine p f).name g.0, (handle_is_word h b.1, tt)))
 operands_are_words p names found other (i.Join s failed timeout r) e f t g =
-    let a = all_split (Labels names found) (option_to_list failed ++ option_to_list timeout) (r ∷ []) t in
-    let b = all_split (Labels names found) (option_to_list failed) (option_to_list timeout) a.0 in
-    (slot_is_word s e, (maybe_is_word names found failed b.0, (maybe_is_word names found timeout b.1, (label_is_word names found r a.1.0, tt))))
+    let a = all_split (Labels names found) (option_to_list failed) (option_to_list timeout ++ r ∷ []) t in
+    let b = all_split (Labels names found) (option_to_list timeout) (r ∷ []) a.1 in
+    (slot_is_word s e, (maybe_is_word names found failed a.0, (maybe_is_word names found timeout b.0, (label_is_word names found r b.1.0, tt))))
 operands_are_words p names found other (i.Case h s f) e k t g = (slot_is_word h e, (label_is_word names found s t.0, (label_is_word names found f t.1.0, tt)))
 operands_are_words p names found other (i.Tally s k) e f t g = (slot_is_word s e, (kind_is_word k, tt))
 operands_are_words p names found other _ e f t g = tt

@@ -68,7 +68,7 @@ next_leads code pc i y to x f (inl l) = inr (inl (l.0, f))
 next_leads code pc i y to x f (inr m) = elim m [ ]
 
 abbrev Targets : Option ℕ → Option ℕ → ℕ → List ℕ
-Targets failed timeout interrupted = option_to_list failed ++ option_to_list timeout ++ interrupted ∷ []
+Targets failed timeout interrupted = option_to_list failed ++ (option_to_list timeout ++ interrupted ∷ [])
 
 join_leads : (failed timeout : Option ℕ) (interrupted : ℕ) (a b c : TypeState) (to : ℕ) (x : TypeState) → Leads (to_optional failed a ++ to_optional timeout b ++ (interrupted, c) ∷ []) to x → Among (Targets failed timeout interrupted) to
 join_leads None None i a b c to x (inl l) = inl l.0
