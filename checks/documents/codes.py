@@ -1,24 +1,18 @@
-"""The table of instructions and the index of codes in LANGUAGE.md."""
+"""The causes in the table of instructions, and the index of codes, in LANGUAGE.md."""
 import os
 import re
 
+from checks.documents.instructions import table, words_of
 from checks.documents.pages import FOLDER, fail, read
-from checks.models.stack_code import OPERANDS
 from checks.programs import ROOT
 
 
 def instructions(path):
-    """Fails if the table of instructions doesn't have each instruction once, or lacks a cause of a row that refuses it."""
-    table = re.search(r"^\| Instruction \|.*?\n\n", read(path), re.M | re.S)[0]
+    """Fails if the table of instructions lacks a cause of a row that refuses an instruction, or names one that no row has."""
     known = {}
-    for line in table.splitlines()[2:-1]:
-        first, *_, named = (it.strip() for it in line.strip("|").split("|"))
-        for word in dict.fromkeys(it.split(" ")[0] for it in re.findall(r"`([^`]*)`", first)):
-            if word in known:
-                fail(f"{path} has {word} twice in its table of instructions")
-            known[word] = {*re.findall(r"V\d+", named), "V1", "V2", "V3", "V7", "V8"}
-    if set(known) != set(OPERANDS):
-        fail(f"{path} doesn't have each instruction in its table: {sorted(set(known) ^ set(OPERANDS))}")
+    for line in table():
+        for word in words_of(line):
+            known[word] = {*re.findall(r"V\d+", line.strip("|").split("|")[-1]), "V1", "V2", "V3", "V7", "V8"}
     met = set()
     for name in os.listdir(f"{ROOT}/{FOLDER}"):
         for cause, word in re.findall(r"^= 4 refused (V\d+) in \w+ at \d+: (?!end$)(\w+)", read(f"{FOLDER}/{name}"), re.M):

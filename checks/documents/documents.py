@@ -9,7 +9,9 @@ The subjects are modules of this folder:
 - `links`: a document that names a file or a heading that isn't there, or a part of a program that no example has; an example
   that isn't shown, or says that it prints something else; a refused text that no document names; a program on one line;
   a picture that isn't what its script draws;
-- `codes`: an instruction, a cause of one, or a cause in the index of codes that LANGUAGE.md lacks;
+- `instructions`: words and operands of an instruction in LANGUAGE.md, or a number of operands on its stack, that Shape.antt of
+  sts_code doesn't have;
+- `codes`: a cause of an instruction, or a cause in the index of codes, that LANGUAGE.md lacks;
 - `contracts`: a line of a contract that no source has, a function or a clause that PROOFS.md names and its file doesn't have;
 - `java`: lines of a Java program that its file doesn't have; figures of jdk/README.md that aren't those of a run of
   jdk/check.py; a wrong count of differences; an instruction that the table of the API in JDK.md lacks;
@@ -24,7 +26,7 @@ import sys
 
 from checks.documents.pages import Wrong
 
-SUBJECTS = ("tables", "links", "codes", "contracts", "java", "constants", "crates", "figures")
+SUBJECTS = ("tables", "links", "instructions", "codes", "contracts", "java", "constants", "crates", "figures")
 
 
 def wrong(subject, is_writing):

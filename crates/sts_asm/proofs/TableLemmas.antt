@@ -1,5 +1,5 @@
 use Rattle.std.proofs.Common.{◌≡◌, ℕ, ◌^◌, ◌-◌, Bool, true, false, cond, List, [], ◌∷◌, ◌++◌, refl}
-use Rattle.std.proofs.Common.{◌∙◌, ap, ◌⊎◌, inl, inr}
+use Rattle.std.proofs.Common.{◌∙◌, ap, sym, ◌⊎◌, inl, inr, append-nil}
 use Rattle.std.specs.Prelude.{Option, Some, None, option_map, Result, Ok, Err, ℤ, codes}
 use Rattle.std.specs.List.{AllByRecursion}
 use Rattle.std.specs.Option.{option_or}
@@ -7,6 +7,7 @@ use Rattle.std.specs.Str.{bytes_eq}
 use Rattle.std.proofs.lemmas.Slice.Eq.{bytes_eq-Decides}
 use Rattle.sts_code.specs.Name.{is_name}
 use Rattle.sts_code.specs.declared.instr.Instr.{Instr}
+use Rattle.sts_code.specs.Shape.{Operand, shape}
 use Rattle.sts_code.specs.declared.instr.Instr.TheVariants as i
 use Rattle.sts_code.specs.declared.instr.Joiner.{Joiner}
 use Rattle.sts_code.specs.declared.instr.Joiner.TheVariants.{AllSucceed, AnySucceeds, AwaitOk}
@@ -35,9 +36,9 @@ use Rattle.sts_asm.specs.declared.mnemonic.Slotted.TheVariants as slotted
 use Rattle.sts_asm.specs.declared.mnemonic.Targeted.{Targeted}
 use Rattle.sts_asm.specs.declared.mnemonic.Targeted.TheVariants as targeted
 use Rattle.sts_asm.specs.Line.{plain_words, numbered_words, slotted_words, other_words, with_number}
-use Rattle.sts_asm.specs.Line.{with_slot, with_target, operated, known, mnemonic_of, instr_of}
+use Rattle.sts_asm.specs.Line.{with_slot, with_target, operated, known, mnemonic_of, instr_of, sample}
 use Rattle.sts_asm.specs.Table.{Spells, IsLabel, IsMaybeLabel, IsFunction, IsHandle, IsKind}
-use Rattle.sts_asm.specs.Table.{IsNumbered, IsSlotted, IsTargeted, IsJoiner, IsTimed, ReadByTable}
+use Rattle.sts_asm.specs.Table.{IsWord, IsJoiner, IsTimed, ReadByTable}
 
 -- ---- from the table to what is read
 
@@ -85,41 +86,29 @@ kind_read _ u e = rw e refl
 
 -- what the table says is read
 pub spelled_read : (names : Option Names) (instr : Instr) (words : List (List ℕ)) → Spells names instr words → instr_of names words ≡ Ok instr
-spelled_read names (i.Push k) words (w, e, n) = rw (e, n) refl
-spelled_read names i.Pop words e = rw e refl
-spelled_read names i.Dup words e = rw e refl
-spelled_read names i.Swap words e = rw e refl
-spelled_read names i.Add words e = rw e refl
-spelled_read names i.Sub words e = rw e refl
-spelled_read names i.Mul words e = rw e refl
-spelled_read names i.Lt words e = rw e refl
-spelled_read names i.Eq words e = rw e refl
-spelled_read names i.Next words e = rw e refl
-spelled_read names i.Unbind words e = rw e refl
-spelled_read names i.Interrupted words e = rw e refl
-spelled_read names i.Ret words e = rw e refl
-spelled_read names i.Fail words e = rw e refl
-spelled_read names (i.Load n) words (w, e, h) = rw (e, h) refl
-spelled_read names (i.Store n) words (w, e, h) = rw (e, h) refl
-spelled_read names (i.Bind n) words (w, e, h) = rw (e, h) refl
-spelled_read names (i.Read n) words (w, e, h) = rw (e, h) refl
-spelled_read names (i.Bound n) words (w, e, h) = rw (e, h) refl
-spelled_read names (i.OrElse n) words (w, e, h) = rw (e, h) refl
-spelled_read names (i.Times n) words (w, e, h) = rw (e, h) refl
-spelled_read names (i.Div to) words (w, e, h) = rw (e, h.0, h.1) refl
-spelled_read names (i.Jmp to) words (w, e, h) = rw (e, h.0, h.1) refl
-spelled_read names (i.Jz to) words (w, e, h) = rw (e, h.0, h.1) refl
-spelled_read names (i.Close s) words (w, e, h) = rw (e, h) refl
-spelled_read names (i.Cancelled s) words (w, e, h) = rw (e, h) refl
-spelled_read names (i.Get s) words (w, e, h) = rw (e, h) refl
-spelled_read names (i.Except s) words (w, e, h) = rw (e, h) refl
-spelled_read names (i.Total s) words (w, e, h) = rw (e, h) refl
-spelled_read names (i.Forget s) words (w, e, h) = rw (e, h) refl
-spelled_read names (i.Open s j t) words (w, js, ts, e, p, q, r) = rw (e, p, joiner_read j js ts q, timed_read t ts r) refl
-spelled_read names (i.Fork s f h) words (w, v, u, e, p, q, r) = rw (e, p, q.0, q.1, handle_read h u r) refl
-spelled_read names (i.Join s f t r) words (w, a, b, c, e, p, q, m, n) = rw (e, p, maybe_read names f a (b ∷ c ∷ []) q, maybe_read names t b (c ∷ []) m, target_read names r c [] n) refl
-spelled_read names (i.Case h s f) words (w, a, b, e, p, q, r) = rw (e, p, target_read names s a (b ∷ []) q, target_read names f b [] r) refl
-spelled_read names (i.Tally s k) words (w, u, e, p, q) = rw (e, p, kind_read k u q) refl
+spelled_read names (i.Push k) words (r, e, (o, s, f, (w, g, h), l)) = rw (e, f, g, l, h) refl
+spelled_read names (i.Load n) words (r, e, (o, s, f, (w, g, h), l)) = rw (e, f, g, l, h) refl
+spelled_read names (i.Store n) words (r, e, (o, s, f, (w, g, h), l)) = rw (e, f, g, l, h) refl
+spelled_read names (i.Bind n) words (r, e, (o, s, f, (w, g, h), l)) = rw (e, f, g, l, h) refl
+spelled_read names (i.Read n) words (r, e, (o, s, f, (w, g, h), l)) = rw (e, f, g, l, h) refl
+spelled_read names (i.Bound n) words (r, e, (o, s, f, (w, g, h), l)) = rw (e, f, g, l, h) refl
+spelled_read names (i.OrElse n) words (r, e, (o, s, f, (w, g, h), l)) = rw (e, f, g, l, h) refl
+spelled_read names (i.Times n) words (r, e, (o, s, f, (w, g, h), l)) = rw (e, f, g, l, h) refl
+spelled_read names (i.Close x) words (r, e, (o, s, f, (w, g, h), l)) = rw (e, f, g, l, h) refl
+spelled_read names (i.Cancelled x) words (r, e, (o, s, f, (w, g, h), l)) = rw (e, f, g, l, h) refl
+spelled_read names (i.Get x) words (r, e, (o, s, f, (w, g, h), l)) = rw (e, f, g, l, h) refl
+spelled_read names (i.Except x) words (r, e, (o, s, f, (w, g, h), l)) = rw (e, f, g, l, h) refl
+spelled_read names (i.Total x) words (r, e, (o, s, f, (w, g, h), l)) = rw (e, f, g, l, h) refl
+spelled_read names (i.Forget x) words (r, e, (o, s, f, (w, g, h), l)) = rw (e, f, g, l, h) refl
+spelled_read names (i.Div to) words (r, e, (o, s, f, (w, g, h), l)) = rw (e, f, g, l, h.0, h.1) refl
+spelled_read names (i.Jmp to) words (r, e, (o, s, f, (w, g, h), l)) = rw (e, f, g, l, h.0, h.1) refl
+spelled_read names (i.Jz to) words (r, e, (o, s, f, (w, g, h), l)) = rw (e, f, g, l, h.0, h.1) refl
+spelled_read names (i.Open x j t) words (r, e, (o, s, f, (w, g, h), (js, u, k, m, (ts, v, n, q, l)))) = rw (e, f, g, k, n, l, h, append-nil ts, joiner_read j js ts m, timed_read t ts q) refl
+spelled_read names (i.Fork x f h) words (r, e, (o, s, a, (w, b, c), (o1, s1, a1, (w1, b1, c1), (o2, s2, a2, (w2, b2, c2), l)))) = rw (e, a, b, a1, b1, a2, b2, l, c, c1.0, c1.1, handle_read h w2 c2) refl
+spelled_read names (i.Join x f t to) words (r, e, (o, s, a, (w, b, c), (o1, s1, a1, (w1, b1, c1), (o2, s2, a2, (w2, b2, c2), (o3, s3, a3, (w3, b3, c3), l))))) = rw (e, a, b, a1, b1, a2, b2, a3, b3, l, c, maybe_read names f w1 (w2 ∷ w3 ∷ []) c1, maybe_read names t w2 (w3 ∷ []) c2, target_read names to w3 [] c3) refl
+spelled_read names (i.Case h x f) words (r, e, (o, s, a, (w, b, c), (o1, s1, a1, (w1, b1, c1), (o2, s2, a2, (w2, b2, c2), l)))) = rw (e, a, b, a1, b1, a2, b2, l, c, target_read names x w1 (w2 ∷ []) c1, target_read names f w2 [] c2) refl
+spelled_read names (i.Tally x k) words (r, e, (o, s, a, (w, b, c), (o1, s1, a1, (w1, b1, c1), l))) = rw (e, a, b, a1, b1, l, c, kind_read k w1 c1) refl
+spelled_read names _ words (r, e, l) = rw (e, l) refl
 
 -- ---- from what is read to the table
 
@@ -272,50 +261,55 @@ timed_found : (words : List (List ℕ)) (p : Bool × List (List ℕ)) → timed_
 timed_found [] p e none = let h = parts false [] p e in rw (← h.0) refl
 timed_found (w ∷ rest) p e none = timed_if (bytes_eq w (codes "timed")) w rest p refl e none
 
--- the operands of this first word are read as the table says
-abbrev IsRight : List ℕ → Mnemonic → Type 0
-IsRight word m = (names : Option Names) (rest : List (List ℕ)) (instr : Instr) → operated names m rest ≡ Ok instr → Spells names instr (word ∷ rest)
+-- the operands that follow the first word of this mnemonic are read as its row says
+abbrev IsRight : Mnemonic → Type 0
+IsRight m = (names : Option Names) (rest : List (List ℕ)) (instr : Instr) → operated names m rest ≡ Ok instr → Spells names instr ((shape (sample m)).word ∷ rest)
 
-plain_right : (word : List ℕ) (x : Instr) → ((names : Option Names) → Spells names x (word ∷ [])) → IsRight word (Plain x)
-plain_right word x row names rest instr e = let f = finished_ok x instr rest e in rw (f.0, ← f.1) (row names)
+number_row : (m : Numbered) (names : Option Names) (n : ℕ) (rest : List (List ℕ)) → IsWord (λ w. number_up_to 255 w ≡ Some n) rest → Spells names (with_number m n) ((shape (with_number m 0)).word ∷ rest)
+number_row numbered.Load names n rest h = (rest, refl, (rest, [], sym (append-nil rest), h, refl))
+number_row _ names n rest h = (rest, refl, (rest, [], sym (append-nil rest), h, refl))
 
-number_right : (word : List ℕ) (m : Numbered) → ((names : Option Names) (n : ℕ) (words : List (List ℕ)) → IsNumbered word 255 n words → Spells names (with_number m n) words) → IsRight word (WithNumber m)
-number_right word m row names rest instr e =
+slot_row : (m : Slotted) (names : Option Names) (s : ℕ) (rest : List (List ℕ)) → IsWord (λ w. slot w ≡ Some s) rest → Spells names (with_slot m s) ((shape (with_slot m 0)).word ∷ rest)
+slot_row slotted.Close names s rest h = (rest, refl, (rest, [], sym (append-nil rest), h, refl))
+slot_row _ names s rest h = (rest, refl, (rest, [], sym (append-nil rest), h, refl))
+
+target_row : (m : Targeted) (names : Option Names) (to : ℕ) (rest : List (List ℕ)) → IsWord (IsLabel names to) rest → Spells names (with_target m to) ((shape (with_target m 0)).word ∷ rest)
+target_row targeted.Div names to rest h = (rest, refl, (rest, [], sym (append-nil rest), h, refl))
+target_row _ names to rest h = (rest, refl, (rest, [], sym (append-nil rest), h, refl))
+
+-- the operands of the instruction that a mnemonic is, if it has none to be read
+abbrev left_over : Mnemonic → List Operand
+left_over (Plain instr) = (shape instr).operands
+left_over _ = []
+
+right : (m : Mnemonic) → left_over m ≡ [] → IsRight m
+right (Plain x) none names rest instr e = let f = finished_ok x instr rest e in rw (← f.1) (rest, refl, rw none f.0)
+right (WithNumber m) none names rest instr e =
     let b = bind_ok (number_at 255 rest) (λ x. finished (with_number m x.0) x.1) instr e in
     let n = number_found 255 rest b.0 b.1 in
     let f = finished_ok (with_number m b.0.0) instr b.0.1 b.2 in
-    rw (← f.1) (row names b.0.0 (word ∷ rest) (n.0, ap (λ (r : List (List ℕ)). word ∷ r) (n.1 ∙ ap (λ (r : List (List ℕ)). n.0 ∷ r) f.0), n.2))
-
-slot_right : (word : List ℕ) (m : Slotted) → ((names : Option Names) (s : ℕ) (words : List (List ℕ)) → IsSlotted word s words → Spells names (with_slot m s) words) → IsRight word (WithSlot m)
-slot_right word m row names rest instr e =
+    rw (← f.1) (number_row m names b.0.0 rest (n.0, n.1 ∙ ap (λ (r : List (List ℕ)). n.0 ∷ r) f.0, n.2))
+right (WithSlot m) none names rest instr e =
     let b = bind_ok (slot_at rest) (λ s. finished (with_slot m s.0) s.1) instr e in
     let n = slot_found rest b.0 b.1 in
     let f = finished_ok (with_slot m b.0.0) instr b.0.1 b.2 in
-    rw (← f.1) (row names b.0.0 (word ∷ rest) (n.0, ap (λ (r : List (List ℕ)). word ∷ r) (n.1 ∙ ap (λ (r : List (List ℕ)). n.0 ∷ r) f.0), n.2))
-
-target_right : (word : List ℕ) (m : Targeted) → ((names : Option Names) (to : ℕ) (words : List (List ℕ)) → IsTargeted names word to words → Spells names (with_target m to) words) → IsRight word (WithTarget m)
-target_right word m row names rest instr e =
+    rw (← f.1) (slot_row m names b.0.0 rest (n.0, n.1 ∙ ap (λ (r : List (List ℕ)). n.0 ∷ r) f.0, n.2))
+right (WithTarget m) none names rest instr e =
     let b = bind_ok (target_at names rest) (λ to. finished (with_target m to.0) to.1) instr e in
     let n = target_found names rest b.0 b.1 in
     let f = finished_ok (with_target m b.0.0) instr b.0.1 b.2 in
-    rw (← f.1) (row names b.0.0 (word ∷ rest) (n.0, ap (λ (r : List (List ℕ)). word ∷ r) (n.1 ∙ ap (λ (r : List (List ℕ)). n.0 ∷ r) f.0), n.2))
-
-push_right : IsRight (codes "push") Push
-push_right names rest instr e =
+    rw (← f.1) (target_row m names b.0.0 rest (n.0, n.1 ∙ ap (λ (r : List (List ℕ)). n.0 ∷ r) f.0, n.2))
+right Push none names rest instr e =
     let b = bind_ok (value_at rest) (λ k. finished (i.Push k.0) k.1) instr e in
     let n = value_found rest b.0 b.1 in
     let f = finished_ok (i.Push b.0.0) instr b.0.1 b.2 in
-    rw (← f.1) (n.0, ap (λ (r : List (List ℕ)). codes "push" ∷ r) (n.1 ∙ ap (λ (r : List (List ℕ)). n.0 ∷ r) f.0), n.2)
-
-times_right : IsRight (codes "times") Times
-times_right names rest instr e =
+    rw (← f.1) (rest, refl, (n.0 ∷ [], b.0.1, n.1, (n.0, refl, n.2), f.0))
+right Times none names rest instr e =
     let b = bind_ok (number_at (2 ^ 16 - 1) rest) (λ n. finished (i.Times n.0) n.1) instr e in
     let n = number_found (2 ^ 16 - 1) rest b.0 b.1 in
     let f = finished_ok (i.Times b.0.0) instr b.0.1 b.2 in
-    rw (← f.1) (n.0, ap (λ (r : List (List ℕ)). codes "times" ∷ r) (n.1 ∙ ap (λ (r : List (List ℕ)). n.0 ∷ r) f.0), n.2)
-
-open_right : IsRight (codes "open") Open
-open_right names rest instr e =
+    rw (← f.1) (rest, refl, (n.0 ∷ [], b.0.1, n.1, (n.0, refl, n.2), f.0))
+right Open none names rest instr e =
     let a = bind_ok (slot_at rest) (λ s. joiner_at s.1 >>= λ j. timed_at j.1 >>= λ t. finished (i.Open s.0 j.0 t.0) t.1) instr e in
     let b = bind_ok (joiner_at a.0.1) (λ j. timed_at j.1 >>= λ t. finished (i.Open a.0.0 j.0 t.0) t.1) instr a.2 in
     let c = bind_ok (timed_at b.0.1) (λ t. finished (i.Open a.0.0 b.0.0 t.0) t.1) instr b.2 in
@@ -323,19 +317,8 @@ open_right names rest instr e =
     let j = joiner_found a.0.1 b.0 b.1 in
     let f = finished_ok (i.Open a.0.0 b.0.0 c.0.0) instr c.0.1 c.2 in
     let t = timed_found b.0.1 c.0 c.1 f.0 in
-    rw (← f.1) (s.0, j.front, b.0.1, ap (λ (r : List (List ℕ)). codes "open" ∷ r) (s.1 ∙ ap (λ (r : List (List ℕ)). s.0 ∷ r) j.whole), s.2, j.is, t)
-
-two : (k a b : List ℕ) (r s t : List (List ℕ)) → r ≡ a ∷ s → s ≡ b ∷ t → t ≡ [] → k ∷ r ≡ k ∷ a ∷ b ∷ []
-two k a b r s t e f g = rw (e, f, g) refl
-
-three : (k a b c : List ℕ) (r s t u : List (List ℕ)) → r ≡ a ∷ s → s ≡ b ∷ t → t ≡ c ∷ u → u ≡ [] → k ∷ r ≡ k ∷ a ∷ b ∷ c ∷ []
-three k a b c r s t u e f g h = rw (e, f, g, h) refl
-
-four : (k a b c d : List ℕ) (r s t u v : List (List ℕ)) → r ≡ a ∷ s → s ≡ b ∷ t → t ≡ c ∷ u → u ≡ d ∷ v → v ≡ [] → k ∷ r ≡ k ∷ a ∷ b ∷ c ∷ d ∷ []
-four k a b c d r s t u v e f g h j = rw (e, f, g, h, j) refl
-
-fork_right : IsRight (codes "fork") Fork
-fork_right names rest instr e =
+    rw (← f.1) (rest, refl, (s.0 ∷ [], a.0.1, s.1, (s.0, refl, s.2), (j.front, b.0.1, j.whole, j.is, (b.0.1, [], sym (append-nil b.0.1), t, refl))))
+right Fork none names rest instr e =
     let a = bind_ok (slot_at rest) (λ s. function_at names s.1 >>= λ f. handle_at f.1 >>= λ h. finished (i.Fork s.0 f.0 h.0) h.1) instr e in
     let b = bind_ok (function_at names a.0.1) (λ f. handle_at f.1 >>= λ h. finished (i.Fork a.0.0 f.0 h.0) h.1) instr a.2 in
     let c = bind_ok (handle_at b.0.1) (λ h. finished (i.Fork a.0.0 b.0.0 h.0) h.1) instr b.2 in
@@ -343,10 +326,8 @@ fork_right names rest instr e =
     let g = function_found names a.0.1 b.0 b.1 in
     let h = handle_found b.0.1 c.0 c.1 in
     let f = finished_ok (i.Fork a.0.0 b.0.0 c.0.0) instr c.0.1 c.2 in
-    rw (← f.1) (s.0, g.0, h.0, three (codes "fork") s.0 g.0 h.0 rest a.0.1 b.0.1 c.0.1 s.1 g.1 h.1 f.0, s.2, g.2, h.2)
-
-join_right : IsRight (codes "join") Join
-join_right names rest instr e =
+    rw (← f.1) (rest, refl, (s.0 ∷ [], a.0.1, s.1, (s.0, refl, s.2), (g.0 ∷ [], b.0.1, g.1, (g.0, refl, g.2), (h.0 ∷ [], c.0.1, h.1, (h.0, refl, h.2), f.0))))
+right Join none names rest instr e =
     let a = bind_ok (slot_at rest) (λ s. maybe_target_at names s.1 >>= λ f. maybe_target_at names f.1 >>= λ t. target_at names t.1 >>= λ r. finished (i.Join s.0 f.0 t.0 r.0) r.1) instr e in
     let b = bind_ok (maybe_target_at names a.0.1) (λ f. maybe_target_at names f.1 >>= λ t. target_at names t.1 >>= λ r. finished (i.Join a.0.0 f.0 t.0 r.0) r.1) instr a.2 in
     let c = bind_ok (maybe_target_at names b.0.1) (λ t. target_at names t.1 >>= λ r. finished (i.Join a.0.0 b.0.0 t.0 r.0) r.1) instr b.2 in
@@ -356,10 +337,8 @@ join_right names rest instr e =
     let y = maybe_found names b.0.1 c.0 c.1 in
     let z = target_found names c.0.1 d.0 d.1 in
     let f = finished_ok (i.Join a.0.0 b.0.0 c.0.0 d.0.0) instr d.0.1 d.2 in
-    rw (← f.1) (s.0, x.0, y.0, z.0, four (codes "join") s.0 x.0 y.0 z.0 rest a.0.1 b.0.1 c.0.1 d.0.1 s.1 x.1 y.1 z.1 f.0, s.2, x.2, y.2, z.2)
-
-case_right : IsRight (codes "case") Case
-case_right names rest instr e =
+    rw (← f.1) (rest, refl, (s.0 ∷ [], a.0.1, s.1, (s.0, refl, s.2), (x.0 ∷ [], b.0.1, x.1, (x.0, refl, x.2), (y.0 ∷ [], c.0.1, y.1, (y.0, refl, y.2), (z.0 ∷ [], d.0.1, z.1, (z.0, refl, z.2), f.0)))))
+right Case none names rest instr e =
     let a = bind_ok (slot_at rest) (λ h. target_at names h.1 >>= λ s. target_at names s.1 >>= λ f. finished (i.Case h.0 s.0 f.0) f.1) instr e in
     let b = bind_ok (target_at names a.0.1) (λ s. target_at names s.1 >>= λ f. finished (i.Case a.0.0 s.0 f.0) f.1) instr a.2 in
     let c = bind_ok (target_at names b.0.1) (λ f. finished (i.Case a.0.0 b.0.0 f.0) f.1) instr b.2 in
@@ -367,121 +346,14 @@ case_right names rest instr e =
     let x = target_found names a.0.1 b.0 b.1 in
     let y = target_found names b.0.1 c.0 c.1 in
     let f = finished_ok (i.Case a.0.0 b.0.0 c.0.0) instr c.0.1 c.2 in
-    rw (← f.1) (s.0, x.0, y.0, three (codes "case") s.0 x.0 y.0 rest a.0.1 b.0.1 c.0.1 s.1 x.1 y.1 f.0, s.2, x.2, y.2)
-
-tally_right : IsRight (codes "tally") Tally
-tally_right names rest instr e =
+    rw (← f.1) (rest, refl, (s.0 ∷ [], a.0.1, s.1, (s.0, refl, s.2), (x.0 ∷ [], b.0.1, x.1, (x.0, refl, x.2), (y.0 ∷ [], c.0.1, y.1, (y.0, refl, y.2), f.0))))
+right Tally none names rest instr e =
     let a = bind_ok (slot_at rest) (λ s. kind_at s.1 >>= λ k. finished (i.Tally s.0 k.0) k.1) instr e in
     let b = bind_ok (kind_at a.0.1) (λ k. finished (i.Tally a.0.0 k.0) k.1) instr a.2 in
     let s = slot_found rest a.0 a.1 in
     let k = kind_found a.0.1 b.0 b.1 in
     let f = finished_ok (i.Tally a.0.0 b.0.0) instr b.0.1 b.2 in
-    rw (← f.1) (s.0, k.0, two (codes "tally") s.0 k.0 rest a.0.1 b.0.1 s.1 k.1 f.0, s.2, k.2)
-
-plain_all : AllByRecursion (λ row. IsRight row.0 row.1) plain_words
-plain_all = (
-  plain_right (codes "pop") i.Pop (λ names. refl),
-  (
-    plain_right (codes "dup") i.Dup (λ names. refl),
-    (
-      plain_right (codes "swap") i.Swap (λ names. refl),
-      (
-        plain_right (codes "add") i.Add (λ names. refl),
-        (
-          plain_right (codes "sub") i.Sub (λ names. refl),
-          (
-            plain_right (codes "mul") i.Mul (λ names. refl),
-            (
-              plain_right (codes "lt") i.Lt (λ names. refl),
-              (
-                plain_right (codes "eq") i.Eq (λ names. refl),
-                (
-                  plain_right (codes "next") i.Next (λ names. refl),
-                  (
-                    plain_right (codes "unbind") i.Unbind (λ names. refl),
-                    (
-                      plain_right (codes "interrupted") i.Interrupted (λ names. refl),
-                      (
-                        plain_right (codes "ret") i.Ret (λ names. refl),
-                        (plain_right (codes "fail") i.Fail (λ names. refl), tt),
-                      ),
-                    ),
-                  ),
-                ),
-              ),
-            ),
-          ),
-        ),
-      ),
-    ),
-  ),
-)
-
-numbered_all : AllByRecursion (λ row. IsRight row.0 row.1) numbered_words
-numbered_all = (
-  number_right (codes "load") numbered.Load (λ names n words h. h),
-  (
-    number_right (codes "store") numbered.Store (λ names n words h. h),
-    (
-      number_right (codes "bind") numbered.Bind (λ names n words h. h),
-      (
-        number_right (codes "read") numbered.Read (λ names n words h. h),
-        (
-          number_right (codes "bound") numbered.Bound (λ names n words h. h),
-          (number_right (codes "orelse") numbered.OrElse (λ names n words h. h), tt),
-        ),
-      ),
-    ),
-  ),
-)
-
-slotted_all : AllByRecursion (λ row. IsRight row.0 row.1) slotted_words
-slotted_all = (
-  slot_right (codes "close") slotted.Close (λ names s words h. h),
-  (
-    slot_right (codes "cancelled") slotted.Cancelled (λ names s words h. h),
-    (
-      slot_right (codes "get") slotted.Get (λ names s words h. h),
-      (
-        slot_right (codes "except") slotted.Except (λ names s words h. h),
-        (
-          slot_right (codes "total") slotted.Total (λ names s words h. h),
-          (slot_right (codes "forget") slotted.Forget (λ names s words h. h), tt),
-        ),
-      ),
-    ),
-  ),
-)
-
-other_all : AllByRecursion (λ row. IsRight row.0 row.1) other_words
-other_all = (
-  push_right,
-  (
-    target_right (codes "jz") targeted.Jz (λ names to words h. h),
-    (
-      target_right (codes "jmp") targeted.Jmp (λ names to words h. h),
-      (
-        target_right (codes "div") targeted.Div (λ names to words h. h),
-        (
-          times_right,
-          (
-            open_right,
-            (
-              fork_right,
-              (
-                join_right,
-                (
-                  case_right,
-                  (tally_right, tt),
-                ),
-              ),
-            ),
-          ),
-        ),
-      ),
-    ),
-  ),
-)
+    rw (← f.1) (rest, refl, (s.0 ∷ [], a.0.1, s.1, (s.0, refl, s.2), (k.0 ∷ [], b.0.1, k.1, (k.0, refl, k.2), f.0)))
 
 -- the word of an instruction without operands is no other instruction's word
 no_other : (word : List ℕ) (m : Mnemonic) → looked_up plain_words word ≡ Some m → looked_up other_words word ≡ None
@@ -495,22 +367,29 @@ or_ok : {A : Type 0} (a b : Option A) (x : A) → option_or a b ≡ Some x → (
 or_ok None b x e = inr e
 or_ok (Some y) b x e = inl e
 
-mnemonic_right : (word : List ℕ) (m : Mnemonic) → mnemonic_of word ≡ Some m → IsRight word m
-mnemonic_right word m e =
+-- a mnemonic has the word of its sample
+abbrev HasWord : List ℕ → Mnemonic → Type 0
+HasWord word m = ◌≡◌ {A = List ℕ × List Operand} (word, left_over m) ((shape (sample m)).word, [])
+
+has_word : (word : List ℕ) (m : Mnemonic) → mnemonic_of word ≡ Some m → HasWord word m
+has_word word m e =
     elim (or_ok (looked_up other_words word) (option_or (looked_up plain_words word) (option_or (looked_up numbered_words word) (looked_up slotted_words word))) m e) [
-      | inl h ↦ looked_ok IsRight other_words word m other_all h
+      | inl h ↦ looked_ok HasWord other_words word m (refl, (refl, (refl, (refl, (refl, (refl, (refl, (refl, (refl, (refl, tt)))))))))) h
       | inr h ↦ elim (or_ok (looked_up plain_words word) (option_or (looked_up numbered_words word) (looked_up slotted_words word)) m h) [
-        | inl g ↦ looked_ok IsRight plain_words word m plain_all g
+        | inl g ↦ looked_ok HasWord plain_words word m (refl, (refl, (refl, (refl, (refl, (refl, (refl, (refl, (refl, (refl, (refl, (refl, (refl, tt))))))))))))) g
         | inr g ↦ elim (or_ok (looked_up numbered_words word) (looked_up slotted_words word) m g) [
-          | inl f ↦ looked_ok IsRight numbered_words word m numbered_all f
-          | inr f ↦ looked_ok IsRight slotted_words word m slotted_all f
+          | inl f ↦ looked_ok HasWord numbered_words word m (refl, (refl, (refl, (refl, (refl, (refl, tt)))))) f
+          | inr f ↦ looked_ok HasWord slotted_words word m (refl, (refl, (refl, (refl, (refl, (refl, tt)))))) f
         ]
       ]
     ]
 
 known_spelled : (names : Option Names) (word : List ℕ) (rest : List (List ℕ)) (o : Option Mnemonic) (instr : Instr) → mnemonic_of word ≡ o → known names o rest ≡ Ok instr → Spells names instr (word ∷ rest)
 known_spelled names word rest None instr m e = cc
-known_spelled names word rest (Some k) instr m e = mnemonic_right word k m names rest instr e
+known_spelled names word rest (Some k) instr m e =
+    let h = has_word word k m in
+    let is : word ≡ (shape (sample k)).word = ap (λ (q : List ℕ × List Operand). q.0) h in
+    rw is (right k (ap (λ (q : List ℕ × List Operand). q.1) h) names rest instr e)
 
 -- what is read is what the table says
 pub read_spelled : (names : Option Names) (words : List (List ℕ)) (instr : Instr) → instr_of names words ≡ Ok instr → Spells names instr words

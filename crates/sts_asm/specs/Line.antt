@@ -1,9 +1,13 @@
 -- The instructions by their words: the instruction table as it is read (this project's own).
 use Rattle.std.specs.Prelude.{ℕ, ◌^◌, ◌-◌, Bool, true, false, List, [], ◌∷◌, Option, Some, None}
-use Rattle.std.specs.Prelude.{Result, Err, codes}
+use Rattle.std.specs.Prelude.{Result, Err, pos, map}
+use Rattle.std.specs.List.{list_any}
 use Rattle.std.specs.Option.{option_or}
 use Rattle.sts_code.specs.declared.instr.Instr.{Instr}
 use Rattle.sts_code.specs.declared.instr.Instr.TheVariants as i
+use Rattle.sts_code.specs.declared.instr.Joiner.TheVariants.{AwaitAll}
+use Rattle.sts_code.specs.declared.instr.Kind.TheVariants.{S}
+use Rattle.sts_code.specs.Shape.{Operand, Label, MaybeLabel, Function, shape}
 use Rattle.sts_asm.specs.declared.fault.AsmKind.{AsmKind}
 use Rattle.sts_asm.specs.declared.fault.AsmKind.TheVariants.{UnknownWord}
 use Rattle.sts_asm.specs.declared.mnemonic.Operandless.{Operandless}
@@ -24,48 +28,7 @@ use Rattle.sts_asm.specs.Operand.{looked_up, number_at, value_at, slot_at, handl
 use Rattle.sts_asm.specs.Operand.{function_at, maybe_target_at, joiner_at, timed_at, kind_at}
 use Rattle.sts_asm.specs.Operand.{finished}
 
--- ---- first words
-
--- instructions without operands
-abbrev pub plain_words : List (List ℕ × Mnemonic)
-plain_words =
-    (codes "pop", Plain i.Pop) ∷ (codes "dup", Plain i.Dup) ∷ (codes "swap", Plain i.Swap)
-    ∷ (codes "add", Plain i.Add) ∷ (codes "sub", Plain i.Sub) ∷ (codes "mul", Plain i.Mul)
-    ∷ (codes "lt", Plain i.Lt) ∷ (codes "eq", Plain i.Eq) ∷ (codes "next", Plain i.Next)
-    ∷ (codes "unbind", Plain i.Unbind) ∷ (codes "interrupted", Plain i.Interrupted)
-    ∷ (codes "ret", Plain i.Ret) ∷ (codes "fail", Plain i.Fail) ∷ []
-
--- instructions of one local or key
-abbrev pub numbered_words : List (List ℕ × Mnemonic)
-numbered_words =
-    (codes "load", WithNumber numbered.Load) ∷ (codes "store", WithNumber numbered.Store)
-    ∷ (codes "bind", WithNumber numbered.Bind) ∷ (codes "read", WithNumber numbered.Read)
-    ∷ (codes "bound", WithNumber numbered.Bound) ∷ (codes "orelse", WithNumber numbered.OrElse) ∷ []
-
--- instructions of one slot
-abbrev pub slotted_words : List (List ℕ × Mnemonic)
-slotted_words =
-    (codes "close", WithSlot slotted.Close) ∷ (codes "cancelled", WithSlot slotted.Cancelled)
-    ∷ (codes "get", WithSlot slotted.Get) ∷ (codes "except", WithSlot slotted.Except)
-    ∷ (codes "total", WithSlot slotted.Total) ∷ (codes "forget", WithSlot slotted.Forget) ∷ []
-
--- instructions of one label, and all others
-abbrev pub other_words : List (List ℕ × Mnemonic)
-other_words =
-    (codes "push", Push) ∷ (codes "jz", WithTarget targeted.Jz) ∷
-    (codes "jmp", WithTarget targeted.Jmp)
-    ∷ (codes "div", WithTarget targeted.Div) ∷ (codes "times", Times) ∷ (codes "open", Open)
-    ∷ (codes "fork", Fork) ∷ (codes "join", Join) ∷ (codes "case", Case)
-    ∷ (codes "tally", Tally) ∷ []
-
--- what the first word of an instruction says
-abbrev pub mnemonic_of : List ℕ → Option Mnemonic
-mnemonic_of word =
-    option_or (looked_up other_words word)
-    (option_or (looked_up plain_words word)
-    (option_or (looked_up numbered_words word) (looked_up slotted_words word)))
-
--- ---- with their operands
+-- ---- forms
 
 -- the instruction without operands
 abbrev pub without_operands : Operandless → Instr
@@ -106,6 +69,63 @@ abbrev pub with_target : Targeted → ℕ → Instr
 with_target targeted.Div to = i.Div to
 with_target targeted.Jmp to = i.Jmp to
 with_target targeted.Jz to = i.Jz to
+
+-- ---- first words
+
+-- an instruction with this mnemonic; its operands don't matter
+abbrev pub sample : Mnemonic → Instr
+sample (Plain instr) = instr
+sample (WithNumber m) = with_number m 0
+sample (WithSlot m) = with_slot m 0
+sample (WithTarget m) = with_target m 0
+sample Push = i.Push (pos 0)
+sample Times = i.Times 0
+sample Open = i.Open 0 AwaitAll false
+sample Fork = i.Fork 0 0 None
+sample Join = i.Join 0 None None 0
+sample Case = i.Case 0 0 0
+sample Tally = i.Tally 0 S
+
+-- the first word and its mnemonic
+abbrev pub by_word : Mnemonic → List ℕ × Mnemonic
+by_word m = ((shape (sample m)).word, m)
+
+-- instructions without operands
+abbrev pub plain_words : List (List ℕ × Mnemonic)
+plain_words =
+    map (λ instr. by_word (Plain instr))
+    (i.Pop ∷ i.Dup ∷ i.Swap ∷ i.Add ∷ i.Sub ∷ i.Mul ∷ i.Lt ∷ i.Eq ∷ i.Next ∷ i.Unbind
+    ∷ i.Interrupted ∷ i.Ret ∷ i.Fail ∷ [])
+
+-- instructions of one local or key
+abbrev pub numbered_words : List (List ℕ × Mnemonic)
+numbered_words =
+    map (λ m. by_word (WithNumber m))
+    (numbered.Load ∷ numbered.Store ∷ numbered.Bind ∷ numbered.Read ∷ numbered.Bound
+    ∷ numbered.OrElse ∷ [])
+
+-- instructions of one slot
+abbrev pub slotted_words : List (List ℕ × Mnemonic)
+slotted_words =
+    map (λ m. by_word (WithSlot m))
+    (slotted.Close ∷ slotted.Cancelled ∷ slotted.Get ∷ slotted.Except ∷ slotted.Total
+    ∷ slotted.Forget ∷ [])
+
+-- instructions of one label, and all others
+abbrev pub other_words : List (List ℕ × Mnemonic)
+other_words =
+    map by_word
+    (Push ∷ WithTarget targeted.Jz ∷ WithTarget targeted.Jmp ∷ WithTarget targeted.Div ∷ Times
+    ∷ Open ∷ Fork ∷ Join ∷ Case ∷ Tally ∷ [])
+
+-- what the first word of an instruction says
+abbrev pub mnemonic_of : List ℕ → Option Mnemonic
+mnemonic_of word =
+    option_or (looked_up other_words word)
+    (option_or (looked_up plain_words word)
+    (option_or (looked_up numbered_words word) (looked_up slotted_words word)))
+
+-- ---- with their operands
 
 -- a slot, a joiner, and `timed` or nothing
 abbrev pub open_at : List (List ℕ) → Result Instr AsmKind
@@ -160,12 +180,13 @@ abbrev pub instr_of : Option Names → List (List ℕ) → Result Instr AsmKind
 instr_of names [] = Err UnknownWord
 instr_of names (word ∷ rest) = known names (mnemonic_of word) rest
 
+-- does an operand name a label or a function?
+abbrev pub is_reference : Operand → Bool
+is_reference (Label to) = true
+is_reference (MaybeLabel to) = true
+is_reference (Function f) = true
+is_reference _ = false
+
 -- does an instruction name a label or a function?
 abbrev pub has_names : Instr → Bool
-has_names (i.Div to) = true
-has_names (i.Jmp to) = true
-has_names (i.Jz to) = true
-has_names (i.Fork s f h) = true
-has_names (i.Join s failed timeout interrupted) = true
-has_names (i.Case h success failed) = true
-has_names instr = false
+has_names instr = list_any is_reference (shape instr).operands

@@ -21,7 +21,7 @@ use Rattle.sts_code.specs.declared.instr.Instr.TheVariants as i
 use Rattle.sts_asm.specs.Marks.{Mark, marked}
 use Rattle.sts_asm.proofs.MarkLemmas.{marked_cons, marked_append}
 use Rattle.sts_code.specs.Facts.{targets}
-use Rattle.sts_list.proofs.SpellingLemmas.{either, forked}
+use Rattle.sts_list.proofs.SpellingLemmas.{either}
 use Rattle.sts_list.proofs.FunctionLemmas.{names_from}
 
 -- ---- what it says that no check fails
@@ -99,7 +99,7 @@ program_checked rs e =
 
 -- ---- targets and forks
 
-later : (n to : ℕ) → nat_le n to ≡ false → to < n
+pub later : (n to : ℕ) → nat_le n to ≡ false → to < n
 later n to e = grind (arith, nat_tests)
 
 none_past : (n : ℕ) (places : List ℕ) → list_any (nat_le n) places ≡ false → AllByRecursion (λ to. to < n) places
@@ -112,15 +112,6 @@ all_joined P (x ∷ xs) ys h g = (h.0, all_joined P xs ys h.1 g)
 
 pub targets_within : (n : ℕ) (instr : Instr) → has_bad_target n instr ≡ false → AllByRecursion (λ to. to < n) (targets instr)
 targets_within n instr e = none_past n (targets instr) e
-
--- the function that is forked is one of the first
-abbrev pub IsBelow : ℕ → Option ℕ → Type 0
-IsBelow at None = ⊤
-IsBelow at (Some f) = f < at
-
-pub fork_within : (at : ℕ) (instr : Instr) → forks_later at instr ≡ false → IsBelow at (forked instr)
-fork_within at (i.Fork s f h) e = later at f e
-fork_within at _ e = tt
 
 -- ---- the names of the functions
 

@@ -24,7 +24,7 @@ use Rattle.sts_list.proofs.ByteLemmas.{is_plain, is_text, plain_text, all_implie
 use Rattle.sts_list.proofs.ByteLemmas.{IsWord, AreWords, words_text, words_read, line_cut}
 use Rattle.sts_list.proofs.ByteLemmas.{line_uncommented, line_allowed}
 use Rattle.sts_list.proofs.DecimalLemmas.{label_word, label_name}
-use Rattle.sts_list.proofs.SpellingLemmas.{Labels, forked, ForkFound, moved, spelled_as}
+use Rattle.sts_list.proofs.SpellingLemmas.{Labels, Forks, moved, spelled_as}
 use Rattle.sts_list.proofs.SpellingLemmas.{operands_are_words, keyword_is_word}
 
 -- ---- a line of words
@@ -104,47 +104,14 @@ keyword_of w f e p l = record { inner = record { no_func = f; no_end = e; no_pro
 
 keyword_is : (instr : Instr) → IsKeyword (keyword instr)
 keyword_is (i.Push k) = keyword_of (codes "push") refl refl refl refl
-keyword_is (i.Load x) = keyword_of (codes "load") refl refl refl refl
-keyword_is (i.Store x) = keyword_of (codes "store") refl refl refl refl
-keyword_is (i.Div to) = keyword_of (codes "div") refl refl refl refl
-keyword_is (i.Jmp to) = keyword_of (codes "jmp") refl refl refl refl
-keyword_is (i.Jz to) = keyword_of (codes "jz") refl refl refl refl
-keyword_is (i.Times n) = keyword_of (codes "times") refl refl refl refl
-keyword_is (i.Open s j t) = keyword_of (codes "open") refl refl refl refl
-keyword_is (i.Fork s f h) = keyword_of (codes "fork") refl refl refl refl
-keyword_is (i.Join s f t r) = keyword_of (codes "join") refl refl refl refl
-keyword_is (i.Close s) = keyword_of (codes "close") refl refl refl refl
-keyword_is (i.Cancelled s) = keyword_of (codes "cancelled") refl refl refl refl
-keyword_is (i.Case h s f) = keyword_of (codes "case") refl refl refl refl
-keyword_is (i.Get h) = keyword_of (codes "get") refl refl refl refl
-keyword_is (i.Except h) = keyword_of (codes "except") refl refl refl refl
-keyword_is (i.Tally s k) = keyword_of (codes "tally") refl refl refl refl
-keyword_is (i.Total s) = keyword_of (codes "total") refl refl refl refl
-keyword_is (i.Forget h) = keyword_of (codes "forget") refl refl refl refl
-keyword_is (i.Bind k) = keyword_of (codes "bind") refl refl refl refl
-keyword_is (i.Read k) = keyword_of (codes "read") refl refl refl refl
-keyword_is (i.Bound k) = keyword_of (codes "bound") refl refl refl refl
-keyword_is (i.OrElse k) = keyword_of (codes "orelse") refl refl refl refl
-keyword_is i.Pop = keyword_of (codes "pop") refl refl refl refl
-keyword_is i.Dup = keyword_of (codes "dup") refl refl refl refl
-keyword_is i.Swap = keyword_of (codes "swap") refl refl refl refl
-keyword_is i.Add = keyword_of (codes "add") refl refl refl refl
-keyword_is i.Sub = keyword_of (codes "sub") refl refl refl refl
-keyword_is i.Mul = keyword_of (codes "mul") refl refl refl refl
-keyword_is i.Lt = keyword_of (codes "lt") refl refl refl refl
-keyword_is i.Eq = keyword_of (codes "eq") refl refl refl refl
-keyword_is i.Next = keyword_of (codes "next") refl refl refl refl
-keyword_is i.Unbind = keyword_of (codes "unbind") refl refl refl refl
-keyword_is i.Interrupted = keyword_of (codes "interrupted") refl refl refl refl
-keyword_is i.Ret = keyword_of (codes "ret") refl refl refl refl
-keyword_is i.Fail = keyword_of (codes "fail") refl refl refl refl
+keyword_is instr = keyword_of (keyword instr) refl refl refl refl
 
 -- an instruction as a program that passed its checks has it
 pub record IsGood (p : Program) (instr : Instr) : Type 0 where
   pub range : has_bad_range instr ≡ false
   pub fits : FitsInstr instr
   pub near : AllByRecursion (λ to. to < 10000) (targets instr)
-  pub forks : ForkFound p None (λ _. 0) (forked instr)
+  pub forks : Forks p None (λ _. 0) instr
 
 labels_near : (ts : List ℕ) → AllByRecursion (λ to. to < 10000) ts → AllByRecursion (Labels None (λ _. 0)) ts
 labels_near [] h = tt

@@ -4,7 +4,9 @@ use Rattle.std.specs.Prelude.{◌==◌, ◌||◌, nat_lt, Option, Some, None, Re
 use Rattle.std.specs.List.{flat_map, AllByRecursion, list_any}
 use Rattle.std.proofs.lemmas.Bool.Decides.{nat_tests}
 use Rattle.sts_code.specs.Program.{Program, Routine}
+use Rattle.sts_code.specs.Checks.{forks_later}
 use Rattle.sts_code.specs.declared.instr.Instr.{Instr}
+use Rattle.sts_code.specs.declared.instr.Instr.TheVariants as i
 use Rattle.sts_asm.specs.declared.fault.AsmKind.{AsmKind}
 use Rattle.sts_asm.specs.Marks.{Mark, Names, marked}
 use Rattle.sts_asm.specs.Line.{instr_of}
@@ -15,14 +17,14 @@ use Rattle.sts_list.specs.Spelling.{keyword, operands, label}
 use Rattle.sts_list.specs.Listing.{is_target, listing}
 use Rattle.sts_code.specs.Facts.{targets}
 use Rattle.sts_list.specs.RoundTrip.{FitsInstr, FitsRoutine, AssembledAgain}
-use Rattle.sts_list.proofs.SpellingLemmas.{Labels, forked, ForkFound, moved, spelled_as}
+use Rattle.sts_list.proofs.SpellingLemmas.{Labels, Forks, moved, spelled_as}
 use Rattle.sts_list.proofs.SpellingLemmas.{moved_nowhere}
 use Rattle.sts_list.proofs.LineLemmas.{IsGood}
 use Rattle.sts_list.proofs.CodeLemmas.{labels_differ, mark_if, marks_of, below, sentences}
 use Rattle.sts_list.proofs.FunctionLemmas.{IsGoodRoutine, draft_at, line_below, drafts, names_from}
 use Rattle.sts_list.proofs.FunctionLemmas.{first_line, listing_outlined}
-use Rattle.sts_list.proofs.CheckLemmas.{IsChecked, IsCheckedRoutine, AreChecked, AreFound, IsBelow}
-use Rattle.sts_list.proofs.CheckLemmas.{targets_within, fork_within, program_checked}
+use Rattle.sts_list.proofs.CheckLemmas.{IsChecked, IsCheckedRoutine, AreChecked, AreFound, later}
+use Rattle.sts_list.proofs.CheckLemmas.{targets_within, program_checked}
 use Rattle.sts_list.proofs.CheckLemmas.{functions_found, same_bytes}
 
 -- ---- each label of a listing is found
@@ -93,13 +95,13 @@ labels_found p r (t ∷ ts) short within named =
     let w = within.0 in
     (record { small = omega arith; named = marks_found r.code 0 r.code t (omega arith) (omega arith) (omega arith) named.0 }, labels_found p r ts short within.1 named.1)
 
-fork_found : (p : Program) (r : Routine) (at : ℕ) (o : Option ℕ) → AreFound p.routines → at ≤ length p.routines → IsBelow at o → ForkFound p (Some (names_of p r)) (λ f. f) o
-fork_found p r at None h few b = tt
-fork_found p r at (Some f) h few b = h f (omega arith)
+fork_found : (p : Program) (r : Routine) (at : ℕ) (instr : Instr) → AreFound p.routines → at ≤ length p.routines → forks_later at instr ≡ false → Forks p (Some (names_of p r)) (λ f. f) instr
+fork_found p r at (i.Fork s f g) h few e = let b = later at f e in (h f (omega arith), tt)
+fork_found p r at _ h few e = tt
 
-fork_good : (p : Program) (at : ℕ) (o : Option ℕ) → AreFound p.routines → at ≤ length p.routines → IsBelow at o → ForkFound p None (λ _. 0) o
-fork_good p at None h few b = tt
-fork_good p at (Some f) h few b = ((h f (omega arith)).0, refl)
+fork_good : (p : Program) (at : ℕ) (instr : Instr) → AreFound p.routines → at ≤ length p.routines → forks_later at instr ≡ false → Forks p None (λ _. 0) instr
+fork_good p at (i.Fork s f g) h few e = let b = later at f e in (((h f (omega arith)).0, refl), tt)
+fork_good p at _ h few e = tt
 
 near : (n : ℕ) (ts : List ℕ) → n ≤ 4096 → AllByRecursion (λ to. to < n) ts → AllByRecursion (λ to. to < 10000) ts
 near n [] small h = tt
@@ -114,7 +116,7 @@ record IsReady (p : Program) (names : Names) (instr : Instr) : Type 0 where
 instr_ready : (p : Program) (r : Routine) (at : ℕ) (instr : Instr) → AreFound p.routines → at ≤ length p.routines → length r.code ≤ 4096 → IsChecked at (length r.code) instr → FitsInstr instr → NamesAll (flat_map targets r.code) instr → IsReady p (names_of p r) instr
 instr_ready p r at instr found few short c fits named =
     let labels = labels_found p r (targets instr) short (targets_within (length r.code) instr c.target) named in
-    let forks = fork_found p r at (forked instr) found few (fork_within at instr c.fork) in
+    let forks = fork_found p r at instr found few c.fork in
     let ok : Instr → Result Instr AsmKind = λ x. Ok x in
     record { read = spelled_read (Some (names_of p r)) (moved (λ to. to) (λ f. f) instr) (keyword instr ∷ operands p instr) (spelled_as p (Some (names_of p r)) (λ to. to) (λ f. f) instr c.range fits labels forks) ∙ ap ok (moved_nowhere instr) }
 
@@ -125,7 +127,7 @@ code_ready p r at (instr ∷ rest) found few short c fits named = (instr_ready p
 code_good : (p : Program) (at n : ℕ) (rest : List Instr) → AreFound p.routines → at ≤ length p.routines → n ≤ 4096 → AllByRecursion (IsChecked at n) rest → AllByRecursion FitsInstr rest → AllByRecursion (IsGood p) rest
 code_good p at n [] found few short c fits = tt
 code_good p at n (instr ∷ rest) found few short c fits = (
-  record { range = c.0.range; fits = fits.0; near = near n (targets instr) short (targets_within n instr c.0.target); forks = fork_good p at (forked instr) found few (fork_within at instr c.0.fork) },
+  record { range = c.0.range; fits = fits.0; near = near n (targets instr) short (targets_within n instr c.0.target); forks = fork_good p at instr found few c.0.fork },
   code_good p at n rest found few short c.1 fits.1,
 )
 

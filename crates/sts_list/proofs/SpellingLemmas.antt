@@ -1,13 +1,15 @@
 use Rattle.std.proofs.Common.{◌≡◌, ℕ, ◌<◌, ◌≤◌, ◌^◌, ◌-◌, Bool, true, false, List, [], ◌∷◌, ◌++◌}
-use Rattle.std.proofs.Common.{length, refl, arith}
+use Rattle.std.proofs.Common.{length, refl, sym, ap, subst, append-nil, arith}
 use Rattle.std.specs.Prelude.{◌==◌, ◌||◌, nat_lt, Option, Some, None, option_map, codes, ⊤}
-use Rattle.std.specs.Prelude.{option_to_list}
-use Rattle.std.specs.List.{list_all, AllByRecursion}
+use Rattle.std.specs.Prelude.{option_to_list, unwrap_or, map}
+use Rattle.std.specs.List.{list_all, AllByRecursion, flat_map}
 use Rattle.std.proofs.lemmas.Bool.Decides.{nat_tests}
 use Rattle.sts_code.specs.Name.{is_name, is_name_byte}
 use Rattle.sts_code.specs.Program.{Program, routine}
 use Rattle.sts_code.specs.Checks.{is_past, handle_is_past, is_bad_count, has_bad_count}
-use Rattle.sts_code.specs.Checks.{has_bad_range}
+use Rattle.sts_code.specs.Checks.{range_fault, either_fault, any_fault, has_bad_range}
+use Rattle.sts_code.specs.Shape.{Operand, Value, Local, Turns, Label, MaybeLabel, InSlot, Handle}
+use Rattle.sts_code.specs.Shape.{Function, State, Key, Rule, Timed, shape, places}
 use Rattle.sts_code.specs.declared.instr.Instr.{Instr}
 use Rattle.sts_code.specs.declared.instr.Instr.TheVariants as i
 use Rattle.sts_code.specs.declared.instr.Joiner.{Joiner}
@@ -22,11 +24,12 @@ use Rattle.std.specs.Fmt.{decimal, signed_decimal}
 use Rattle.sts_text.specs.Number.{number_up_to}
 use Rattle.sts_asm.specs.Operand as operand
 use Rattle.sts_asm.specs.Table.{Spells, IsLabel, IsMaybeLabel, IsFunction, IsHandle, IsKind}
-use Rattle.sts_asm.specs.Table.{IsJoiner, IsTimed}
+use Rattle.sts_asm.specs.Table.{IsJoiner, IsTimed, IsOperand, AreOperands}
 use Rattle.sts_list.specs.Spelling.{keyword, operands, label, slot, maybe_label, handle, kind_word}
-use Rattle.sts_list.specs.Spelling.{joiner_words, condition_words, timed_words}
+use Rattle.sts_list.specs.Spelling.{joiner_words, condition_words, timed_words, operand_words}
+use Rattle.sts_list.specs.Spelling.{words_of}
 use Rattle.sts_code.specs.Facts.{targets}
-use Rattle.sts_list.specs.RoundTrip.{FitsCondition, FitsJoiner, FitsInstr}
+use Rattle.sts_list.specs.RoundTrip.{IsValue, FitsCondition, FitsJoiner, FitsInstr}
 use Rattle.sts_list.proofs.ByteLemmas.{is_plain, all_implied, IsWord, AreWords}
 use Rattle.sts_list.proofs.DecimalLemmas.{number_read, value_read, value_word, decimal_word}
 use Rattle.sts_list.proofs.DecimalLemmas.{slot_read, slot_word, label_word, label_name}
@@ -46,18 +49,15 @@ moved found other (i.Case h s f) = i.Case h (found s) (found f)
 moved found other (i.Fork s f h) = i.Fork s (other f) h
 moved found other instr = instr
 
--- the function that an instruction forks
-abbrev pub forked : Instr → Option ℕ
-forked (i.Fork s f h) = Some f
-forked instr = None
-
-abbrev pub ForkFound : Program → Option Names → (ℕ → ℕ) → Option ℕ → Type 0
-ForkFound p names other None = ⊤
-ForkFound p names other (Some f) = IsFunction names (other f) (routine p f).name
+-- each function that these operands name is found at its place
+abbrev pub Finds : Program → Option Names → (ℕ → ℕ) → List Operand → Type 0
+Finds p names other [] = ⊤
+Finds p names other (Function f ∷ more) = IsFunction names (other f) (routine p f).name × Finds p names other more
+Finds p names other (operand ∷ more) = Finds p names other more
 
 -- the function that an instruction forks is found
 abbrev pub Forks : Program → Option Names → (ℕ → ℕ) → Instr → Type 0
-Forks p names other instr = ForkFound p names other (forked instr)
+Forks p names other instr = Finds p names other (shape instr).operands
 
 pub either : (a b : Bool) → (a || b) ≡ false → (a ≡ false) × (b ≡ false)
 either true b e = cc
@@ -106,42 +106,6 @@ kind_good _ = refl
 all_split : (P : ℕ → Type 0) (xs ys : List ℕ) → AllByRecursion P (xs ++ ys) → AllByRecursion P xs × AllByRecursion P ys
 all_split P [] ys h = (tt, h)
 all_split P (x ∷ xs) ys h = let r = all_split P xs ys h.1 in ((h.0, r.0), r.1)
-
--- the words of an instruction in a listing spell it
-pub spelled_as : (p : Program) (names : Option Names) (found other : ℕ → ℕ) (instr : Instr) → has_bad_range instr ≡ false → FitsInstr instr → AllByRecursion (Labels names found) (targets instr) → Forks p names other instr → Spells names (moved found other instr) (keyword instr ∷ operands p instr)
-spelled_as p names found other (i.Push k) e f t g = (signed_decimal k, refl, value_read k f)
-spelled_as p names found other (i.Load n) e f t g = (decimal n, refl, number_good n e)
-spelled_as p names found other (i.Store n) e f t g = (decimal n, refl, number_good n e)
-spelled_as p names found other (i.Bind n) e f t g = (decimal n, refl, number_good n e)
-spelled_as p names found other (i.Read n) e f t g = (decimal n, refl, number_good n e)
-spelled_as p names found other (i.Bound n) e f t g = (decimal n, refl, number_good n e)
-spelled_as p names found other (i.OrElse n) e f t g = (decimal n, refl, number_good n e)
-spelled_as p names found other (i.Close s) e f t g = (slot s, refl, slot_good s e)
-spelled_as p names found other (i.Cancelled s) e f t g = (slot s, refl, slot_good s e)
-spelled_as p names found other (i.Get s) e f t g = (slot s, refl, slot_good s e)
-spelled_as p names found other (i.Except s) e f t g = (slot s, refl, slot_good s e)
-spelled_as p names found other (i.Total s) e f t g = (slot s, refl, slot_good s e)
-spelled_as p names found other (i.Forget s) e f t g = (slot s, refl, slot_good s e)
-spelled_as p names found other (i.Div to) e f t g = (label to, refl, target_good names found to t.0)
-spelled_as p names found other (i.Jmp to) e f t g = (label to, refl, target_good names found to t.0)
-spelled_as p names found other (i.Jz to) e f t g = (label to, refl, target_good names found to t.0)
-spelled_as p names found other (i.Times n) e f t g =
-    let h = either (n == 0) (nat_lt 10000 n) e in
-    let small : n ≤ 10000 = grind (arith, nat_tests, h.1) in
-    (decimal n, refl, number_read (2 ^ 16 - 1) n (omega arith) (omega arith))
-spelled_as p names found other (i.Open s j timed) e f t g =
-    let h = either (is_past s) (has_bad_count j) e in
-    (slot s, joiner_words j, timed_words timed, refl, slot_good s h.0, joiner_good j h.1 f, timed_good timed)
-spelled_as p names found other (i.Fork s f h) e k t g =
-    let b = either (is_past s) (handle_is_past h) e in
-    (slot s, (routine p f).name, handle h, refl, slot_good s b.0, g, handle_good h b.1)
-spelled_as p names found other (i.Join s failed timeout r) e f t g =
-    let a = all_split (Labels names found) (option_to_list failed) (option_to_list timeout ++ r ∷ []) t in
-    let b = all_split (Labels names found) (option_to_list timeout) (r ∷ []) a.1 in
-    (slot s, maybe_label failed, maybe_label timeout, label r, refl, slot_good s e, maybe_good names found failed a.0, maybe_good names found timeout b.0, target_good names found r b.1.0)
-spelled_as p names found other (i.Case h s f) e k t g = (slot h, label s, label f, refl, slot_good h e, target_good names found s t.0, target_good names found f t.1.0)
-spelled_as p names found other (i.Tally s k) e f t g = (slot s, kind_word k, refl, slot_good s e, kind_good k)
-spelled_as p names found other _ e f t g = refl
 
 -- ---- the words are words
 
@@ -198,78 +162,116 @@ words_append : (xs ys : List (List ℕ)) → AreWords xs → AreWords ys → Are
 words_append [] ys h g = g
 words_append (x ∷ xs) ys h g = (h.0, words_append xs ys h.1 g)
 
-pub operands_are_words : (p : Program) (names : Option Names) (found other : ℕ → ℕ) (instr : Instr) → has_bad_range instr ≡ false → FitsInstr instr → AllByRecursion (Labels names found) (targets instr) → Forks p names other instr → AreWords (operands p instr)
-operands_are_words p names found other (i.Push k) e f t g = (value_word k f, tt)
-operands_are_words p names found other (i.Load n) e f t g = (number_is_word n e, tt)
-operands_are_words p names found other (i.Store n) e f t g = (number_is_word n e, tt)
-operands_are_words p names found other (i.Bind n) e f t g = (number_is_word n e, tt)
-operands_are_words p names found other (i.Read n) e f t g = (number_is_word n e, tt)
-operands_are_words p names found other (i.Bound n) e f t g = (number_is_word n e, tt)
-operands_are_words p names found other (i.OrElse n) e f t g = (number_is_word n e, tt)
-operands_are_words p names found other (i.Close s) e f t g = (slot_is_word s e, tt)
-operands_are_words p names found other (i.Cancelled s) e f t g = (slot_is_word s e, tt)
-operands_are_words p names found other (i.Get s) e f t g = (slot_is_word s e, tt)
-operands_are_words p names found other (i.Except s) e f t g = (slot_is_word s e, tt)
-operands_are_words p names found other (i.Total s) e f t g = (slot_is_word s e, tt)
-operands_are_words p names found other (i.Forget s) e f t g = (slot_is_word s e, tt)
-operands_are_words p names found other (i.Div to) e f t g = (label_is_word names found to t.0, tt)
-operands_are_words p names found other (i.Jmp to) e f t g = (label_is_word names found to t.0, tt)
-operands_are_words p names found other (i.Jz to) e f t g = (label_is_word names found to t.0, tt)
-operands_are_words p names found other (i.Times n) e f t g =
+-- ---- operands
+
+-- its value is of 64 bits
+abbrev FitsOperand : Operand → Type 0
+FitsOperand (Value k) = IsValue k
+FitsOperand (Rule joiner) = FitsJoiner joiner
+FitsOperand operand = ⊤
+
+-- the values among these operands are of 64 bits
+abbrev FitAll : List Operand → Type 0
+FitAll [] = ⊤
+FitAll (Value k ∷ more) = IsValue k × FitAll more
+FitAll (Rule joiner ∷ more) = FitsJoiner joiner × FitAll more
+FitAll (operand ∷ more) = FitAll more
+
+fit_all : (instr : Instr) → FitsInstr instr → FitAll (shape instr).operands
+fit_all (i.Push k) f = (f, tt)
+fit_all (i.Open s joiner timed) f = (f, tt)
+fit_all _ f = tt
+
+fit_split : (operand : Operand) (more : List Operand) → FitAll (operand ∷ more) → FitsOperand operand × FitAll more
+fit_split (Value k) more f = f
+fit_split (Rule joiner) more f = f
+fit_split _ more f = (tt, f)
+
+abbrev FindsOne : Program → Option Names → (ℕ → ℕ) → Operand → Type 0
+FindsOne p names other (Function f) = IsFunction names (other f) (routine p f).name
+FindsOne p names other operand = ⊤
+
+find_split : (p : Program) (names : Option Names) (other : ℕ → ℕ) (operand : Operand) (more : List Operand) → Finds p names other (operand ∷ more) → FindsOne p names other operand × Finds p names other more
+find_split p names other (Function f) more g = g
+find_split p names other _ more g = (tt, g)
+
+range_split : (a b : Option Bool) → unwrap_or (either_fault a b) false ≡ false → (unwrap_or a false ≡ false) × (unwrap_or b false ≡ false)
+range_split None b e = (refl, e)
+range_split (Some a) None e = (e, refl)
+range_split (Some a) (Some b) e = either a b e
+
+-- an operand with its label or function moved
+abbrev moved_operand : (ℕ → ℕ) → (ℕ → ℕ) → Operand → Operand
+moved_operand found other (Label to) = Label (found to)
+moved_operand found other (MaybeLabel to) = MaybeLabel (option_map found to)
+moved_operand found other (Function f) = Function (other f)
+moved_operand found other operand = operand
+
+moved_word : (found other : ℕ → ℕ) (instr : Instr) → (shape instr).word ≡ (shape (moved found other instr)).word
+moved_word found other (i.Div to) = refl
+moved_word found other _ = refl
+
+moved_row : (found other : ℕ → ℕ) (instr : Instr) → map (moved_operand found other) (shape instr).operands ≡ (shape (moved found other instr)).operands
+moved_row found other (i.Div to) = refl
+moved_row found other _ = refl
+
+-- the words of an operand in a listing spell it
+record IsSpelled (p : Program) (names : Option Names) (found other : ℕ → ℕ) (operand : Operand) : Type 0 where
+  is : IsOperand names (moved_operand found other operand) (operand_words p operand)
+  words : AreWords (operand_words p operand)
+
+operand_spelled : (p : Program) (names : Option Names) (found other : ℕ → ℕ) (operand : Operand) → unwrap_or (range_fault operand) false ≡ false → FitsOperand operand → AllByRecursion (Labels names found) (places operand) → FindsOne p names other operand → IsSpelled p names found other operand
+operand_spelled p names found other (Value k) e f t g = record { is = (signed_decimal k, refl, value_read k f); words = (value_word k f, tt) }
+operand_spelled p names found other (Local x) e f t g = record { is = (decimal x, refl, number_good x e); words = (number_is_word x e, tt) }
+operand_spelled p names found other (Turns n) e f t g =
     let h = either (n == 0) (nat_lt 10000 n) e in
     let small : n ≤ 10000 = grind (arith, nat_tests, h.1) in
-    (decimal_word n (omega arith), tt)
-operands_are_words p names found other (i.Open s j timed) e f t g =
-    let h = either (is_past s) (has_bad_count j) e in
-    (slot_is_word s h.0, words_append (joiner_words j) (timed_words timed) (joiner_are_words j h.1 f) (timed_are_words timed))
-operands_are_words p names found other (i.Fork s f h) e k t g =
-    let b = either (is_past s) (handle_is_past h) e in
-    (slot_is_word s b.0, (name_word (routine p f).name g.0, (handle_is_word h b.1, tt)))
-operands_are_words p names found other (i.Join s failed timeout r) e f t g =
-    let a = all_split (Labels names found) (option_to_list failed) (option_to_list timeout ++ r ∷ []) t in
-    let b = all_split (Labels names found) (option_to_list timeout) (r ∷ []) a.1 in
-    (slot_is_word s e, (maybe_is_word names found failed a.0, (maybe_is_word names found timeout b.0, (label_is_word names found r b.1.0, tt))))
-operands_are_words p names found other (i.Case h s f) e k t g = (slot_is_word h e, (label_is_word names found s t.0, (label_is_word names found f t.1.0, tt)))
-operands_are_words p names found other (i.Tally s k) e f t g = (slot_is_word s e, (kind_is_word k, tt))
-operands_are_words p names found other _ e f t g = tt
+    record { is = (decimal n, refl, number_read (2 ^ 16 - 1) n (omega arith) (omega arith)); words = (decimal_word n (omega arith), tt) }
+operand_spelled p names found other (Label to) e f t g = record { is = (label to, refl, target_good names found to t.0); words = (label_is_word names found to t.0, tt) }
+operand_spelled p names found other (MaybeLabel to) e f t g = record { is = (maybe_label to, refl, maybe_good names found to t); words = (maybe_is_word names found to t, tt) }
+operand_spelled p names found other (InSlot role s) e f t g = record { is = (slot s, refl, slot_good s e); words = (slot_is_word s e, tt) }
+operand_spelled p names found other (Handle h) e f t g = record { is = (handle h, refl, handle_good h e); words = (handle_is_word h e, tt) }
+operand_spelled p names found other (Function x) e f t g = record { is = ((routine p x).name, refl, g); words = (name_word (routine p x).name g.0, tt) }
+operand_spelled p names found other (State k) e f t g = record { is = (kind_word k, refl, kind_good k); words = (kind_is_word k, tt) }
+operand_spelled p names found other (Key k) e f t g = record { is = (decimal k, refl, number_good k e); words = (number_is_word k e, tt) }
+operand_spelled p names found other (Rule j) e f t g = record { is = joiner_good j e f; words = joiner_are_words j e f }
+operand_spelled p names found other (Timed timed) e f t g = record { is = timed_good timed; words = timed_are_words timed }
+
+all_spelled : (p : Program) (names : Option Names) (found other : ℕ → ℕ) (row : List Operand) → unwrap_or (any_fault row) false ≡ false → FitAll row → AllByRecursion (Labels names found) (flat_map places row) → Finds p names other row → AllByRecursion (IsSpelled p names found other) row
+all_spelled p names found other [] e f t g = tt
+all_spelled p names found other (operand ∷ more) e f t g =
+    let r = range_split (range_fault operand) (any_fault more) e in
+    let v = fit_split operand more f in
+    let l = all_split (Labels names found) (places operand) (flat_map places more) t in
+    let o = find_split p names other operand more g in
+    (operand_spelled p names found other operand r.0 v.0 l.0 o.0, all_spelled p names found other more r.1 v.1 l.1 o.1)
+
+spelled_row : (p : Program) (names : Option Names) (found other : ℕ → ℕ) (row : List Operand) → AllByRecursion (IsSpelled p names found other) row → AreOperands names (map (moved_operand found other) row) (words_of p row)
+spelled_row p names found other [] h = refl
+spelled_row p names found other (operand ∷ []) h = (operand_words p operand, [], sym (append-nil (operand_words p operand)), h.0.is, refl)
+spelled_row p names found other (operand ∷ next ∷ more) h = (operand_words p operand, words_of p (next ∷ more), refl, h.0.is, spelled_row p names found other (next ∷ more) h.1)
+
+row_are_words : (p : Program) (names : Option Names) (found other : ℕ → ℕ) (row : List Operand) → AllByRecursion (IsSpelled p names found other) row → AreWords (words_of p row)
+row_are_words p names found other [] h = tt
+row_are_words p names found other (operand ∷ []) h = h.0.words
+row_are_words p names found other (operand ∷ next ∷ more) h = words_append (operand_words p operand) (words_of p (next ∷ more)) h.0.words (row_are_words p names found other (next ∷ more) h.1)
+
+-- ---- instructions
+
+-- the words of an instruction in a listing spell it
+pub spelled_as : (p : Program) (names : Option Names) (found other : ℕ → ℕ) (instr : Instr) → has_bad_range instr ≡ false → FitsInstr instr → AllByRecursion (Labels names found) (targets instr) → Forks p names other instr → Spells names (moved found other instr) (keyword instr ∷ operands p instr)
+spelled_as p names found other instr e f t g =
+    let row = (shape instr).operands in
+    let h = spelled_row p names found other row (all_spelled p names found other row e (fit_all instr f) t g) in
+    (operands p instr, ap (λ w. w ∷ operands p instr) (moved_word found other instr), subst (λ os. AreOperands names os (operands p instr)) (moved_row found other instr) h)
+
+pub operands_are_words : (p : Program) (names : Option Names) (found other : ℕ → ℕ) (instr : Instr) → has_bad_range instr ≡ false → FitsInstr instr → AllByRecursion (Labels names found) (targets instr) → Forks p names other instr → AreWords (operands p instr)
+operands_are_words p names found other instr e f t g = let row = (shape instr).operands in row_are_words p names found other row (all_spelled p names found other row e (fit_all instr f) t g)
 
 -- the first word of an instruction is a word
 pub keyword_is_word : (instr : Instr) → IsWord (keyword instr)
 keyword_is_word (i.Push k) = concrete (codes "push") refl refl
-keyword_is_word (i.Load x) = concrete (codes "load") refl refl
-keyword_is_word (i.Store x) = concrete (codes "store") refl refl
-keyword_is_word (i.Div to) = concrete (codes "div") refl refl
-keyword_is_word (i.Jmp to) = concrete (codes "jmp") refl refl
-keyword_is_word (i.Jz to) = concrete (codes "jz") refl refl
-keyword_is_word (i.Times n) = concrete (codes "times") refl refl
-keyword_is_word (i.Open s j t) = concrete (codes "open") refl refl
-keyword_is_word (i.Fork s f h) = concrete (codes "fork") refl refl
-keyword_is_word (i.Join s f t r) = concrete (codes "join") refl refl
-keyword_is_word (i.Close s) = concrete (codes "close") refl refl
-keyword_is_word (i.Cancelled s) = concrete (codes "cancelled") refl refl
-keyword_is_word (i.Case h s f) = concrete (codes "case") refl refl
-keyword_is_word (i.Get h) = concrete (codes "get") refl refl
-keyword_is_word (i.Except h) = concrete (codes "except") refl refl
-keyword_is_word (i.Tally s k) = concrete (codes "tally") refl refl
-keyword_is_word (i.Total s) = concrete (codes "total") refl refl
-keyword_is_word (i.Forget h) = concrete (codes "forget") refl refl
-keyword_is_word (i.Bind k) = concrete (codes "bind") refl refl
-keyword_is_word (i.Read k) = concrete (codes "read") refl refl
-keyword_is_word (i.Bound k) = concrete (codes "bound") refl refl
-keyword_is_word (i.OrElse k) = concrete (codes "orelse") refl refl
-keyword_is_word i.Pop = concrete (codes "pop") refl refl
-keyword_is_word i.Dup = concrete (codes "dup") refl refl
-keyword_is_word i.Swap = concrete (codes "swap") refl refl
-keyword_is_word i.Add = concrete (codes "add") refl refl
-keyword_is_word i.Sub = concrete (codes "sub") refl refl
-keyword_is_word i.Mul = concrete (codes "mul") refl refl
-keyword_is_word i.Lt = concrete (codes "lt") refl refl
-keyword_is_word i.Eq = concrete (codes "eq") refl refl
-keyword_is_word i.Next = concrete (codes "next") refl refl
-keyword_is_word i.Unbind = concrete (codes "unbind") refl refl
-keyword_is_word i.Interrupted = concrete (codes "interrupted") refl refl
-keyword_is_word i.Ret = concrete (codes "ret") refl refl
-keyword_is_word i.Fail = concrete (codes "fail") refl refl
+keyword_is_word instr = concrete (keyword instr) refl refl
 
 same_option : (o : Option ℕ) → option_map (λ (x : ℕ). x) o ≡ o
 same_option None = refl

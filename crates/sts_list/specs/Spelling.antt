@@ -3,8 +3,9 @@ use Rattle.std.specs.Prelude.{ℕ, Bool, true, false, List, [], ◌∷◌, ◌++
 use Rattle.std.specs.List.{flat_map}
 use Rattle.std.specs.Fmt.{decimal, signed_decimal}
 use Rattle.sts_code.specs.Program.{Program, routine}
+use Rattle.sts_code.specs.Shape.{Operand, Value, Local, Turns, Label, MaybeLabel, InSlot, Handle}
+use Rattle.sts_code.specs.Shape.{Function, State, Key, Rule, Timed, shape}
 use Rattle.sts_code.specs.declared.instr.Instr.{Instr}
-use Rattle.sts_code.specs.declared.instr.Instr.TheVariants as i
 use Rattle.sts_code.specs.declared.instr.Joiner.{Joiner}
 use Rattle.sts_code.specs.declared.instr.Joiner.TheVariants.{AllSucceed, AnySucceeds, AwaitOk}
 use Rattle.sts_code.specs.declared.instr.Joiner.TheVariants.{AwaitAll, Until}
@@ -15,41 +16,7 @@ use Rattle.sts_code.specs.declared.instr.Kind.TheVariants.{S, F, U}
 
 -- the first word of an instruction
 abbrev pub keyword : Instr → List ℕ
-keyword (i.Push k) = codes "push"
-keyword i.Pop = codes "pop"
-keyword i.Dup = codes "dup"
-keyword i.Swap = codes "swap"
-keyword (i.Load x) = codes "load"
-keyword (i.Store x) = codes "store"
-keyword i.Add = codes "add"
-keyword i.Sub = codes "sub"
-keyword i.Mul = codes "mul"
-keyword i.Lt = codes "lt"
-keyword i.Eq = codes "eq"
-keyword (i.Div to) = codes "div"
-keyword (i.Jmp to) = codes "jmp"
-keyword (i.Jz to) = codes "jz"
-keyword (i.Times n) = codes "times"
-keyword i.Next = codes "next"
-keyword (i.Open s j timed) = codes "open"
-keyword (i.Fork s f h) = codes "fork"
-keyword (i.Join s failed timeout interrupted) = codes "join"
-keyword (i.Close s) = codes "close"
-keyword (i.Cancelled s) = codes "cancelled"
-keyword (i.Case h success failed) = codes "case"
-keyword (i.Get h) = codes "get"
-keyword (i.Except h) = codes "except"
-keyword (i.Tally s kind) = codes "tally"
-keyword (i.Total s) = codes "total"
-keyword (i.Forget h) = codes "forget"
-keyword (i.Bind k) = codes "bind"
-keyword i.Unbind = codes "unbind"
-keyword (i.Read k) = codes "read"
-keyword (i.Bound k) = codes "bound"
-keyword (i.OrElse k) = codes "orelse"
-keyword i.Interrupted = codes "interrupted"
-keyword i.Ret = codes "ret"
-keyword i.Fail = codes "fail"
+keyword instr = (shape instr).word
 
 -- `L` and the number of the instruction
 abbrev pub label : ℕ → List ℕ
@@ -94,32 +61,30 @@ abbrev pub timed_words : Bool → List (List ℕ)
 timed_words true = codes "timed" ∷ []
 timed_words false = []
 
+-- the words of an operand
+abbrev pub operand_words : Program → Operand → List (List ℕ)
+operand_words p (Value k) = signed_decimal k ∷ []
+operand_words p (Local x) = decimal x ∷ []
+operand_words p (Turns n) = decimal n ∷ []
+operand_words p (Label to) = label to ∷ []
+operand_words p (MaybeLabel to) = maybe_label to ∷ []
+operand_words p (InSlot role x) = slot x ∷ []
+operand_words p (Handle h) = handle h ∷ []
+operand_words p (Function f) = (routine p f).name ∷ []
+operand_words p (State kind) = kind_word kind ∷ []
+operand_words p (Key k) = decimal k ∷ []
+operand_words p (Rule joiner) = joiner_words joiner
+operand_words p (Timed timed) = timed_words timed
+
+-- the words of these operands
+abbrev pub words_of : Program → List Operand → List (List ℕ)
+words_of p [] = []
+words_of p (operand ∷ []) = operand_words p operand
+words_of p (operand ∷ more) = operand_words p operand ++ words_of p more
+
 -- the words after the first
 abbrev pub operands : Program → Instr → List (List ℕ)
-operands p (i.Push k) = signed_decimal k ∷ []
-operands p (i.Load x) = decimal x ∷ []
-operands p (i.Store x) = decimal x ∷ []
-operands p (i.Div to) = label to ∷ []
-operands p (i.Jmp to) = label to ∷ []
-operands p (i.Jz to) = label to ∷ []
-operands p (i.Times n) = decimal n ∷ []
-operands p (i.Open s j timed) = slot s ∷ joiner_words j ++ timed_words timed
-operands p (i.Fork s f h) = slot s ∷ (routine p f).name ∷ handle h ∷ []
-operands p (i.Join s failed timeout interrupted) =
-    slot s ∷ maybe_label failed ∷ maybe_label timeout ∷ label interrupted ∷ []
-operands p (i.Close s) = slot s ∷ []
-operands p (i.Cancelled s) = slot s ∷ []
-operands p (i.Case h success failed) = slot h ∷ label success ∷ label failed ∷ []
-operands p (i.Get h) = slot h ∷ []
-operands p (i.Except h) = slot h ∷ []
-operands p (i.Tally s kind) = slot s ∷ kind_word kind ∷ []
-operands p (i.Total s) = slot s ∷ []
-operands p (i.Forget h) = slot h ∷ []
-operands p (i.Bind k) = decimal k ∷ []
-operands p (i.Read k) = decimal k ∷ []
-operands p (i.Bound k) = decimal k ∷ []
-operands p (i.OrElse k) = decimal k ∷ []
-operands p instr = []
+operands p instr = words_of p (shape instr).operands
 
 -- each word after a space
 abbrev pub after_spaces : List (List ℕ) → List ℕ
