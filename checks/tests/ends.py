@@ -17,7 +17,8 @@ scopes that are misused. Each is asked with expiries and without, and with an in
   another listing, and the same seed the same one. A schedule may have 100,000 events, and no more (`schedules_of_look`).
 - Searches of some larger programs keep as many states as are counted by hand or by all_ends.py (`searches_of_look`).
 - A search by calls finds the ends of programs with 50 subtasks, worked out by hand, and those that the search over all schedules
-  finds of drawn programs (`calls_of_look`; with `--count 600`, of some 3,000 questions).
+  finds of drawn programs (`calls_of_look`; with `--count 600`, of some 3,000 questions). It does so for programs that are
+  interrupted. A table of calls shows that there is no other end, unless each end that it has too many takes more interrupts.
 A program with more than MOST_STATES states is left out. With a PART, which is `schedules_of_look`, `searches_of_look` or
 `calls_of_look`, only that is tried. The last line is `N passed, M failed`, of comparisons.
 """
@@ -343,6 +344,32 @@ def ends_of_flaky(joiner, count):
     return [f"success {it}" for it in successes] + (late if joiner in ("all", "any", "awaitok") else [])
 
 
+# A subtask that succeeds with its argument. It fails with 7 more if its own scope expires, and with 100 if it is interrupted there.
+HASTY = "func work 1 / load 0 / ret / end / func kid 1 / open s1 all timed / load 0 / fork s1 work _ / join s1 bad late intr / pop / " \
+    "close s1 / load 0 / ret / bad: / close s1 / fail / late: / close s1 / load 0 / push 7 / add / fail / intr: / close s1 / " \
+    "push 100 / fail / end / "
+# A subtask that fails only if it is interrupted.
+ASKS = "func asks 0 / interrupted / jz calm / push 9 / fail / calm: / push 1 / ret / end / "
+INTR = "intr: / push 0 / close s0 / fail / end"
+
+
+def interrupted():
+    """Yields programs that are interrupted: their text, how many interrupts may come, how many states are kept, all ends, and
+    whether a table shows that there is no other."""
+    forks = "push 20 / times 20 / load 5 / push 1 / add / store 5 / load 5 / fork s0 kid _ / next / "
+    late, each = [f"failed {it + 7}" for it in range(1, 21)], [f"success {it}" for it in range(1, 21)]
+    for joiner, ends in (("all", ["success 20", *late]), ("any", [*each, *late])):
+        source = f"{HASTY}func main 0 / open s0 {joiner} timed / {forks}join s0 bad late intr / close s0 / ret / bad: / close s0 / fail / " \
+            f"late: / push 300 / close s0 / fail / {INTR}"
+        for most in (1, 2):
+            yield lines_of(source), most, 2000, [*ends, "failed 100", "failed 0", "failed 300"], True
+    source = f"{ASKS}func main 0 / open s0 any / fork s0 asks _ / fork s0 asks _ / join s0 bad - intr / close s0 / ret / bad: / close s0 / " \
+        f"fail / {INTR}"
+    # Both subtasks fail only by two interrupts. A table has this end for one, too.
+    yield lines_of(source), 1, 50, ["success 1", "failed 0"], False
+    yield lines_of(source), 2, 50, ["success 1", "failed 0", "failed 9"], True
+
+
 def by_calls(look, text, words, most):
     """Returns the ends, whether a search by calls found no other, and the status: 0 if a table shows that there is none."""
     status, printed = says(look, "ends", text, *words, "--most", str(most))
@@ -359,6 +386,12 @@ def calls_of_look(look, folder, count=30, seed="1"):
         found, is_closed, status = by_calls(look, text, [], 2000)
         expected = ends_of_flaky(joiner, 50)
         yield f"{joiner} of 50: {found}", (len(found), set(found), is_closed, status) == (len(expected), set(expected), True, 5)
+    for source, interrupts, most, expected, is_whole in interrupted():
+        with open(text, "w") as file:
+            file.write(source)
+        found, is_closed, status = by_calls(look, text, options(True, interrupts), most)
+        right = (len(expected), set(expected), True, 0 if is_whole else 5)
+        yield f"with {interrupts} interrupts: {found}, {source}", (len(found), set(found), is_closed, status) == right
     compared = 0
     for number in range(count):
         for kind in (seeing.stress, seeing.within, seeing.failing):

@@ -39,7 +39,7 @@ fn have_ways(found: &[Found], ways: &[Way]) -> bool
     true
 }
 
-/// Is each way of a closed table among these ends? Then they are all ends, if no interrupt comes.
+/// Is each way of a closed table among these ends? Then they are all ends.
 ///
 /// # Errors
 ///
@@ -53,10 +53,7 @@ pub fn are_whole(
     ensures { IfOk result (λ yes. AreWhole yes setting.now found.now) }
 {
     ends_are_ways();
-    if setting.interrupts > 0 {
-        return Ok(false);
-    }
-    let Some(rows) = closed_table(alloc, &setting.program, most)? else {
+    let Some(rows) = closed_table(alloc, &setting.program, setting.interrupts, most)? else {
         return Ok(false);
     };
     match rows.as_slice().get(0) {

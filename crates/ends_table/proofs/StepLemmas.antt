@@ -1,5 +1,5 @@
 -- The states to which each instruction leads.
-use Rattle.std.proofs.Common.{◌≡◌, ℕ, pos, List, [], ◌∷◌, Bool, true, false, Option, Some}
+use Rattle.std.proofs.Common.{◌≡◌, ℕ, ◌<◌, pos, List, [], ◌∷◌, Bool, true, false, Option, Some}
 use Rattle.std.proofs.Common.{refl, sym, ◌∙◌, subst, is_some}
 use Rattle.std.specs.Prelude.{unwrap_or, slice_get, drop, slice_set}
 use Rattle.sts_code.specs.Program.{Program}
@@ -22,17 +22,17 @@ use Rattle.laws_calls.specs.declared.table.Seen.{Seen}
 use Rattle.laws_calls.specs.declared.table.Part.{Part}
 use Rattle.laws_calls.specs.Steps.{Table, Leads, Owns, Knows, to, pushes, opened, closed}
 use Rattle.laws_calls.specs.Steps.{local_step, read_step, bound_step, or_else_step, bind_step}
-use Rattle.laws_calls.specs.Steps.{unbind_step, forget_step, interrupted_step, lent_step}
+use Rattle.laws_calls.specs.Steps.{unbind_step, forget_step, calm_step, interrupted_step, lent_step}
 use Rattle.laws_calls.specs.Steps.{going_step, cancelled_step, expired_step, open_step}
-use Rattle.laws_calls.specs.Steps.{unstarted_step, close_step, timeout_step, by_one_step}
-use Rattle.laws_calls.specs.Steps.{by_count_step, heard_step, none_step, success_step}
+use Rattle.laws_calls.specs.Steps.{unstarted_step, close_step, attempted_step, timeout_step}
+use Rattle.laws_calls.specs.Steps.{by_one_step, by_count_step, heard_step, none_step, success_step}
 use Rattle.laws_calls.specs.Steps.{failure_step, missed_step, get_step, except_step}
 use Rattle.laws_calls.specs.Steps.{tally_step, total_step}
 use Rattle.laws_calls.specs.Steps.{is_cancelled, may_decide, may_be_late}
 use Rattle.laws_calls.specs.Steps.{with_seen, after_cancel, after_expiry}
-use Rattle.ends_table.specs.Led.{AllLead, LooksLead, JoinsLead, CasesLead, ReadsLead, ForkLeads}
+use Rattle.ends_table.specs.Led.{AllLead, LooksLead, AttemptLeads, JoinsLead, CasesLead, ReadsLead, ForkLeads}
 
-module _ (p : Program) (c : Call) (states : List Own) (own : Own) where
+module _ (p : Program) (interrupts : ℕ) (c : Call) (states : List Own) (own : Own) where
   -- ---- what a slot holds
 
   -- a slot holds one scope
@@ -61,7 +61,7 @@ module _ (p : Program) (c : Call) (states : List Own) (own : Own) where
 
   -- ---- the frame alone
 
-  pub local_leads : (i : Instr) → is_local i ≡ true → Leads states (to own (local (code p own.frame) i own.frame)) → AllLead p c states own i
+  pub local_leads : (i : Instr) → is_local i ≡ true → Leads states (to own (local (code p own.frame) i own.frame)) → AllLead p interrupts c states own i
   local_leads i e h next (local_step same) = h
   local_leads i e h next read_step = cc
   local_leads i e h next bound_step = cc
@@ -69,7 +69,8 @@ module _ (p : Program) (c : Call) (states : List Own) (own : Own) where
   local_leads i e h next bind_step = cc
   local_leads i e h next unbind_step = cc
   local_leads i e h next forget_step = cc
-  local_leads i e h next interrupted_step = cc
+  local_leads i e h next calm_step = cc
+  local_leads i e h next (interrupted_step may) = cc
   local_leads i e h next (lent_step holds) = cc
   local_leads i e h next (going_step place seen pick o free fits less) = cc
   local_leads i e h next (cancelled_step place seen o may) = cc
@@ -77,6 +78,7 @@ module _ (p : Program) (c : Call) (states : List Own) (own : Own) where
   local_leads i e h next open_step = cc
   local_leads i e h next (unstarted_step place seen o gone) = cc
   local_leads i e h next close_step = cc
+  local_leads i e h next (attempted_step place seen may o unseen some) = cc
   local_leads i e h next (timeout_step place seen o may timed) = cc
   local_leads i e h next (by_one_step place seen j part end o may one way counts) = cc
   local_leads i e h next (by_count_step place seen o may many) = cc
@@ -90,87 +92,90 @@ module _ (p : Program) (c : Call) (states : List Own) (own : Own) where
   local_leads i e h next (tally_step place seen pick o fits) = cc
   local_leads i e h next (total_step place seen pick o fits) = cc
 
-  pub read_leads : (k : ℕ) → Leads states (pushes own 0 (unwrap_or (read (bindings c own) k) (pos 0))) → AllLead p c states own (Read k)
+  pub read_leads : (k : ℕ) → Leads states (pushes own 0 (unwrap_or (read (bindings c own) k) (pos 0))) → AllLead p interrupts c states own (Read k)
   read_leads k h next (local_step e) = cc
   read_leads k h next read_step = h
 
-  pub bound_leads : (k : ℕ) → Leads states (pushes own 0 (truth (is_some (read (bindings c own) k)))) → AllLead p c states own (Bound k)
+  pub bound_leads : (k : ℕ) → Leads states (pushes own 0 (truth (is_some (read (bindings c own) k)))) → AllLead p interrupts c states own (Bound k)
   bound_leads k h next (local_step e) = cc
   bound_leads k h next bound_step = h
 
-  pub or_else_leads : (k : ℕ) → Leads states (pushes own 1 (unwrap_or (read (bindings c own) k) (operand own.frame 0))) → AllLead p c states own (OrElse k)
+  pub or_else_leads : (k : ℕ) → Leads states (pushes own 1 (unwrap_or (read (bindings c own) k) (operand own.frame 0))) → AllLead p interrupts c states own (OrElse k)
   or_else_leads k h next (local_step e) = cc
   or_else_leads k h next or_else_step = h
 
-  pub bind_leads : (k : ℕ) → Leads states (to own (record (steps own.frame 1 []) { entries = entry.Binding k (operand own.frame 0) ∷ own.frame.entries })) → AllLead p c states own (Bind k)
+  pub bind_leads : (k : ℕ) → Leads states (to own (record (steps own.frame 1 []) { entries = entry.Binding k (operand own.frame 0) ∷ own.frame.entries })) → AllLead p interrupts c states own (Bind k)
   bind_leads k h next (local_step e) = cc
   bind_leads k h next bind_step = h
 
-  pub unbind_leads : Leads states (to own (record (steps own.frame 0 []) { entries = drop 1 own.frame.entries })) → AllLead p c states own Unbind
+  pub unbind_leads : Leads states (to own (record (steps own.frame 0 []) { entries = drop 1 own.frame.entries })) → AllLead p interrupts c states own Unbind
   unbind_leads h next (local_step e) = cc
   unbind_leads h next unbind_step = h
 
-  pub forget_leads : (x : ℕ) → Leads states (record own { frame = steps own.frame 0 []; held = slice_set own.held x held.Empty }) → AllLead p c states own (Forget x)
+  pub forget_leads : (x : ℕ) → Leads states (record own { frame = steps own.frame 0 []; held = slice_set own.held x held.Empty }) → AllLead p interrupts c states own (Forget x)
   forget_leads x h next (local_step e) = cc
   forget_leads x h next forget_step = h
 
-  pub interrupted_leads : Leads states (pushes own 0 (truth false)) → AllLead p c states own Interrupted
-  interrupted_leads h next (local_step e) = cc
-  interrupted_leads h next interrupted_step = h
+  pub interrupted_leads : Leads states (pushes own 0 (truth false)) → (0 < interrupts → Leads states (pushes own 0 (truth true))) → AllLead p interrupts c states own Interrupted
+  interrupted_leads h k next (local_step e) = cc
+  interrupted_leads h k next calm_step = h
+  interrupted_leads h k next (interrupted_step may) = k may
 
-  pub ret_leads : AllLead p c states own Ret
+  pub ret_leads : AllLead p interrupts c states own Ret
   ret_leads next (local_step e) = cc
 
-  pub fail_leads : AllLead p c states own Fail
+  pub fail_leads : AllLead p interrupts c states own Fail
   fail_leads next (local_step e) = cc
 
   -- ---- scopes
 
-  pub open_leads : (x : ℕ) (joiner : Joiner) (timed : Bool) → Leads states (opened c own x joiner timed) → AllLead p c states own (Open x joiner timed)
+  pub open_leads : (x : ℕ) (joiner : Joiner) (timed : Bool) → Leads states (opened c own x joiner timed) → AllLead p interrupts c states own (Open x joiner timed)
   open_leads x joiner timed h next (local_step e) = cc
   open_leads x joiner timed h next open_step = h
 
-  pub close_leads : (x : ℕ) → Leads states (closed own) → AllLead p c states own (Close x)
+  pub close_leads : (x : ℕ) → Leads states (closed own) → AllLead p interrupts c states own (Close x)
   close_leads x h next (local_step e) = cc
   close_leads x h next close_step = h
 
-  pub fork_leads : (t : Table) (x g : ℕ) (q : Option ℕ) → ((place : ℕ) (seen : Seen) → Owns own x place seen → ForkLeads p t states own x g q place seen) → AllLead p c states own (Fork x g q)
+  pub fork_leads : (t : Table) (x g : ℕ) (q : Option ℕ) → ((place : ℕ) (seen : Seen) → Owns own x place seen → ForkLeads p t states own x g q place seen) → AllLead p interrupts c states own (Fork x g q)
   fork_leads t x g q h next (local_step e) = cc
   fork_leads t x g q h next (unstarted_step place seen o gone) = (h place seen o).unstarted gone
 
   not_lent : (x place : ℕ) (seen : Seen) → held_at own x ≡ held.Lent → Owns own x place seen → ⊥
   not_lent x place seen holds o = let e : held.Lent ≡ held.Own place = sym holds ∙ o.holds in cc
 
-  pub lent_leads : (x : ℕ) → held_at own x ≡ held.Lent → Leads states (pushes own 0 (truth false)) → AllLead p c states own (Cancelled x)
+  pub lent_leads : (x : ℕ) → held_at own x ≡ held.Lent → Leads states (pushes own 0 (truth false)) → AllLead p interrupts c states own (Cancelled x)
   lent_leads x holds h next (local_step e) = cc
   lent_leads x holds h next (lent_step again) = h
   lent_leads x holds h next (going_step place seen pick o free fits less) = h
   lent_leads x holds h next (cancelled_step place seen o may) = absurd (not_lent x place seen holds o)
   lent_leads x holds h next (expired_step place seen o may timed) = absurd (not_lent x place seen holds o)
 
-  pub looks_lead : (x place : ℕ) (seen : Seen) → Owns own x place seen → LooksLead states own place seen → AllLead p c states own (Cancelled x)
+  pub looks_lead : (x place : ℕ) (seen : Seen) → Owns own x place seen → LooksLead states own place seen → AllLead p interrupts c states own (Cancelled x)
   looks_lead x place seen o h next (local_step e) = cc
   looks_lead x place seen o h next (lent_step holds) = absurd (not_lent x place seen holds o)
   looks_lead x place seen o h next (going_step place2 seen2 pick q free fits less) = owned (λ a s. is_cancelled s.knowledge ≡ false → Leads states (pushes own 0 (truth false))) x place place2 seen seen2 o q h.going free
   looks_lead x place seen o h next (cancelled_step place2 seen2 q may) = owned (λ a s. may_decide s.knowledge ≡ true → Leads states (pushes (with_seen own a (after_cancel s)) 0 (truth true))) x place place2 seen seen2 o q h.cancelled may
   looks_lead x place seen o h next (expired_step place2 seen2 q may timed) = owned (λ a s. may_be_late s.knowledge ≡ true → s.timed ≡ true → Leads states (pushes (with_seen own a (after_expiry s)) 0 (truth true))) x place place2 seen seen2 o q h.expired may timed
 
-  pub joins_lead : (x to_i : ℕ) (failed timeout : Option ℕ) (place : ℕ) (seen : Seen) → Owns own x place seen → JoinsLead states own place seen (unwrap_or failed 0) (unwrap_or timeout 0) → AllLead p c states own (Join x failed timeout to_i)
-  joins_lead x to_i failed timeout place seen o h next (local_step e) = cc
-  joins_lead x to_i failed timeout place seen o h next (timeout_step place2 seen2 q may timed) =
+  pub joins_lead : (x to_i : ℕ) (failed timeout : Option ℕ) (place : ℕ) (seen : Seen) → Owns own x place seen → JoinsLead states own place seen (unwrap_or failed 0) (unwrap_or timeout 0) → (0 < interrupts → AttemptLeads states own place seen to_i) → AllLead p interrupts c states own (Join x failed timeout to_i)
+  joins_lead x to_i failed timeout place seen o h k next (local_step e) = cc
+  joins_lead x to_i failed timeout place seen o h k next (attempted_step place2 seen2 may q unseen some) =
+      owned (λ a s. AttemptLeads states own a s to_i) x place place2 seen seen2 o q (k may) unseen some
+  joins_lead x to_i failed timeout place seen o h k next (timeout_step place2 seen2 q may timed) =
       (owned (λ a s. JoinsLead states own a s (unwrap_or failed 0) (unwrap_or timeout 0)) x place place2 seen seen2 o q h).late may timed
-  joins_lead x to_i failed timeout place seen o h next (by_one_step place2 seen2 j part end q may one way counts) =
+  joins_lead x to_i failed timeout place seen o h k next (by_one_step place2 seen2 j part end q may one way counts) =
       (owned (λ a s. JoinsLead states own a s (unwrap_or failed 0) (unwrap_or timeout 0)) x place place2 seen seen2 o q h).by_one may one j part end way counts
-  joins_lead x to_i failed timeout place seen o h next (by_count_step place2 seen2 q may many) =
+  joins_lead x to_i failed timeout place seen o h k next (by_count_step place2 seen2 q may many) =
       (owned (λ a s. JoinsLead states own a s (unwrap_or failed 0) (unwrap_or timeout 0)) x place place2 seen seen2 o q h).by_count may many
-  joins_lead x to_i failed timeout place seen o h next (heard_step place2 seen2 q free none) =
+  joins_lead x to_i failed timeout place seen o h k next (heard_step place2 seen2 q free none) =
       (owned (λ a s. JoinsLead states own a s (unwrap_or failed 0) (unwrap_or timeout 0)) x place place2 seen seen2 o q h).heard free none
-  joins_lead x to_i failed timeout place seen o h next (none_step place2 seen2 j part end q free any way fails early) =
+  joins_lead x to_i failed timeout place seen o h k next (none_step place2 seen2 j part end q free any way fails early) =
       (owned (λ a s. JoinsLead states own a s (unwrap_or failed 0) (unwrap_or timeout 0)) x place place2 seen seen2 o q h).none free any j part end way fails early
 
   -- ---- subtasks
 
-  pub cases_lead : (x good bad place : ℕ) (seen : Seen) (i : ℕ) (part : Part) → Knows own x place seen i part → CasesLead states own place seen i part good bad → AllLead p c states own (Case x good bad)
+  pub cases_lead : (x good bad place : ℕ) (seen : Seen) (i : ℕ) (part : Part) → Knows own x place seen i part → CasesLead states own place seen i part good bad → AllLead p interrupts c states own (Case x good bad)
   cases_lead x good bad place seen i part o h next (local_step e) = cc
   cases_lead x good bad place seen i part o h next (success_step place2 seen2 j part2 counting q) =
       (knows (λ a s k y. CasesLead states own a s k y good bad) x place place2 seen seen2 i j part part2 o q h).success counting
@@ -179,12 +184,12 @@ module _ (p : Program) (c : Call) (states : List Own) (own : Own) where
   cases_lead x good bad place seen i part o h next (missed_step place2 seen2 j part2 q may) =
       (knows (λ a s k y. CasesLead states own a s k y good bad) x place place2 seen seen2 i j part part2 o q h).unended may
 
-  pub get_leads : (x place : ℕ) (seen : Seen) (i : ℕ) (part : Part) → Knows own x place seen i part → ReadsLead states own place seen i part true → AllLead p c states own (Get x)
+  pub get_leads : (x place : ℕ) (seen : Seen) (i : ℕ) (part : Part) → Knows own x place seen i part → ReadsLead states own place seen i part true → AllLead p interrupts c states own (Get x)
   get_leads x place seen i part o h next (local_step e) = cc
   get_leads x place seen i part o h next (get_step place2 seen2 j part2 v q way) =
       knows (λ a s k y. ReadsLead states own a s k y true) x place place2 seen seen2 i j part part2 o q h (Success v) way refl
 
-  pub except_leads : (x place : ℕ) (seen : Seen) (i : ℕ) (part : Part) → Knows own x place seen i part → ReadsLead states own place seen i part false → AllLead p c states own (Except x)
+  pub except_leads : (x place : ℕ) (seen : Seen) (i : ℕ) (part : Part) → Knows own x place seen i part → ReadsLead states own place seen i part false → AllLead p interrupts c states own (Except x)
   except_leads x place seen i part o h next (local_step e) = cc
   except_leads x place seen i part o h next (except_step place2 seen2 j part2 v q way) =
       knows (λ a s k y. ReadsLead states own a s k y false) x place place2 seen seen2 i j part part2 o q h (Failed v) way refl

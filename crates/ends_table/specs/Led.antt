@@ -1,7 +1,8 @@
 -- What a check of one state of a row shows: each step leads to a state of the row (this project's
 -- own).
-use Rattle.std.specs.Prelude.{◌≡◌, ℕ, ◌+◌, ℤ, List, [], ◌∷◌, length, Bool, true, false, Option, Some}
-use Rattle.std.specs.Prelude.{All}
+use Rattle.std.specs.Prelude.{◌≡◌, ℕ, ◌+◌, ℤ, List, [], ◌∷◌, length, Bool, true, false, Option}
+use Rattle.std.specs.Prelude.{Some, All}
+use Rattle.std.specs.List.{list_any}
 use Rattle.sts_code.specs.Program.{Program}
 use Rattle.sts_code.specs.declared.instr.Instr.{Instr}
 use Rattle.sts_code.specs.declared.instr.Instr.TheVariants.{Fork}
@@ -19,6 +20,7 @@ use Rattle.laws_calls.specs.declared.table.Call.{Call}
 use Rattle.laws_calls.specs.Steps.{Table, Steps, Leads, Forks, Owns, MayEnd, is_cancelled}
 use Rattle.laws_calls.specs.declared.table.Row.{Row}
 use Rattle.laws_calls.specs.Steps.{may_decide, may_be_late, is_heard, is_by_one, is_until, is_any}
+use Rattle.laws_calls.specs.Steps.{is_unseen, attempted}
 use Rattle.laws_calls.specs.Steps.{pushes, to, with_seen, with_part, after_cancel, after_expiry}
 use Rattle.laws_calls.specs.Steps.{after_all, decided, timed_out, joined, told, saw_failure, missed}
 use Rattle.laws_calls.specs.Steps.{forked, only, end_by, IsTable, root_call}
@@ -26,12 +28,13 @@ use Rattle.laws_calls.specs.Triggers.{is_trigger}
 use Rattle.ends_table.specs.declared.steps.Around.{Around}
 
 -- each step leads to a state that is there, or to one that isn't possible
-abbrev pub AllLead : Program → Call → List Own → Own → Instr → Type 0
-AllLead p c states own i = (next : Own) → Steps p c own i next → Leads states next
+abbrev pub AllLead : Program → ℕ → Call → List Own → Own → Instr → Type 0
+AllLead p interrupts c states own i =
+    (next : Own) → Steps p interrupts c own i next → Leads states next
 
 -- the same for a state of a row
 abbrev pub LeadsOn : Around → Instr → Type 0
-LeadsOn a i = AllLead a.program.now a.call.now a.states.now a.own.now i
+LeadsOn a i = AllLead a.program.now a.interrupts a.call.now a.states.now a.own.now i
 
 -- ---- kinds of ends
 
@@ -59,6 +62,12 @@ pub record LooksLead (states : List Own) (own : Own) (place : ℕ) (seen : Seen)
       → Leads states (pushes (with_seen own place (after_cancel seen)) 0 (truth true))
   pub expired : may_be_late seen.knowledge ≡ true → seen.timed ≡ true
       → Leads states (pushes (with_seen own place (after_expiry seen)) 0 (truth true))
+
+-- `join` that is interrupted
+abbrev pub AttemptLeads : List Own → Own → ℕ → Seen → ℕ → Type 0
+AttemptLeads states own place seen to_i =
+    is_unseen seen.knowledge ≡ true → list_any (λ (part : Part). part.is_open) seen.parts ≡ true
+    → Leads states (attempted own place seen to_i)
 
 -- `join` after this end of a part decided; the scope is as it is apart from that
 abbrev pub DecidedLeads : List Own → Own → ℕ → Seen → ℕ → ℕ → Part → End → Type 0
@@ -131,16 +140,18 @@ ForksLead p t row own i =
     → is_cancelled seen.knowledge ≡ false → Forks p t row.states own x g h place seen
 
 -- all that a table owes at a state of a row whose next instruction is this
-pub record IsLed (p : Program) (t : Table) (row : Row) (own : Own) (i : Instr) : Type 0 where
+pub record IsLed (p : Program) (interrupts : ℕ) (t : Table) (row : Row) (own : Own) (i : Instr)
+    : Type 0 where
   pub forks : ForksLead p t row own i
-  pub closed : AllLead p row.call row.states own i
+  pub closed : AllLead p interrupts row.call row.states own i
   pub ends : (e : End) → end_by i own.frame ≡ Some e → HasWay row.ways e
 
-abbrev pub IsLedAt : Program → Table → Row → Own → Type 0
-IsLedAt p t row own = (i : Instr) → instr_at p own.frame ≡ Some i → IsLed p t row own i
+abbrev pub IsLedAt : Program → ℕ → Table → Row → Own → Type 0
+IsLedAt p interrupts t row own =
+    (i : Instr) → instr_at p own.frame ≡ Some i → IsLed p interrupts t row own i
 
-abbrev pub IsLedRow : Program → Table → Row → Type 0
-IsLedRow p t row = All (IsLedAt p t row) row.states
+abbrev pub IsLedRow : Program → ℕ → Table → Row → Type 0
+IsLedRow p interrupts t row = All (IsLedAt p interrupts t row) row.states
 
 -- the row is that of the root's call
 pub record IsRoot (p : Program) (root : Row) : Type 0 where
@@ -148,6 +159,6 @@ pub record IsRoot (p : Program) (root : Row) : Type 0 where
   pub begins : Among root.states (begin held.Empty (root_call p))
 
 -- the table is closed, and its first row is the root's
-abbrev pub IsClosed : Program → Table → Type 0
-IsClosed p [] = Unit {0}
-IsClosed p (root ∷ rows) = IsTable p (root ∷ rows) root
+abbrev pub IsClosed : Program → ℕ → Table → Type 0
+IsClosed p interrupts [] = Unit {0}
+IsClosed p interrupts (root ∷ rows) = IsTable p interrupts (root ∷ rows) root

@@ -43,19 +43,21 @@ fn check_fork(
     Ok(())
 }
 
-/// All that a table owes at a state whose next instruction is this.
+/// All that a table owes at a state whose next instruction is this, if so many interrupts may come.
 fn check_instr(
     alloc: Global,
     program: &Program,
+    interrupts: u32,
     table: &[Row],
     row: &Row,
     own: &Own,
     instr: Instr,
 ) -> Result<(), Stop>
-    ensures { OnOk result (led.IsLed program.now table.now row.now own.now instr) }
+    ensures { OnOk result (led.IsLed program.now interrupts table.now row.now own.now instr) }
 {
     let around = Around {
         program,
+        interrupts,
         table,
         call: &row.call,
         states: row.states.as_slice(),
@@ -75,35 +77,43 @@ fn check_instr(
 pub fn check_state(
     alloc: Global,
     program: &Program,
+    interrupts: u32,
     table: &[Row],
     row: &Row,
     own: &Own,
 ) -> Result<(), Stop>
-    ensures { OnOk result (led.IsLedAt program.now table.now row.now own.now) }
+    ensures { OnOk result (led.IsLedAt program.now interrupts table.now row.now own.now) }
 {
     let Some(instr) = instr_at(program, &own.frame) else {
         return Ok(());
     };
-    check_instr(alloc, program, table, row, own, instr)?;
+    check_instr(alloc, program, interrupts, table, row, own, instr)?;
     Ok(())
 }
 
 /// All that a table owes at the states of a row.
-fn check_row(alloc: Global, program: &Program, table: &[Row], row: &Row) -> Result<(), Stop>
-    ensures { OnOk result (All (led.IsLedAt program.now table.now row.now) row.now.states) }
+fn check_row(
+    alloc: Global,
+    program: &Program,
+    interrupts: u32,
+    table: &[Row],
+    row: &Row,
+) -> Result<(), Stop>
+    ensures { OnOk result (All (led.IsLedAt program.now interrupts table.now row.now)
+        row.now.states) }
 {
     for own in row.states.as_slice() {
-        check_state(alloc, program, table, row, own)?;
+        check_state(alloc, program, interrupts, table, row, own)?;
     }
     Ok(())
 }
 
 /// All that a table owes at the states of its rows.
-fn check_rows(alloc: Global, program: &Program, table: &[Row]) -> Result<(), Stop>
-    ensures { OnOk result (All (led.IsLedRow program.now table.now) table.now) }
+fn check_rows(alloc: Global, program: &Program, interrupts: u32, table: &[Row]) -> Result<(), Stop>
+    ensures { OnOk result (All (led.IsLedRow program.now interrupts table.now) table.now) }
 {
     for row in table {
-        check_row(alloc, program, table, row)?;
+        check_row(alloc, program, interrupts, table, row)?;
     }
     Ok(())
 }
@@ -125,14 +135,19 @@ fn check_root(alloc: Global, program: &Program, root: &Row) -> Result<(), Stop>
 /// # Errors
 ///
 /// The table lacks something, or it is not known whether it does, or memory ran out.
-pub fn check_table(alloc: Global, program: &Program, table: &[Row]) -> Result<(), Stop>
-    ensures { OnOk result (led.IsClosed program.now table.now) }
+pub fn check_table(
+    alloc: Global,
+    program: &Program,
+    interrupts: u32,
+    table: &[Row],
+) -> Result<(), Stop>
+    ensures { OnOk result (led.IsClosed program.now interrupts table.now) }
 {
     let Some(root) = table.get(0) else {
         return Ok(());
     };
     check_root(alloc, program, root)?;
-    check_rows(alloc, program, table)?;
+    check_rows(alloc, program, interrupts, table)?;
     Ok(())
 }
 
@@ -141,10 +156,15 @@ pub fn check_table(alloc: Global, program: &Program, table: &[Row]) -> Result<()
 /// # Errors
 ///
 /// Memory ran out.
-pub fn is_closed(alloc: Global, program: &Program, table: &[Row]) -> Result<bool, AllocError>
-    ensures { IfOk result (λ yes. yes ≡ true → led.IsClosed program.now table.now) }
+pub fn is_closed(
+    alloc: Global,
+    program: &Program,
+    interrupts: u32,
+    table: &[Row],
+) -> Result<bool, AllocError>
+    ensures { IfOk result (λ yes. yes ≡ true → led.IsClosed program.now interrupts table.now) }
 {
-    match check_table(alloc, program, table) {
+    match check_table(alloc, program, interrupts, table) {
         Ok(()) => Ok(true),
         Err(Stop::NoMemory(error)) => Err(error),
         Err(_) => Ok(false),

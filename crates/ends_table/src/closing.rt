@@ -28,6 +28,8 @@ struct Open {
 /// A table that is being made. The root's row comes first.
 #[derive(Drop)]
 struct Closing {
+    /// How many interrupts may come.
+    interrupts: u32,
     rows: Vec<Row>,
     /// The rows whose states are not all done. Each waits for the one behind it.
     open: Vec<Open>,
@@ -98,7 +100,7 @@ impl Closing {
         let Some(own) = row.states.as_slice().get(at.done) else {
             return Ok(false);
         };
-        check_state(alloc, program, table, row, own)?;
+        check_state(alloc, program, self.interrupts, table, row, own)?;
         Ok(true)
     }
 
@@ -155,8 +157,14 @@ impl Closing {
 
 /// The rows of the smallest table that is closed, or that it has too many states, or steps that
 /// can't be listed.
-fn table_of(alloc: Global, program: &Program, most: usize) -> Result<Vec<Row>, Stop> {
+fn table_of(
+    alloc: Global,
+    program: &Program,
+    interrupts: u32,
+    most: usize,
+) -> Result<Vec<Row>, Stop> {
     let mut closing = Closing {
+        interrupts,
         rows: Vec::new(alloc),
         open: Vec::new(alloc),
         states: 0,
@@ -176,9 +184,9 @@ fn table_of(alloc: Global, program: &Program, most: usize) -> Result<Vec<Row>, S
     Ok(closing.rows)
 }
 
-/// A table of a program that is closed. Its first row is the root's. `None` if it has more than
-/// `most` states, or a row more than 4,000, or if it is too much work, or if some instruction's
-/// steps can't be listed.
+/// A table of a program that is closed, if so many interrupts may come. Its first row is the
+/// root's. `None` if it has more than `most` states, or a row more than 4,000, or if it is too much
+/// work, or if some instruction's steps can't be listed.
 ///
 /// # Errors
 ///
@@ -186,17 +194,18 @@ fn table_of(alloc: Global, program: &Program, most: usize) -> Result<Vec<Row>, S
 pub fn closed_table(
     alloc: Global,
     program: &Program,
+    interrupts: u32,
     most: usize,
 ) -> Result<Option<Vec<Row>>, AllocError>
     ensures { IfOk result
-        (λ table. IfSome table (λ rows. led.IsClosed program.now rows.items)) }
+        (λ table. IfSome table (λ rows. led.IsClosed program.now interrupts rows.items)) }
 {
-    let rows = match table_of(alloc, program, most) {
+    let rows = match table_of(alloc, program, interrupts, most) {
         Ok(rows) => rows,
         Err(Stop::NoMemory(error)) => return Err(error),
         Err(_) => return Ok(None),
     };
-    if is_closed(alloc, program, rows.as_slice())? {
+    if is_closed(alloc, program, interrupts, rows.as_slice())? {
         Ok(Some(rows))
     } else {
         Ok(None)

@@ -13,17 +13,17 @@ ghost use Rattle.sts_model.specs.declared.event.End.{End};
 use crate::frames::{answered, jumped};
 use crate::joiners::{
     answer_by, answer_by_none, is_any, is_by_one, is_cancelled, is_failure, is_heard, is_trigger,
-    is_until, may_decide,
+    is_unseen, is_until, may_decide,
 };
 use crate::looks::with_knowledge;
-use crate::parts::{all_ended, only};
+use crate::parts::{all_ended, has_open, only};
 use crate::places::{number, with_part};
 use crate::reached::leads_with;
 use crate::stop::Stop;
 use laws_calls::table::{Knowledge, Own, Part, Seen};
 use std::alloc::{AllocError, Global};
 use sts_model::{End, Phase, Verdict};
-use sts_same::copied::copy_items;
+use sts_same::copied::{Copied, copy_items};
 
 /// A place to go to, if one is named.
 pub fn target(to: Option<u32>) -> u32
@@ -66,6 +66,26 @@ fn joined(
     let mut after = seen;
     after.phase = Phase::Joined;
     let frame = answered(&own.frame, answer, failed)?;
+    leads_with(alloc, states, own, place, after, frame)
+}
+
+/// The state after an interrupt. It comes while a subtask lives.
+pub fn attempted(
+    alloc: Global,
+    states: &[Own],
+    own: &Own,
+    place: u32,
+    seen: &Seen,
+    to: u32,
+) -> Result<(), Stop>
+    ensures { OnOk result (led.AttemptLeads states.now own.now place seen.now to) }
+{
+    if !is_unseen(seen.knowledge) || !has_open(seen.parts.as_slice()) {
+        return Ok(());
+    }
+    let mut after = seen.copied(alloc)?;
+    after.phase = Phase::Attempted;
+    let frame = jumped(&own.frame, to, 0);
     leads_with(alloc, states, own, place, after, frame)
 }
 

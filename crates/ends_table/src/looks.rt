@@ -1,6 +1,6 @@
 //! The states after `cancelled`.
 
-ghost use Rattle.std.specs.Prelude.{◌≡◌, false, true, OnOk, IfOk};
+ghost use Rattle.std.specs.Prelude.{◌≡◌, ◌<◌, false, true, OnOk, IfOk};
 ghost use Rattle.ends_table.specs.Led as led;
 ghost use Rattle.laws_calls.specs.Steps as def;
 ghost use Rattle.sts_model.specs.Local.{truth};
@@ -27,6 +27,18 @@ pub fn not_cancelled(alloc: Global, states: &[Own], own: &Own) -> Result<(), Sto
     ensures { OnOk result (def.Leads states.now (def.pushes own.now 0 (truth false))) }
 {
     let frame = pushed(&own.frame, 0, 0)?;
+    leads_by(alloc, states, own, frame)
+}
+
+/// `interrupted` pushes 1, if an interrupt may come.
+pub fn interrupted(alloc: Global, states: &[Own], own: &Own, interrupts: u32) -> Result<(), Stop>
+    ensures { OnOk result (0 < interrupts
+        → def.Leads states.now (def.pushes own.now 0 (truth true))) }
+{
+    if interrupts == 0 {
+        return Ok(());
+    }
+    let frame = pushed(&own.frame, 0, 1)?;
     leads_by(alloc, states, own, frame)
 }
 

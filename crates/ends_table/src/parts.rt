@@ -1,9 +1,10 @@
 //! What an owner knows of its subtasks after it looked.
 
 ghost use Rattle.std.specs.Prelude.{◌≡◌, [], ◌∷◌, IfOk, map, ◌<◌, length, true, not};
-ghost use Rattle.std.specs.List.{filter};
+ghost use Rattle.std.specs.List.{filter, list_any};
 ghost use Rattle.ends_table.specs.Led as led;
 ghost use Rattle.laws_calls.specs.Steps as def;
+ghost use Rattle.laws_calls.specs.declared.table.Part.{Part};
 ghost use Rattle.laws_calls.specs.declared.table.Way.{Way};
 
 use crate::counts::sure_count;
@@ -48,6 +49,13 @@ pub fn all_ended(alloc: Global, parts: &[Part]) -> Result<Items<Part>, AllocErro
         after.push(ended(alloc, part)?)?;
     }
     Ok(after)
+}
+
+/// May some part be unavailable?
+pub fn has_open(parts: &[Part]) -> bool
+    ensures { result ≡ list_any (λ (part : Part). part.is_open) parts.now }
+{
+    parts.iter().any(|part| part.is_open)
 }
 
 /// Is the end of this kind?

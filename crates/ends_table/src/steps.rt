@@ -1,6 +1,6 @@
 //! The states after each instruction.
 
-ghost use Rattle.std.specs.Prelude.{◌≡◌, OnOk, true};
+ghost use Rattle.std.specs.Prelude.{◌≡◌, ◌<◌, OnOk, true};
 ghost use Rattle.ends_table.specs.Led as led;
 ghost use Rattle.laws_calls.specs.Tasks as tasks;
 ghost use Rattle.laws_calls.specs.declared.table.Held.TheVariants as held;
@@ -11,13 +11,13 @@ use crate::bindings::{after_bound, after_or_else, after_read, bound};
 use crate::cases::{cases, reads};
 use crate::forks::forks;
 use crate::frames::{after_local, left, pushed, stepped};
-use crate::joins::{joins, target};
-use crate::looks::{looks, not_cancelled};
+use crate::joins::{attempted, joins, target};
+use crate::looks::{interrupted, looks, not_cancelled};
 use crate::places::{held_at, known, owned, set_held, with_frame};
 use crate::reached::{leads, leads_by};
 use crate::scopes::{closed, opened};
 use crate::stop::Stop;
-use laws_calls::table::{Call, Held, Own, Row};
+use laws_calls::table::{Call, Held, Own, Row, Seen};
 use std::alloc::Global;
 use sts_code::{Instr, Joiner, Program};
 use sts_frames::is_local;
@@ -26,6 +26,8 @@ use sts_frames::is_local;
 #[derive(Drop)]
 pub struct Around<'a> {
     pub program: &'a Program,
+    /// How many interrupts may come.
+    pub interrupts: u32,
     pub table: &'a [Row],
     pub call: &'a Call,
     pub states: &'a [Own],
@@ -86,6 +88,7 @@ impl<'a> Around<'a> {
         ensures { OnOk result (led.LeadsOn self.now instrs.Interrupted) }
     {
         not_cancelled(alloc, self.states, self.own)?;
+        interrupted(alloc, self.states, self.own, self.interrupts)?;
         Ok(())
     }
 
@@ -156,6 +159,17 @@ impl<'a> Around<'a> {
         }
     }
 
+    /// The state after a `join` that is interrupted, if an interrupt may come.
+    fn attempt(&self, alloc: Global, place: u32, seen: &Seen, to: u32) -> Result<(), Stop>
+        ensures { OnOk result (0 < self.now.interrupts
+            → led.AttemptLeads self.now.states.now self.now.own.now place seen.now to) }
+    {
+        if self.interrupts == 0 {
+            return Ok(());
+        }
+        attempted(alloc, self.states, self.own, place, seen, to)
+    }
+
     fn join(
         &self,
         alloc: Global,
@@ -167,6 +181,7 @@ impl<'a> Around<'a> {
         ensures { OnOk result (led.LeadsOn self.now (instrs.Join slot failed timeout interrupted)) }
     {
         let (place, seen) = owned(self.own, slot)?;
+        self.attempt(alloc, place, seen, interrupted)?;
         let failed = target(failed);
         let timeout = target(timeout);
         joins(alloc, self.states, self.own, place, seen, failed, timeout)?;

@@ -68,7 +68,7 @@ fn has_end(row: &Row, end: End) -> bool {
 fn each_subtask_may_win(rt: HostRuntime) -> Result<(), Fail> {
     let alloc = rt.alloc();
     let program = race(alloc)?;
-    let Some(rows) = closed_table(alloc, &program, 100)? else {
+    let Some(rows) = closed_table(alloc, &program, 0, 100)? else {
         return Err(Fail::new("no table"));
     };
     let Some(root) = rows.first() else {
@@ -131,9 +131,9 @@ fn fan_out(alloc: Global, joiner: Joiner, count: u16) -> Result<Program, Fail> {
     Ok(Program::new(functions)?)
 }
 
-fn ways_of(alloc: Global, joiner: Joiner, count: u16) -> Result<usize, Fail> {
+fn ways_of(alloc: Global, joiner: Joiner, count: u16, interrupts: u32) -> Result<usize, Fail> {
     let program = fan_out(alloc, joiner, count)?;
-    let Some(rows) = closed_table(alloc, &program, 100_000)? else {
+    let Some(rows) = closed_table(alloc, &program, interrupts, 100_000)? else {
         return Ok(0);
     };
     match rows.first() {
@@ -145,9 +145,9 @@ fn ways_of(alloc: Global, joiner: Joiner, count: u16) -> Result<usize, Fail> {
 #[test]
 fn many_subtasks_may_fail(rt: HostRuntime) -> Result<(), Fail> {
     let alloc = rt.alloc();
-    assert_eq!(rt; ways_of(alloc, Joiner::AllSucceed, 50)?, 51);
-    assert_eq!(rt; ways_of(alloc, Joiner::AnySucceeds, 50)?, 100);
-    assert_eq!(rt; ways_of(alloc, Joiner::AwaitAll, 50)?, 1);
-    assert_eq!(rt; ways_of(alloc, Joiner::Until(Pred::Failed(3)), 50)?, 1);
+    assert_eq!(rt; ways_of(alloc, Joiner::AllSucceed, 50, 0)?, 51);
+    assert_eq!(rt; ways_of(alloc, Joiner::AnySucceeds, 50, 0)?, 100);
+    assert_eq!(rt; ways_of(alloc, Joiner::AwaitAll, 50, 0)?, 1);
+    assert_eq!(rt; ways_of(alloc, Joiner::Until(Pred::Failed(3)), 50, 0)?, 1);
     Ok(())
 }

@@ -35,7 +35,7 @@ use Rattle.laws_calls.specs.Steps.{Row, Table, IsTable, closed, clear, close_ste
 use Rattle.laws_calls.specs.Covers.{subs, PartFits, ScopeFits, SeenFits, HeldFits, TaskFits, IsRight}
 use Rattle.laws_calls.specs.Covers.{Covers, alive_in}
 use Rattle.laws_calls.proofs.Lists.{all_map, all_mapped, all_tail, all_length, Apart, is_first, get_among, no}
-use Rattle.laws_calls.proofs.Turns.{Facts, FlagsByCancel, seen_same, held_same, apart_births, listed_inside}
+use Rattle.laws_calls.proofs.Turns.{Facts, FlagsHaveCause, seen_same, held_same, apart_births, listed_inside}
 use Rattle.laws_calls.proofs.Moves.{GoesOn, covers_turned, subs_same}
 use Rattle.laws_calls.proofs.Phases.{Rescoped, rescoped_close, rescoped_frame}
 use Rattle.laws_calls.proofs.Frames.{blank_drop}
@@ -53,7 +53,7 @@ entries_first (entry.Scope r ∷ es) s e = by (r == s) refl e
     by true d k = let same : r ≡ s = grind (arith, nat_tests) in ap (λ i. entry.Scope i ∷ es) same
     by false d k = cc
 
-module _ (p : Program) (t : Table) (root : Row) (is : IsTable p t root) (w : World) (h : Facts w) (u x : ℕ) (d : Does p w u (Close x)) where
+module _ (p : Program) (interrupts : ℕ) (t : Table) (root : Row) (is : IsTable p interrupts t root) (w : World) (h : Facts w) (u x : ℕ) (d : Does p w u (Close x)) where
   abbrev f : Frame
   f = (task_at w u).frame
 
@@ -128,7 +128,7 @@ module _ (p : Program) (t : Table) (root : Row) (is : IsTable p t root) (w : Wor
             (λ i part at e. record { may = e.may; whole = λ alive free. absurd (no free) }) k.parts;
       }))
 
-  waits_on : any_lives (cancel w s) s ≡ true → Next w waits → (rows : ℕ → Row) (own : Own) → TaskFits rows w u own → GoesOn rows waits u f
+  waits_on : any_lives (cancel w s) s ≡ true → Next w waits → (rows : ℕ → Row) (own : Own) → TaskFits interrupts rows w u own → GoesOn rows waits u f
   waits_on some nx rows own k =
       record {
         own = own;
@@ -183,7 +183,7 @@ module _ (p : Program) (t : Table) (root : Row) (is : IsTable p t root) (w : Wor
       (λ other. (r, (k.later (sym scope ∙ other), subst (λ us. slice_get us i ≡ Some c) (sym (same_subs r)) e.1.1)))
   clears m long a b e = absurd e
 
-  shuts : Next w shut → (c : Covers p t root w) (own : Own) → TaskFits c.rows w u own → GoesOn c.rows shut u g
+  shuts : Next w shut → (c : Covers p interrupts t root w) (own : Own) → TaskFits interrupts c.rows w u own → GoesOn c.rows shut u g
   shuts nx c own k =
       let scopes : AllTwo (SeenFits c.rows w) (s ∷ rest) own.scopes = subst (λ bs. AllTwo (SeenFits c.rows w) bs own.scopes) opened k.fits.scopes in
       let tail : AllTwo (SeenFits c.rows w) rest (drop 1 own.scopes) = all_tail (SeenFits c.rows w) s rest own.scopes scopes in
@@ -206,10 +206,10 @@ module _ (p : Program) (t : Table) (root : Row) (is : IsTable p t root) (w : Wor
 
   -- ---- either
 
-  pub close_covered : (c : Covers p t root w) → Next w (close_scope w u f s) → FlagsByCancel w (close_scope w u f s) → Covers p t root (close_scope w u f s)
+  pub close_covered : (c : Covers p interrupts t root w) → Next w (close_scope w u f s) → FlagsHaveCause interrupts w (close_scope w u f s) → Covers p interrupts t root (close_scope w u f s)
   unfolding close_scope
   close_covered c nx flags = by (any_lives (cancel w s) s) refl nx flags
     where
-      by : (b : Bool) → any_lives (cancel w s) s ≡ b → Next w (cond b waits shut) → FlagsByCancel w (cond b waits shut) → Covers p t root (cond b waits shut)
-      by true some n2 flags2 = covers_turned p t root w waits h n2 flags2 c u f waiting.turned d.alive (λ watched own k. waits_on some n2 c.rows own k)
-      by false none n2 flags2 = covers_turned p t root w shut h n2 flags2 c u g shutting.turned d.alive (λ watched own k. shuts n2 c own k)
+      by : (b : Bool) → any_lives (cancel w s) s ≡ b → Next w (cond b waits shut) → FlagsHaveCause interrupts w (cond b waits shut) → Covers p interrupts t root (cond b waits shut)
+      by true some n2 flags2 = covers_turned p interrupts t root w waits h n2 flags2 c u f waiting.turned d.alive (λ watched own k. waits_on some n2 c.rows own k)
+      by false none n2 flags2 = covers_turned p interrupts t root w shut h n2 flags2 c u g shutting.turned d.alive (λ watched own k. shuts n2 c own k)

@@ -34,22 +34,23 @@ use Rattle.sts_model.specs.Effect as effects
 use Rattle.laws_runs.specs.Runs.{Does}
 use Rattle.laws_runs.specs.Scopes.{is_leaving, is_asked}
 use Rattle.laws_runs.proofs.EffectLemmas.{first_no, dead_in}
+use Rattle.laws_runs.proofs.EffectLemmas as effect_lemmas
 use Rattle.laws_runs.proofs.EventLemmas.{Next}
 use Rattle.laws_runs.proofs.FrameLemmas.{own_slot, at_own-is, Leaves}
 use Rattle.laws_runs.proofs.StayLemmas.{ended_is_dead}
 use Rattle.laws_runs.proofs.BirthLemmas.{born_alive}
-use Rattle.laws_calls.specs.Tasks.{Among, AllTwo, May, Part, Seen, Own, bare, births_in, ByJoiner, Heard, nothing}
+use Rattle.laws_calls.specs.Tasks.{Among, AllTwo, May, Part, Seen, Own, bare, births_in, Knowledge, Unseen, ByJoiner, Late, Heard, nothing}
 use Rattle.laws_calls.specs.Steps.{Row, Table, IsTable, Steps, MayEnd, with_seen, answered, joined, decided, only, ended, after_cancel, after_all, timed_out, after_expiry, timeout_step}
-use Rattle.laws_calls.specs.Steps.{by_one_step, by_count_step, heard_step, none_step, is_by_one, is_until, is_any}
+use Rattle.laws_calls.specs.Steps.{attempted, attempted_step, is_unseen, by_one_step, by_count_step, heard_step, none_step, is_by_one, is_until, is_any}
 use Rattle.laws_calls.specs.Covers.{subs, PartFits, ScopeFits, SeenFits, HeldFits, FrameFits, TaskFits, IsRight}
 use Rattle.laws_calls.specs.Covers.{Covers, alive_in}
 use Rattle.laws_calls.specs.Triggers.{is_trigger, triggers}
 use Rattle.laws_calls.specs.Fitting.{MayCount, Answers}
 use Rattle.laws_calls.specs.Covers.{first_failed}
-use Rattle.laws_calls.proofs.Early.{first_of, early_place}
+use Rattle.laws_calls.proofs.Early.{first_of, early_place, order_same}
 use Rattle.laws_calls.proofs.Possible.{are_possible, counts_most, enough, few_free, unknown, unheard, undecided}
-use Rattle.laws_calls.proofs.Lists.{all_map, all_at, all_put, all_right, all_length, all_put_place, Apart, among_get, no}
-use Rattle.laws_calls.proofs.Turns.{Facts, FlagsByCancel, part_same, seen_same, held_same, apart_births, sub_born, sub_listed, listed_inside}
+use Rattle.laws_calls.proofs.Lists.{all_map, all_at, all_put, all_right, all_length, all_put_place, Apart, among_get, get_among, any_among, no}
+use Rattle.laws_calls.proofs.Turns.{Facts, FlagsHaveCause, part_same, seen_same, held_same, apart_births, sub_born, sub_listed, listed_inside}
 use Rattle.laws_calls.proofs.Moves.{GoesOn, covers_turned, subs_same, OwnScope, own_scope}
 use Rattle.laws_calls.proofs.Phases.{Rescoped, rescoped_phase, rescoped_flag, rescoped_frame}
 use Rattle.laws_calls.proofs.Told.{who, state_among, First, first_end, find_none, none_passes, one_verdict, any_verdict, neither}
@@ -88,7 +89,7 @@ verdict_frame (verdict.Ok None) w t s f failed = refl
 verdict_frame (verdict.Ok (Some v)) w t s f failed = refl
 verdict_frame (verdict.Failed c) w t s f failed = refl
 
-module _ (p : Program) (t : Table) (root : Row) (is : IsTable p t root) (w : World) (h : Facts w) (u x : ℕ) (failed timeout : Option ℕ) (to_i : ℕ) (d : Does p w u (Join x failed timeout to_i)) where
+module _ (p : Program) (interrupts : ℕ) (t : Table) (root : Row) (is : IsTable p interrupts t root) (w : World) (h : Facts w) (u x : ℕ) (failed timeout : Option ℕ) (to_i : ℕ) (d : Does p w u (Join x failed timeout to_i)) where
   abbrev f : Frame
   f = (task_at w u).frame
 
@@ -100,6 +101,9 @@ module _ (p : Program) (t : Table) (root : Row) (is : IsTable p t root) (w : Wor
 
   abbrev after_join : Scope
   after_join = record scope { phase = Joined }
+
+  abbrev after_attempt : Scope
+  after_attempt = record scope { phase = Attempted }
 
   abbrev told : Verdict
   told = result_of scope.joiner (ends scope) (subtask_count w s)
@@ -129,17 +133,18 @@ module _ (p : Program) (t : Table) (root : Row) (is : IsTable p t root) (w : Wor
     pub answer : Verdict
     pub seen : Seen
     pub same : told ≡ answer
-    pub step : Steps p (rows u).call own (Join x failed timeout to_i) (joined own o.place seen answer (unwrap_or failed 0))
+    pub step : Steps p interrupts (rows u).call own (Join x failed timeout to_i) (joined own o.place seen answer (unwrap_or failed 0))
     pub fits : ScopeFits rows (alive_in w) after_join (subs w s) (record seen { phase = Joined })
 
-  module _ (g : Frame) (v : World) (nx : Next w v) (re : Rescoped w v u s g after_join) where
+  -- the scope has become z, and the task has the frame g
+  module _ (z : Scope) (g : Frame) (v : World) (nx : Next w v) (re : Rescoped w v u s g z) where
     same_subs : (r : ℕ) → subs v r ≡ subs w r
     same_subs r = subs_same w v r re.turned.count re.turned.scope
 
-    seen_joined : (rows : ℕ → Row) (y : Seen) → ScopeFits rows (alive_in w) after_join (subs w s) y → SeenFits rows v s y
-    seen_joined rows y k =
-        subst (λ (z : Scope). ScopeFits rows (alive_in v) z (subs v s) y) (sym re.here)
-        (subst (λ us. ScopeFits rows (alive_in v) after_join us y) (sym (same_subs s))
+    seen_rescoped : (rows : ℕ → Row) (y : Seen) → ScopeFits rows (alive_in w) z (subs w s) y → SeenFits rows v s y
+    seen_rescoped rows y k =
+        subst (λ (a : Scope). ScopeFits rows (alive_in v) a (subs v s) y) (sym re.here)
+        (subst (λ us. ScopeFits rows (alive_in v) z us y) (sym (same_subs s))
         (record {
           joiner = k.joiner;
           timed = k.timed;
@@ -149,34 +154,34 @@ module _ (p : Program) (t : Table) (root : Row) (is : IsTable p t root) (w : Wor
           counts = k.counts;
           asked = k.asked;
           order = k.order;
-          parts = all_map (PartFits rows (alive_in w) after_join) (PartFits rows (alive_in v) after_join) (subs w s) y.parts
-              (λ i part at e. part_same w v h nx rows rows after_join i part (sub_born w s i at) refl e) k.parts;
+          parts = all_map (PartFits rows (alive_in w) z) (PartFits rows (alive_in v) z) (subs w s) y.parts
+              (λ i part at e. part_same w v h nx rows rows z i part (sub_born w s i at) refl e) k.parts;
         }))
 
-    fits_joined : (rows : ℕ → Row) (own : Own) → TaskFits rows w u own → (o : OwnScope rows w f own x s) (y : Seen) (next : Frame) → Leaves f g → bare g ≡ next
-        → ScopeFits rows (alive_in w) after_join (subs w s) y → FrameFits rows v g (record (with_seen own o.place y) { frame = next })
-    fits_joined rows own k o y next same e new =
+    fits_rescoped : (rows : ℕ → Row) (own : Own) → TaskFits interrupts rows w u own → (o : OwnScope rows w f own x s) (y : Seen) (next : Frame) → Leaves f g → bare g ≡ next
+        → ScopeFits rows (alive_in w) z (subs w s) y → FrameFits rows v g (record (with_seen own o.place y) { frame = next })
+    fits_rescoped rows own k o y next same e new =
         record {
           frame = e;
           held = subst (λ es. AllTwo (HeldFits v (births_in es)) g.slots own.held) (sym same.entries) (subst (λ (xs : List Slot). AllTwo (HeldFits v (births_in f.entries)) xs own.held) (sym same.slots)
               (all_map (HeldFits w (births_in f.entries)) (HeldFits v (births_in f.entries)) f.slots own.held
               (λ a b at e2. held_same w v h nx (births_in f.entries) (λ r i c at2 e3. subst (λ us. slice_get us i ≡ Some c) (sym (same_subs r)) e3) a b e2) k.fits.held));
           scopes = subst (λ es. AllTwo (SeenFits rows v) (births_in es) (with_seen own o.place y).scopes) (sym same.entries)
-              (all_put_place (SeenFits rows w) (SeenFits rows v) (births_in f.entries) own.scopes o.place s y k.fits.scopes apart o.at (seen_joined rows y new)
-              (λ r z at other e2. seen_same w v h nx rows rows r z (re.others r other) (same_subs r) (λ i less. refl) e2));
+              (all_put_place (SeenFits rows w) (SeenFits rows v) (births_in f.entries) own.scopes o.place s y k.fits.scopes apart o.at (seen_rescoped rows y new)
+              (λ r b at other e2. seen_same w v h nx rows rows r b (re.others r other) (same_subs r) (λ i less. refl) e2));
         }
 
   -- the frame after the answer
   abbrev g : Frame
   g = answered told f (unwrap_or failed 0)
 
-  goes_on : (c : Covers p t root w) (v : World) → Next w v → Rescoped w v u s g after_join → (own : Own) → TaskFits c.rows w u own → (o : OwnScope c.rows w f own x s) → Outcome c.rows own o → GoesOn c.rows v u g
+  goes_on : (c : Covers p interrupts t root w) (v : World) → Next w v → Rescoped w v u s g after_join → (own : Own) → TaskFits interrupts c.rows w u own → (o : OwnScope c.rows w f own x s) → Outcome c.rows own o → GoesOn c.rows v u g
   goes_on c v nx re own k o a =
       let next : Own = joined own o.place a.seen a.answer (unwrap_or failed 0) in
       let frame : bare g ≡ answered a.answer own.frame (unwrap_or failed 0) =
       bare_answered told f (unwrap_or failed 0) ∙ ap (λ (z : Frame). answered told z (unwrap_or failed 0)) k.fits.frame ∙ ap (λ q. answered q own.frame (unwrap_or failed 0)) a.same
       in
-      let fits : FrameFits c.rows v g next = fits_joined g v nx re c.rows own k o (record a.seen { phase = Joined }) (answered a.answer own.frame (unwrap_or failed 0)) (leaves_answered told f (unwrap_or failed 0)) frame a.fits in
+      let fits : FrameFits c.rows v g next = fits_rescoped after_join g v nx re c.rows own k o (record a.seen { phase = Joined }) (answered a.answer own.frame (unwrap_or failed 0)) (leaves_answered told f (unwrap_or failed 0)) frame a.fits in
       record {
         own = next;
         there = is.closed (c.rows u) own next (Join x failed timeout to_i) (c.listed u) k.there (instr_of p f own (Join x failed timeout to_i) k.fits.frame d.at) a.step (are_possible c.rows v nx.right (births_in g.entries) next.scopes fits.scopes);
@@ -412,6 +417,51 @@ module _ (p : Program) (t : Table) (root : Row) (is : IsTable p t root) (w : Wor
       heard_answers AwaitAll is_j = by_heard AwaitAll is_j (λ e. absurd (no (sym e))) refl
       heard_answers (Until q) is_j = by_heard (Until q) is_j (λ e. absurd (no (sym e))) refl
 
+    -- ---- interrupted
+
+    -- nothing is known of a cancel
+    unseen : (q : Knowledge) → IsRight q scope → scope.cancelled ≡ false → q ≡ Unseen
+    unseen Unseen r free = refl
+    unseen ByJoiner r free = let known : scope.cancelled ≡ true = r in absurd (no (sym known ∙ free))
+    unseen Late r free = let known : scope.cancelled ≡ true = r.0 in absurd (no (sym known ∙ free))
+    unseen Heard r free = let known : is_joined scope.phase ≡ true = r.1 in absurd (no (sym known ∙ not_joined scope.phase scope.phase legal (inl refl)))
+
+    unseen_now : scope.cancelled ≡ false → o.seen.knowledge ≡ Unseen
+    unseen_now free = unseen o.seen.knowledge o.fits.known free
+
+    -- a subtask that lives may be unavailable
+    is_open_now : (c : ℕ) (part : Part) → lives (task_at w c) ≡ true → May part (completion_of scope.completions c) → part.is_open ≡ true
+    is_open_now c part alive = by (completion_of scope.completions c) refl
+      where
+        by : (y : Option End) → completion_of scope.completions c ≡ y → May part y → part.is_open ≡ true
+        by None e m = m
+        by (Some end) e m = absurd (no (sym alive ∙ ended_is_dead (task_at w c) end ((h.right.told s).ended c end e)))
+
+    some_open : any_lives w s ≡ true → list_any (λ (part : Part). part.is_open) parts ≡ true
+    some_open some =
+        let c : (c : ℕ) × ((task_at w c).scope ≡ Some s) × (lives (task_at w c) ≡ true) = effect_lemmas.alive_in w s some in
+        let i : (i : ℕ) × (slice_get (subs w s) i ≡ Some c.0) = among_get (subs w s) c.0 (sub_listed w s c.0 c.1) in
+        let q : (part : Part) × ((slice_get parts i.0 ≡ Some part) × PartFits rows (alive_in w) scope c.0 part) = all_at (PartFits rows (alive_in w) scope) (subs w s) parts i.0 c.0 o.fits.parts i.1 in
+        any_among (λ (part : Part). part.is_open) parts q.0 (get_among parts i.0 q.0 q.1.0) (is_open_now c.0 q.0 c.2 q.1.1.may)
+
+    asked_attempted : (o.seen.asked ≡ nothing) ⊎ ((is_joined o.seen.phase ≡ true) × Answers o.seen.asked (states_in w s)) → (o.seen.asked ≡ nothing) ⊎ ((is_joined Attempted ≡ true) × Answers o.seen.asked (states_in w s))
+    asked_attempted (inl e) = inl e
+    asked_attempted (inr k) = absurd (no (sym k.0 ∙ unjoined))
+
+    seen_attempted : scope.cancelled ≡ false → ScopeFits rows (alive_in w) after_attempt (subs w s) (record o.seen { phase = Attempted })
+    seen_attempted free =
+        record {
+          joiner = o.fits.joiner;
+          timed = o.fits.timed;
+          environment = o.fits.environment;
+          phase = inl refl;
+          known = subst (λ q. IsRight q after_attempt) (sym (unseen_now free)) tt;
+          counts = subst (λ q. MayCount q Attempted o.seen.joiner (triggers o.seen.joiner (ends scope))) (sym (unseen_now free)) (counts_most o.seen.knowledge o.seen.phase o.seen.joiner _ o.fits.counts);
+          asked = asked_attempted o.fits.asked;
+          order = λ e. order_same o.seen.has_failure scope after_attempt (subs w s) parts refl (o.fits.order unjoined);
+          parts = all_map (PartFits rows (alive_in w) scope) (PartFits rows (alive_in w) after_attempt) (subs w s) parts (λ i part at e. record { may = e.may; whole = e.whole }) o.fits.parts;
+        }
+
     -- ---- either
 
     answers : scope.expired ≡ false → (scope.cancelled || not (any_lives w s)) ≡ true → Outcome rows own o
@@ -434,30 +484,49 @@ module _ (p : Program) (t : Table) (root : Row) (is : IsTable p t root) (w : Wor
       in
       subst (λ (q : Stand). can_go w (task_at w u) q ≡ true) stand go
 
-  -- interrupted: this is no step of a task that is watched
-  abbrev attempted : World
-  attempted = with_task (with_phase w s Attempted) u (record (task_at w u) { frame = goes f to_i 0 []; flag = false })
+  abbrev attempt : World
+  attempt = with_task (with_phase w s Attempted) u (record (task_at w u) { frame = goes f to_i 0 []; flag = false })
 
-  unflagged : (a b c q : Bool) → (a || b || not c || q) ≡ true → a ≡ false → (b || not c) ≡ false → q ≡ false → ⊥
-  unflagged true b c q e k1 k2 k3 = cc
-  unflagged false true c q e k1 k2 k3 = cc
-  unflagged false false false q e k1 k2 k3 = cc
-  unflagged false false true true e k1 k2 k3 = cc
-  unflagged false false true false e k1 k2 k3 = cc
+  flagged : (a b c q : Bool) → (a || b || not c || q) ≡ true → a ≡ false → (b || not c) ≡ false → q ≡ true
+  flagged true b c q e k1 k2 = cc
+  flagged false true c q e k1 k2 = cc
+  flagged false false false q e k1 k2 = cc
+  flagged false false true q e k1 k2 = e
 
-  covers_attempted : (c : Covers p t root w) → scope.expired ≡ false → Next w attempted → FlagsByCancel w attempted → (scope.cancelled || not (any_lives w s)) ≡ false → Covers p t root attempted
+  waiting : (b c : Bool) → (b || not c) ≡ false → (b ≡ false) × (c ≡ true)
+  waiting true c e = cc
+  waiting false false e = cc
+  waiting false true e = (refl, refl)
+
+  covers_attempted : (c : Covers p interrupts t root w) → scope.expired ≡ false → Next w attempt → FlagsHaveCause interrupts w attempt → (scope.cancelled || not (any_lives w s)) ≡ false → Covers p interrupts t root attempt
   covers_attempted c on_time nx flags waits =
-      let re = rescoped_flag w (with_phase w s Attempted) u s f (goes f to_i 0 []) (record scope { phase = Attempted }) false born (rescoped_phase w u s born_s owner Attempted) in
-      covers_turned p t root w attempted h nx flags c u (goes f to_i 0 []) re.turned d.alive
-      (λ watched own k. absurd (unflagged scope.expired scope.cancelled (any_lives w s) (task_at w u).flag can_join_now on_time waits k.flag))
+      let to : Frame = goes f to_i 0 [] in
+      let re : Rescoped w attempt u s to after_attempt = rescoped_flag w (with_phase w s Attempted) u s f to after_attempt false born (rescoped_phase w u s born_s owner Attempted) in
+      let set : (task_at w u).flag ≡ true = flagged scope.expired scope.cancelled (any_lives w s) (task_at w u).flag can_join_now on_time waits in
+      let free = waiting scope.cancelled (any_lives w s) waits in
+      covers_turned p interrupts t root w attempt h nx flags c u to re.turned d.alive
+      (λ watched own k.
+      let o = own_scope c.rows w f own x s k.fits mine in
+      let next : Own = attempted own o.place o.seen to_i in
+      let fits : FrameFits c.rows attempt to next =
+      fits_rescoped after_attempt to attempt nx re c.rows own k o (record o.seen { phase = Attempted }) (goes own.frame to_i 0 []) (record { function = refl; entries = refl; slots = refl })
+      (ap (λ (z : Frame). goes z to_i 0 []) k.fits.frame) (seen_attempted c.rows own o free.0)
+      in
+      record {
+        own = next;
+        there = is.closed (c.rows u) own next (Join x failed timeout to_i) (c.listed u) k.there (instr_of p f own (Join x failed timeout to_i) k.fits.frame d.at)
+            (attempted_step o.place o.seen (k.flag set) o.owns (ap is_unseen (unseen_now c.rows own o free.0)) (some_open c.rows own o free.1))
+            (are_possible c.rows attempt nx.right (births_in f.entries) next.scopes fits.scopes);
+        fits = fits;
+      })
 
   abbrev outcome : World
   outcome = effects.joined w u s g
 
-  covers_outcome : (c : Covers p t root w) → scope.expired ≡ false → Next w outcome → FlagsByCancel w outcome → (scope.cancelled || not (any_lives w s)) ≡ true → Covers p t root outcome
+  covers_outcome : (c : Covers p interrupts t root w) → scope.expired ≡ false → Next w outcome → FlagsHaveCause interrupts w outcome → (scope.cancelled || not (any_lives w s)) ≡ true → Covers p interrupts t root outcome
   covers_outcome c on_time nx flags done =
       let re : Rescoped w outcome u s g after_join = rescoped_frame w (with_phase w s Joined) u s f g after_join born (rescoped_phase w u s born_s owner Joined) in
-      covers_turned p t root w outcome h nx flags c u g re.turned d.alive
+      covers_turned p interrupts t root w outcome h nx flags c u g re.turned d.alive
       (λ watched own k.
       let o = own_scope c.rows w f own x s k.fits mine in
       goes_on c outcome nx re own k o (answers c.rows own o on_time done))
@@ -465,20 +534,20 @@ module _ (p : Program) (t : Table) (root : Row) (is : IsTable p t root) (w : Wor
   abbrev verdict_world : World
   verdict_world = join_verdict told w u s f (unwrap_or failed 0)
 
-  covers_verdict : (c : Covers p t root w) → scope.expired ≡ false → Next w verdict_world → FlagsByCancel w verdict_world → (scope.cancelled || not (any_lives w s)) ≡ true → Covers p t root verdict_world
+  covers_verdict : (c : Covers p interrupts t root w) → scope.expired ≡ false → Next w verdict_world → FlagsHaveCause interrupts w verdict_world → (scope.cancelled || not (any_lives w s)) ≡ true → Covers p interrupts t root verdict_world
   covers_verdict c on_time nx flags done =
       let same : verdict_world ≡ outcome = verdict_frame told w u s f (unwrap_or failed 0) in
-      subst (λ (v : World). Covers p t root v) (sym same) (covers_outcome c on_time (subst (λ (v : World). Next w v) same nx) (subst (λ (v : World). FlagsByCancel w v) same flags) done)
+      subst (λ (v : World). Covers p interrupts t root v) (sym same) (covers_outcome c on_time (subst (λ (v : World). Next w v) same nx) (subst (λ (v : World). FlagsHaveCause interrupts w v) same flags) done)
 
   abbrev late : World
   late = effects.joined w u s (goes f (unwrap_or timeout 0) 0 [])
 
-  covers_late : (c : Covers p t root w) → scope.expired ≡ true → Next w late → FlagsByCancel w late → Covers p t root late
+  covers_late : (c : Covers p interrupts t root w) → scope.expired ≡ true → Next w late → FlagsHaveCause interrupts w late → Covers p interrupts t root late
   covers_late c expired nx flags =
       let to_pc : ℕ = unwrap_or timeout 0 in
       let re : Rescoped w late u s (goes f to_pc 0 []) after_join = rescoped_frame w (with_phase w s Joined) u s f (goes f to_pc 0 []) after_join born (rescoped_phase w u s born_s owner Joined) in
       let gone : scope.cancelled ≡ true = (h.caused s born_s).expired expired in
-      covers_turned p t root w late h nx flags c u (goes f to_pc 0 []) re.turned d.alive
+      covers_turned p interrupts t root w late h nx flags c u (goes f to_pc 0 []) re.turned d.alive
       (λ watched own k.
       let o = own_scope c.rows w f own x s k.fits mine in
       let next : Own = timed_out own o.place o.seen to_pc in
@@ -486,7 +555,7 @@ module _ (p : Program) (t : Table) (root : Row) (is : IsTable p t root) (w : Wor
       fits_with c.rows own o (after_expiry o.seen) refl refl refl refl (gone, expired) (counts_most o.seen.knowledge o.seen.phase o.seen.joiner _ o.fits.counts) o.fits.parts
       in
       let fits : FrameFits c.rows late (goes f to_pc 0 []) next =
-      fits_joined (goes f to_pc 0 []) late nx re c.rows own k o (record (after_expiry o.seen) { phase = Joined }) (goes own.frame to_pc 0 []) (record { function = refl; entries = refl; slots = refl })
+      fits_rescoped after_join (goes f to_pc 0 []) late nx re c.rows own k o (record (after_expiry o.seen) { phase = Joined }) (goes own.frame to_pc 0 []) (record { function = refl; entries = refl; slots = refl })
       (ap (λ (z : Frame). goes z to_pc 0 []) k.fits.frame) seen_late
       in
       record {
@@ -500,11 +569,11 @@ module _ (p : Program) (t : Table) (root : Row) (is : IsTable p t root) (w : Wor
   abbrev after : World
   after = join_scope w u f s (unwrap_or failed 0) (unwrap_or timeout 0) to_i
 
-  pub join_covered : (c : Covers p t root w) → Next w after → FlagsByCancel w after → Covers p t root after
+  pub join_covered : (c : Covers p interrupts t root w) → Next w after → FlagsHaveCause interrupts w after → Covers p interrupts t root after
   unfolding join_scope
   join_covered c nx flags = by scope.expired refl (scope.cancelled || not (any_lives w s)) refl nx flags
     where
-      by : (a : Bool) → scope.expired ≡ a → (b : Bool) → (scope.cancelled || not (any_lives w s)) ≡ b → Next w (cond a late (cond b verdict_world attempted)) → FlagsByCancel w (cond a late (cond b verdict_world attempted)) → Covers p t root (cond a late (cond b verdict_world attempted))
+      by : (a : Bool) → scope.expired ≡ a → (b : Bool) → (scope.cancelled || not (any_lives w s)) ≡ b → Next w (cond a late (cond b verdict_world attempt)) → FlagsHaveCause interrupts w (cond a late (cond b verdict_world attempt)) → Covers p interrupts t root (cond a late (cond b verdict_world attempt))
       by true e b e2 n2 flags2 = covers_late c e n2 flags2
       by false e true e2 n2 flags2 = covers_verdict c e n2 flags2 e2
       by false e false e2 n2 flags2 = covers_attempted c e n2 flags2 e2

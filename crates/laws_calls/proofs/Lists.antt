@@ -1,9 +1,9 @@
 -- Two lists element by element, places, and filters.
 use Rattle.std.proofs.Common.{◌≡◌, ℕ, zero, suc, ◌+◌, ◌<◌, ◌≤◌, inl, inr, List, [], ◌∷◌, ◌++◌}
 use Rattle.std.proofs.Common.{Bool, true, false, Some, refl, sym, ◌∙◌, ap, subst, length}
-use Rattle.std.proofs.Common.{arith, get_or, set, cond, map, drop}
+use Rattle.std.proofs.Common.{arith, get_or, set, cond, map, drop, ◌||◌}
 use Rattle.std.specs.Prelude.{◌==◌, slice_get}
-use Rattle.std.specs.List.{filter, range_with_len}
+use Rattle.std.specs.List.{filter, range_with_len, list_any}
 use Rattle.std.proofs.lemmas.Bool.Decides.{nat_tests}
 use Rattle.sts_model.specs.declared.event.End.{End}
 use Rattle.laws_calls.specs.Tasks.{Among, AllTwo, at_place, put_place, Way, HasWay}
@@ -213,6 +213,16 @@ pub among_get : {X : Type 0} (xs : List X) (x : X) → Among xs x → (i : ℕ) 
 among_get [] x h = absurd h
 among_get (a ∷ xs) x (inl same) = (0, ap Some same)
 among_get (a ∷ xs) x (inr h) = let r = among_get xs x h in (suc r.0, r.1)
+
+-- an element passes the test
+pub any_among : {X : Type 0} (test : X → Bool) (xs : List X) (x : X) → Among xs x → test x ≡ true → list_any test xs ≡ true
+any_among test [] x at passes = absurd at
+any_among test (y ∷ ys) x (inl same) passes = ap (λ b. b || list_any test ys) (ap test same ∙ passes)
+any_among test (y ∷ ys) x (inr at) passes = by (test y) (any_among test ys x at passes)
+  where
+    by : (b : Bool) → list_any test ys ≡ true → (b || list_any test ys) ≡ true
+    by true e = refl
+    by false e = e
 
 pub get_among : {X : Type 0} (xs : List X) (i : ℕ) (x : X) → slice_get xs i ≡ Some x → Among xs x
 get_among [] i x e = cc

@@ -25,7 +25,7 @@ use Rattle.laws_calls.specs.Covers.{subs, PartFits, SeenFits, HeldFits, FrameFit
 use Rattle.laws_calls.specs.Covers.{Watched, Covers, alive_in}
 use Rattle.laws_calls.proofs.Lists.{all_map, all_get, all_at, all_put, all_place, all_put_place}
 use Rattle.laws_calls.proofs.Lists.{filter_same, Apart, get_among}
-use Rattle.laws_calls.proofs.Turns.{Facts, FlagsByCancel, alive_later, watched_before, flag_stays}
+use Rattle.laws_calls.proofs.Turns.{Facts, FlagsHaveCause, alive_later, watched_before, flag_stays}
 use Rattle.laws_calls.proofs.Turns.{environment_stays, seen_same, held_same, task_same, listed_inside}
 
 pub record Turned (w v : World) (t : ℕ) (g : Frame) : Type 0 where
@@ -48,10 +48,10 @@ pub record GoesOn (rows : ℕ → Row) (v : World) (t : ℕ) (g : Frame) : Type 
   pub there : Among (rows t).states own
   pub fits : FrameFits rows v g own
 
-module _ (p : Program) (t : Table) (root : Row) (w v : World) (h : Facts w) (n : Next w v) (flags : FlagsByCancel w v) where
+module _ (p : Program) (interrupts : ℕ) (t : Table) (root : Row) (w v : World) (h : Facts w) (n : Next w v) (flags : FlagsHaveCause interrupts w v) where
   -- the task u goes on with the frame g
-  pub covers_turned : (c : Covers p t root w) (u : ℕ) (g : Frame) → Turned w v u g → lives (task_at w u) ≡ true
-      → (Watched w u → (own : Own) → TaskFits c.rows w u own → GoesOn c.rows v u g) → Covers p t root v
+  pub covers_turned : (c : Covers p interrupts t root w) (u : ℕ) (g : Frame) → Turned w v u g → lives (task_at w u) ≡ true
+      → (Watched w u → (own : Own) → TaskFits interrupts c.rows w u own → GoesOn c.rows v u g) → Covers p interrupts t root v
   covers_turned c u g turned alive moves =
       record {
         rows = c.rows;
@@ -71,29 +71,29 @@ module _ (p : Program) (t : Table) (root : Row) (w v : World) (h : Facts w) (n :
       keeps : (q s : ℕ) (x : Seen) → (q ≡ u → ⊥) → s < length w.scopes → (scope_at w s).owner ≡ q → SeenFits c.rows w s x → SeenFits c.rows v s x
       keeps q s x other born_s owner f = seen_same w v h n c.rows c.rows s x (turned.scopes s born_s (λ e. other (sym owner ∙ e))) (subs_same w v s turned.count turned.scope) (λ k less. refl) f
 
-      each : (q : ℕ) → lives (task_at v q) ≡ true → Watched v q → (b : Bool) → nat_eq q u ≡ b → (own : Own) × TaskFits c.rows v q own
+      each : (q : ℕ) → lives (task_at v q) ≡ true → Watched v q → (b : Bool) → nat_eq q u ≡ b → (own : Own) × TaskFits interrupts c.rows v q own
       each q e watched true is =
           let same : q ≡ u = grind (arith, nat_tests) in
           let by_owner : Watched w u = subst (λ k. Watched w k) same (watched_before w v h n q (born q e) watched) in
-          let old : (own : Own) × TaskFits c.rows w u own = c.tasks u alive by_owner in
+          let old : (own : Own) × TaskFits interrupts c.rows w u own = c.tasks u alive by_owner in
           let m : GoesOn c.rows v u g = moves by_owner old.0 old.1 in
           let less : u < length w.tasks = subst (λ k. k < length w.tasks) same (born q e) in
           let seen : Watched v u = subst (λ k. Watched v k) same watched in
-          subst (λ k. (own : Own) × TaskFits c.rows v k own) (sym same)
+          subst (λ k. (own : Own) × TaskFits interrupts c.rows v k own) (sym same)
           ((
             m.own,
             record {
               there = m.there;
               fits = subst (λ (f : Frame). FrameFits c.rows v f m.own) (sym turned.here) m.fits;
-              flag = flag_stays w v h n flags u less seen old.1.flag;
+              flag = flag_stays w v h n interrupts flags u less seen old.1.flag;
               environment = environment_stays w v h n u less ∙ old.1.environment;
             },
           ))
       each q e watched false is =
           let other : q ≡ u → ⊥ = grind (arith, nat_tests) in
-          let old : (own : Own) × TaskFits c.rows w q own = c.tasks q (before q e) (watched_before w v h n q (born q e) watched) in (
+          let old : (own : Own) × TaskFits interrupts c.rows w q own = c.tasks q (before q e) (watched_before w v h n q (born q e) watched) in (
             old.0,
-            task_same w v h n flags c.rows c.rows q old.0 (before q e) watched (turned.there q other) (λ k less. refl)
+            task_same w v h n interrupts flags c.rows c.rows q old.0 (before q e) watched (turned.there q other) (λ k less. refl)
                 (λ s x less owner f. keeps q s x other less owner f)
                 (λ s i k less owner is2. subst (λ us. slice_get us i ≡ Some k) (sym (subs_same w v s turned.count turned.scope)) is2)
                 old.1,

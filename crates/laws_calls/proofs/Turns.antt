@@ -32,7 +32,7 @@ use Rattle.laws_calls.specs.Held as held
 use Rattle.laws_calls.specs.Tasks.{Among, HasWay, Part, Seen, Own, births_in}
 use Rattle.laws_calls.specs.Steps.{Row}
 use Rattle.laws_calls.specs.Covers.{subs, PartFits, ScopeFits, SeenFits, HeldFits, FrameFits, TaskFits}
-use Rattle.laws_calls.specs.Covers.{Watched, watched_root, watched_sub, alive_in}
+use Rattle.laws_calls.specs.Covers.{IsByInterrupt, Watched, watched_root, watched_sub, alive_in}
 use Rattle.laws_calls.proofs.Lists.{all_map, among_filter, filter_among, among_range, range_among, Apart, at_among, no}
 
 -- what is known of every state of a run
@@ -45,9 +45,9 @@ pub record Facts (w : World) : Type 0 where
   pub names : (t x : ℕ) → lives (task_at w t) ≡ true → NamesStanding w t x
   pub tallied : (s : ℕ) → IsTallied w s
 
--- a flag is set only by the cancel of the task's scope
-abbrev pub FlagsByCancel : World → World → Type 0
-FlagsByCancel w v = (u : ℕ) → (task_at w u).flag ≡ false → (task_at v u).flag ≡ true → (s : ℕ) × ((task_at w u).scope ≡ Some s) × IsCancelled w v s
+-- a flag is set only by the cancel of the task's scope, or by an interrupt if one may come
+abbrev pub FlagsHaveCause : ℕ → World → World → Type 0
+FlagsHaveCause interrupts w v = (u : ℕ) → (task_at w u).flag ≡ false → (task_at v u).flag ≡ true → (0 < interrupts) ⊎ ((s : ℕ) × ((task_at w u).scope ≡ Some s) × IsCancelled w v s)
 
 -- ---- entries
 
@@ -202,12 +202,16 @@ module _ (w v : World) (h : Facts w) (n : Next w v) where
       let one : r ≡ s = cc in
       no (sym gone ∙ ap (λ q. (scope_at v q).cancelled) (sym one) ∙ free)
 
-  pub flag_stays : FlagsByCancel w v → (u : ℕ) → u < length w.tasks → Watched v u → (task_at w u).flag ≡ false → (task_at v u).flag ≡ false
-  flag_stays flags u born watched before = by (task_at v u).flag refl
+  pub flag_stays : (interrupts : ℕ) → FlagsHaveCause interrupts w v → (u : ℕ) → u < length w.tasks → Watched v u → IsByInterrupt interrupts (task_at w u).flag → IsByInterrupt interrupts (task_at v u).flag
+  flag_stays interrupts flags u born watched before set = by (task_at w u).flag refl
     where
-      by : (b : Bool) → (task_at v u).flag ≡ b → b ≡ false
-      by false e = refl
-      by true e = let c = flags u before e in absurd (never u c.0 born c.1 c.2.after watched)
+      caused : (0 < interrupts) ⊎ ((s : ℕ) × ((task_at w u).scope ≡ Some s) × IsCancelled w v s) → 0 < interrupts
+      caused (inl may) = may
+      caused (inr c) = absurd (never u c.0 born c.1 c.2.after watched)
+
+      by : (b : Bool) → (task_at w u).flag ≡ b → 0 < interrupts
+      by true e = before e
+      by false e = caused (flags u e set)
 
   pub environment_stays : (u : ℕ) → u < length w.tasks → (scope_of v u).environment ≡ (scope_of w u).environment
   environment_stays u born = ap (λ q. (parent v q).environment) (same_scope u born) ∙ by (task_at w u).scope refl
@@ -253,13 +257,13 @@ module _ (w v : World) (h : Facts w) (n : Next w v) where
   held_same opened keeps x y f = absurd f
 
   -- a task whose frame the step doesn't change
-  pub task_same : FlagsByCancel w v → (rows later : ℕ → Row) (u : ℕ) (own : Own)
+  pub task_same : (interrupts : ℕ) → FlagsHaveCause interrupts w v → (rows later : ℕ → Row) (u : ℕ) (own : Own)
       → lives (task_at w u) ≡ true → Watched v u → (task_at v u).frame ≡ (task_at w u).frame
       → ((q : ℕ) → q < length w.tasks → later q ≡ rows q)
       → ((s : ℕ) (x : Seen) → s < length w.scopes → (scope_at w s).owner ≡ u → SeenFits rows w s x → SeenFits later v s x)
       → ((s i q : ℕ) → s < length w.scopes → (scope_at w s).owner ≡ u → slice_get (subs w s) i ≡ Some q → slice_get (subs v s) i ≡ Some q)
-      → TaskFits rows w u own → TaskFits later v u own
-  task_same flags rows later u own alive watched same agree keeps stays k =
+      → TaskFits interrupts rows w u own → TaskFits interrupts later v u own
+  task_same interrupts flags rows later u own alive watched same agree keeps stays k =
       let born : u < length w.tasks = born_alive w u alive in
       let row : later u ≡ rows u = agree u born in
       record {
@@ -269,7 +273,7 @@ module _ (w v : World) (h : Facts w) (n : Next w v) where
           held = all_map (HeldFits w (births_in (task_at w u).frame.entries)) (HeldFits v (births_in (task_at w u).frame.entries)) (task_at w u).frame.slots own.held (λ x y at f. held_same (births_in (task_at w u).frame.entries) (λ s i q at2 e. let m = mine s at2 in stays s i q m.born m.owner e) x y f) k.fits.held;
           scopes = all_map (SeenFits rows w) (SeenFits later v) (births_in (task_at w u).frame.entries) own.scopes (λ s x at f. let m = mine s at in keeps s x m.born m.owner f) k.fits.scopes;
         });
-        flag = flag_stays flags u born watched k.flag;
+        flag = flag_stays interrupts flags u born watched k.flag;
         environment = environment_stays u born ∙ k.environment ∙ ap (λ (r : Row). r.call.environment) (sym row);
       }
     where

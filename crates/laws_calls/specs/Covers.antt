@@ -1,7 +1,7 @@
 -- What a table covers of a run: the tasks that its owner still looks at, each by a state of its
 -- call (this project's own).
-use Rattle.std.specs.Prelude.{◌≡◌, ℕ, ◌⊎◌, List, [], ◌∷◌, Bool, true, false, Option, Some}
-use Rattle.std.specs.Prelude.{slice_get, map, find, option_map}
+use Rattle.std.specs.Prelude.{◌≡◌, ℕ, ◌<◌, ◌≤◌, ◌⊎◌, List, [], ◌∷◌, Bool, true, false, Option, Some}
+use Rattle.std.specs.Prelude.{slice_get, map, find, option_map, count_by}
 use Rattle.std.specs.List.{filter}
 use Rattle.sts_code.specs.Program.{Program}
 use Rattle.sts_model.specs.declared.event.End.{End}
@@ -114,11 +114,15 @@ pub record FrameFits (rows : ℕ → Row) (w : World) (f : Frame) (own : Own) : 
   pub held : AllTwo (HeldFits w (births_in f.entries)) f.slots own.held
   pub scopes : AllTwo (SeenFits rows w) (births_in f.entries) own.scopes
 
+-- a flag that is set only if an interrupt may come
+abbrev pub IsByInterrupt : ℕ → Bool → Type 0
+IsByInterrupt interrupts flag = flag ≡ true → 0 < interrupts
+
 -- the task u is in this state of its row
-pub record TaskFits (rows : ℕ → Row) (w : World) (u : ℕ) (own : Own) : Type 0 where
+pub record TaskFits (interrupts : ℕ) (rows : ℕ → Row) (w : World) (u : ℕ) (own : Own) : Type 0 where
   pub there : Among (rows u).states own
   pub fits : FrameFits rows w (task_at w u).frame own
-  pub flag : (task_at w u).flag ≡ false
+  pub flag : IsByInterrupt interrupts (task_at w u).flag
   pub environment : (scope_of w u).environment ≡ (rows u).call.environment
 
 -- ---- runs
@@ -133,14 +137,14 @@ pub data Watched (w : World) : ℕ → Type 0 where
 abbrev pub IsTimely : Scope → Type 0
 IsTimely scope = scope.expired ≡ true → scope.timed ≡ true
 
-pub record Covers (p : Program) (t : Table) (root : Row) (w : World) : Type 0 where
+pub record Covers (p : Program) (interrupts : ℕ) (t : Table) (root : Row) (w : World) : Type 0 where
   pub rows : ℕ → Row
   pub listed : (u : ℕ) → Among t (rows u)
   pub first : rows 0 ≡ root
   pub timely : (s : ℕ) → IsTimely (scope_at w s)
   -- each living task that is watched is in a state of its row
   pub tasks : (u : ℕ) → lives (task_at w u) ≡ true → Watched w u
-      → (own : Own) × TaskFits rows w u own
+      → (own : Own) × TaskFits interrupts rows w u own
   -- the root has ended by a way of its call
   pub ended : (e : End) → (task_at w 0).outcome ≡ Some e → HasWay root.ways e
 
@@ -148,7 +152,6 @@ abbrev pub is_interrupt : Event → Bool
 is_interrupt (event.Interrupt t) = true
 is_interrupt _ = false
 
--- steps and expiries, and no interrupts
-abbrev pub NoInterrupts : List Event → Type 0
-NoInterrupts [] = Unit {0}
-NoInterrupts (e ∷ es) = (is_interrupt e ≡ false) × NoInterrupts es
+-- any steps and expiries, and interrupts up to a limit
+abbrev pub AreWithin : ℕ → List Event → Type 0
+AreWithin interrupts events = count_by is_interrupt events ≤ interrupts

@@ -1,5 +1,6 @@
 -- The steps of a task by itself, and the tables that are closed under them (this project's own).
--- No interrupt comes. A step may lead to more states than a run does.
+-- A step may lead to more states than a run does: each task may be interrupted again and again, if
+-- any interrupt may come.
 use Rattle.std.specs.Prelude.{◌≡◌, ℕ, ◌+◌, ◌-◌, ℤ, pos, List, [], ◌∷◌, ◌++◌, length, take, drop}
 use Rattle.std.specs.Prelude.{reverse, nat_le, not, ◌&&◌, ◌<◌}
 use Rattle.std.specs.Prelude.{map, count_by, Bool, true, false, Option, Some, None, is_some}
@@ -18,7 +19,7 @@ use Rattle.sts_code.specs.declared.instr.Kind.{Kind}
 use Rattle.sts_code.specs.declared.instr.Kind.TheVariants.{S, F, U}
 use Rattle.sts_model.specs.declared.event.End.{End}
 use Rattle.sts_model.specs.declared.event.End.TheVariants.{Success, Failed}
-use Rattle.sts_model.specs.declared.event.Phase.TheVariants.{Opened, Joined}
+use Rattle.sts_model.specs.declared.event.Phase.TheVariants.{Opened, Attempted, Joined}
 use Rattle.sts_model.specs.declared.event.Verdict.{Verdict}
 use Rattle.sts_model.specs.declared.event.Verdict.TheVariants as verdict
 use Rattle.sts_model.specs.declared.record.Entry.TheVariants as entry
@@ -222,6 +223,13 @@ timed_out own place x timeout =
       frame = goes own.frame timeout 0 [];
     }
 
+-- after an interrupt
+abbrev pub attempted : Own → ℕ → Seen → ℕ → Own
+attempted own place x to_i =
+    record (with_seen own place (record x { phase = Attempted })) {
+      frame = goes own.frame to_i 0 [];
+    }
+
 -- ---- case
 
 -- has the part ended by an end that counts, whichever it was?
@@ -280,112 +288,123 @@ pub record IsRowOf (t : Table) (row : Row) (c : Call) : Type 0 where
 
 -- ---- steps
 
--- from a state of a call by an instruction to another state
-pub data Steps (p : Program) (c : Call) (own : Own) : Instr → Own → Type 0 where
+-- from a state of a call by an instruction to another state, in runs with so many interrupts
+pub data Steps (p : Program) (interrupts : ℕ) (c : Call) (own : Own) : Instr → Own → Type 0 where
   -- the frame alone
   local_step : {i : Instr} → is_local i ≡ true
-      → Steps p c own i (to own (local.local (code p own.frame) i own.frame))
+      → Steps p interrupts c own i (to own (local.local (code p own.frame) i own.frame))
   read_step : {k : ℕ}
-      → Steps p c own (Read k) (pushes own 0 (unwrap_or (read (bindings c own) k) (pos 0)))
+      → Steps p interrupts c own (Read k)
+      (pushes own 0 (unwrap_or (read (bindings c own) k) (pos 0)))
   bound_step : {k : ℕ}
-      → Steps p c own (Bound k) (pushes own 0 (truth (is_some (read (bindings c own) k))))
-  or_else_step : {k : ℕ} → Steps p c own (OrElse k)
+      → Steps p interrupts c own (Bound k)
+      (pushes own 0 (truth (is_some (read (bindings c own) k))))
+  or_else_step : {k : ℕ} → Steps p interrupts c own (OrElse k)
       (pushes own 1 (unwrap_or (read (bindings c own) k) (operand own.frame 0)))
-  bind_step : {k : ℕ} → Steps p c own (Bind k) (to own (record (steps own.frame 1 []) {
+  bind_step : {k : ℕ} → Steps p interrupts c own (Bind k) (to own (record (steps own.frame 1 []) {
     entries = entry.Binding k (operand own.frame 0) ∷ own.frame.entries;
   }))
-  unbind_step : Steps p c own Unbind
+  unbind_step : Steps p interrupts c own Unbind
       (to own (record (steps own.frame 0 []) { entries = drop 1 own.frame.entries }))
-  forget_step : {h : ℕ} → Steps p c own (Forget h)
+  forget_step : {h : ℕ} → Steps p interrupts c own (Forget h)
       (record own { frame = steps own.frame 0 []; held = slice_set own.held h held.Empty })
-  -- no interrupt comes
-  interrupted_step : Steps p c own Interrupted (pushes own 0 (truth false))
+  -- whether the task was interrupted
+  calm_step : Steps p interrupts c own Interrupted (pushes own 0 (truth false))
+  interrupted_step : 0 < interrupts
+      → Steps p interrupts c own Interrupted (pushes own 0 (truth true))
   -- the task's own scope: if it was cancelled, nobody sees what the task does
   lent_step : {x : ℕ} → held_at own x ≡ held.Lent
-      → Steps p c own (Cancelled x) (pushes own 0 (truth false))
+      → Steps p interrupts c own (Cancelled x) (pushes own 0 (truth false))
   going_step : {x : ℕ} (place : ℕ) (seen : Seen) (pick : List (Option End))
       → Owns own x place seen → is_cancelled seen.knowledge ≡ false → Fits seen pick
       → triggers seen.joiner (heard_in pick) < most seen.joiner
-      → Steps p c own (Cancelled x) (pushes own 0 (truth false))
+      → Steps p interrupts c own (Cancelled x) (pushes own 0 (truth false))
   cancelled_step : {x : ℕ} (place : ℕ) (seen : Seen) → Owns own x place seen
       → may_decide seen.knowledge ≡ true
-      → Steps p c own (Cancelled x)
+      → Steps p interrupts c own (Cancelled x)
       (pushes (with_seen own place (after_cancel seen)) 0 (truth true))
   expired_step : {x : ℕ} (place : ℕ) (seen : Seen) → Owns own x place seen
       → may_be_late seen.knowledge ≡ true → seen.timed ≡ true
-      → Steps p c own (Cancelled x)
+      → Steps p interrupts c own (Cancelled x)
       (pushes (with_seen own place (after_expiry seen)) 0 (truth true))
   -- scopes
   open_step : {x : ℕ} {joiner : Joiner} {timed : Bool}
-      → Steps p c own (Open x joiner timed) (opened c own x joiner timed)
+      → Steps p interrupts c own (Open x joiner timed) (opened c own x joiner timed)
   -- no subtask runs in a scope that is known to be cancelled; in another one, see `IsTable`
   unstarted_step : {x g : ℕ} {h : Option ℕ} (place : ℕ) (seen : Seen)
       → Owns own x place seen → is_cancelled seen.knowledge ≡ true
-      → Steps p c own (Fork x g h) (forked p own place seen [] g h)
-  close_step : {x : ℕ} → Steps p c own (Close x) (closed own)
+      → Steps p interrupts c own (Fork x g h) (forked p own place seen [] g h)
+  close_step : {x : ℕ} → Steps p interrupts c own (Close x) (closed own)
+  -- `join` that is interrupted while a subtask lives and the scope is not cancelled
+  attempted_step : {x to_i : ℕ} {failed timeout : Option ℕ} (place : ℕ) (seen : Seen)
+      → 0 < interrupts → Owns own x place seen → is_unseen seen.knowledge ≡ true
+      → list_any (λ (part : Part). part.is_open) seen.parts ≡ true
+      → Steps p interrupts c own (Join x failed timeout to_i) (attempted own place seen to_i)
   -- `join` of a scope that has expired
   timeout_step : {x to_i : ℕ} {failed timeout : Option ℕ} (place : ℕ) (seen : Seen)
       → Owns own x place seen → is_heard seen.knowledge ≡ false → seen.timed ≡ true
-      → Steps p c own (Join x failed timeout to_i)
+      → Steps p interrupts c own (Join x failed timeout to_i)
       (timed_out own place seen (unwrap_or timeout 0))
   -- `join` of a cancelled scope: one end decided, or as many as the joiner waits for
   by_one_step : {x to_i : ℕ} {failed timeout : Option ℕ} (place : ℕ) (seen : Seen) (i : ℕ)
       (part : Part) (e : End)
       → Owns own x place seen → may_decide seen.knowledge ≡ true → is_by_one seen.joiner ≡ true
       → MayEnd seen i part e → is_trigger seen.joiner e ≡ true
-      → Steps p c own (Join x failed timeout to_i)
+      → Steps p interrupts c own (Join x failed timeout to_i)
       (joined own place (decided (after_cancel seen) i e part)
       (result_of seen.joiner (e ∷ []) (length seen.parts)) (unwrap_or failed 0))
   by_count_step : {x to_i : ℕ} {failed timeout : Option ℕ} (place : ℕ) (seen : Seen)
       → Owns own x place seen → may_decide seen.knowledge ≡ true → is_until seen.joiner ≡ true
-      → Steps p c own (Join x failed timeout to_i)
+      → Steps p interrupts c own (Join x failed timeout to_i)
       (joined own place (after_cancel seen) (result_of seen.joiner [] (length seen.parts))
       (unwrap_or failed 0))
   -- `join` after all subtasks ended: nothing decided; under `any` one failure is reported
   heard_step : {x to_i : ℕ} {failed timeout : Option ℕ} (place : ℕ) (seen : Seen)
       → Owns own x place seen → is_cancelled seen.knowledge ≡ false
       → (is_any seen.joiner ≡ true → seen.parts ≡ [])
-      → Steps p c own (Join x failed timeout to_i)
+      → Steps p interrupts c own (Join x failed timeout to_i)
       (joined own place (after_all seen) (result_of seen.joiner [] (length seen.parts))
       (unwrap_or failed 0))
   none_step : {x to_i : ℕ} {failed timeout : Option ℕ} (place : ℕ) (seen : Seen) (i : ℕ)
       (part : Part) (e : End)
       → Owns own x place seen → is_cancelled seen.knowledge ≡ false → is_any seen.joiner ≡ true
       → MayEnd seen i part e → is_failure e ≡ true → part.is_early ≡ true
-      → Steps p c own (Join x failed timeout to_i)
+      → Steps p interrupts c own (Join x failed timeout to_i)
       (joined own place (decided (after_all seen) i e part)
       (result_of seen.joiner (e ∷ []) (length seen.parts)) (unwrap_or failed 0))
   -- a subtask
   success_step : {h succeeded failed : ℕ} (place : ℕ) (seen : Seen) (i : ℕ) (part : Part)
       (counting : Bool) → Knows own h place seen i part
-      → Steps p c own (Case h succeeded failed)
+      → Steps p interrupts c own (Case h succeeded failed)
       (to (with_seen own place (told seen i part counting is_success))
       (goes own.frame succeeded 0 []))
   failure_step : {h succeeded failed : ℕ} (place : ℕ) (seen : Seen) (i : ℕ) (part : Part)
       (counting : Bool) → Knows own h place seen i part
-      → Steps p c own (Case h succeeded failed)
+      → Steps p interrupts c own (Case h succeeded failed)
       (to (with_seen own place (told (saw_failure seen) i part counting is_failure))
       (goes own.frame failed 0 []))
   missed_step : {h succeeded failed : ℕ} (place : ℕ) (seen : Seen) (i : ℕ) (part : Part)
       → Knows own h place seen i part → part.is_open ≡ true
-      → Steps p c own (Case h succeeded failed)
+      → Steps p interrupts c own (Case h succeeded failed)
       (to (with_part own place seen i (missed seen.knowledge seen.has_failure part))
       (goes own.frame (own.frame.pc + 1) 0 []))
   get_step : {h : ℕ} (place : ℕ) (seen : Seen) (i : ℕ) (part : Part) (v : ℤ)
       → Knows own h place seen i part → HasWay part.ways (Success v)
-      → Steps p c own (Get h) (pushes (with_part own place seen i (only (Success v) part)) 0 v)
+      → Steps p interrupts c own (Get h)
+      (pushes (with_part own place seen i (only (Success v) part)) 0 v)
   except_step : {h : ℕ} (place : ℕ) (seen : Seen) (i : ℕ) (part : Part) (v : ℤ)
       → Knows own h place seen i part → HasWay part.ways (Failed v)
-      → Steps p c own (Except h) (pushes (with_part own place seen i (only (Failed v) part)) 0 v)
+      → Steps p interrupts c own (Except h)
+      (pushes (with_part own place seen i (only (Failed v) part)) 0 v)
   -- a count, a sum: of some pick
   tally_step : {x : ℕ} {kind : Kind} (place : ℕ) (seen : Seen) (pick : List (Option End))
       → Owns own x place seen → Fits seen pick
-      → Steps p c own (Tally x kind) (pushes
+      → Steps p interrupts c own (Tally x kind) (pushes
       (with_seen own place (counted kind (count_by (is_kind kind) pick) seen)) 0
       (pos (count_by (is_kind kind) pick)))
   total_step : {x : ℕ} (place : ℕ) (seen : Seen) (pick : List (Option End))
       → Owns own x place seen → Fits seen pick
-      → Steps p c own (Total x) (pushes
+      → Steps p interrupts c own (Total x) (pushes
       (with_seen own place (summed (total_of (heard_in pick)) seen)) 0 (total_of (heard_in pick)))
 
 -- ---- a table that has all steps
@@ -412,7 +431,7 @@ end_by _ f = None
 abbrev pub root_call : Program → Call
 root_call p = record { function = length p.routines - 1; args = []; environment = [] }
 
-pub record IsTable (p : Program) (t : Table) (root : Row) : Type 0 where
+pub record IsTable (p : Program) (interrupts : ℕ) (t : Table) (root : Row) : Type 0 where
   -- the root's call begins; its slot 0 is empty
   pub listed : Among t root
   pub call : root.call ≡ root_call p
@@ -423,7 +442,8 @@ pub record IsTable (p : Program) (t : Table) (root : Row) : Type 0 where
       → is_cancelled seen.knowledge ≡ false → Forks p t row.states own x g h place seen
   -- each step to a state that is possible leads to a state of the row
   pub closed : (row : Row) (own next : Own) (i : Instr) → Among t row → Among row.states own
-      → instr_at p own.frame ≡ Some i → Steps p row.call own i next → Leads row.states next
+      → instr_at p own.frame ≡ Some i → Steps p interrupts row.call own i next
+      → Leads row.states next
   -- each end is a way of the row
   pub ends : (row : Row) (own : Own) (i : Instr) (e : End) → Among t row → Among row.states own
       → instr_at p own.frame ≡ Some i → end_by i own.frame ≡ Some e → HasWay row.ways e

@@ -34,17 +34,17 @@ pub fn watched_is_not_cancelled()
     ensures { WatchedIsNotCancelled }
 {}
 
-/// If a table covers a state of a run, it covers the next one after a step or an expiry.
+/// If a table covers a state of a run, it covers the next one after an event that it allows.
 pub fn events_are_covered()
     ensures { EventsAreCovered }
 {}
 
-/// A table covers each state that a run comes to without interrupts.
+/// A table covers each state that a run comes to with at most as many interrupts as it allows.
 pub fn runs_are_covered()
     ensures { RunsAreCovered }
 {}
 
-/// Each end that the root task comes to without interrupts is a way of the root's row.
+/// Each end that the root task comes to in such a run is a way of the root's row.
 pub fn ends_are_ways()
     ensures { EndsAreWays }
 {}

@@ -1,0 +1,16 @@
+use Rattle.std.proofs.Common.{◌≡◌, Bool, List, true, false, sym, ◌∙◌, ap}
+use Rattle.std.specs.List.{list_any}
+use Rattle.laws_calls.specs.declared.table.Part.{Part}
+use Rattle.ends_table.proofs.joins.attempted.Goals.{then-not-is_unseen-via-then-not-is_unseen, then-not-is_unseen-via-else-not-is_unseen+then-not-has_open}
+use Rattle.ends_table.proofs.joins.attempted.Goals as goal
+
+pub returns-then-not-is_unseen : goal.returns-then-not-is_unseen
+returns-then-not-is_unseen c unseen some = elim c.then-not-is_unseen.branch [
+  | then-not-is_unseen-via-then-not-is_unseen w ↦
+      let never : true ≡ false = sym unseen ∙ sym c.is_unseen.ensures ∙ w.if-not-is_unseen.true in
+      cc
+  | then-not-is_unseen-via-else-not-is_unseen+then-not-has_open w ↦
+      let any_open = λ (parts : List Part). list_any (λ (part : Part). part.is_open) parts in
+      let never : true ≡ false = sym some ∙ sym (ap any_open w.as_slice.ensures) ∙ sym w.has_open.ensures ∙ w.if-not-has_open.true in
+      cc
+]
