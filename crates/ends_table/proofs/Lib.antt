@@ -1,4 +1,3 @@
-pub mod BoundLemmas
 pub mod PlaceLemmas
 pub mod StepLemmas
 pub mod TableLemmas

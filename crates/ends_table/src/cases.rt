@@ -6,6 +6,7 @@ ghost use Rattle.laws_calls.specs.Steps as def;
 ghost use Rattle.sts_model.specs.Local as locals;
 
 use crate::frames::{jumped, next_place, pushed};
+use crate::missing::Missing;
 use crate::parts::{is_of_kind, missed, only, told};
 use crate::places::with_part;
 use crate::reached::leads_with;
@@ -139,10 +140,12 @@ pub fn reads(
     ensures { OnOk result
         (led.ReadsLead states.now own.now place seen.now i part.now succeeds) }
 {
+    let mut missing = Missing::new(alloc);
     for way in part.ways.as_slice() {
         if is_of_kind(succeeds, way.end) {
-            read_end(alloc, states, own, place, seen, i, part, way.end)?;
+            let led = read_end(alloc, states, own, place, seen, i, part, way.end);
+            missing.note(led)?;
         }
     }
-    Ok(())
+    missing.none()
 }

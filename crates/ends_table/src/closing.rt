@@ -4,154 +4,313 @@ ghost use Rattle.std.specs.Prelude.{IfOk, IfSome};
 ghost use Rattle.ends_table.specs.Led as led;
 
 use crate::beginning::{first_state, root_call};
-use crate::check::{check_state, is_closed};
+use crate::check::is_closed;
+use crate::fingerprints::{fingerprint, sort};
+use crate::forks::forks;
+use crate::rows::ends;
+use crate::steps::Around;
 use crate::stop::Stop;
+use ends_search::index::Index;
 use laws_calls::table::{Call, Held, Own, Row, Way};
 use std::alloc::{AllocError, Global};
-use sts_code::Program;
+use sts_code::{Instr, Program};
+use sts_frames::instr_at;
 use sts_model::{End, Items};
+use sts_same::same::Same;
 
-/// The most states of a row. A state is compared with others of its row.
-const MOST_OF_ROW: usize = 4_000;
+/// The most states of a row.
+const MOST_OF_ROW: usize = 100_000;
 
-/// The most work: a look at a state is as much work as the state has parts, times the looks at it.
-const MOST_WORK: usize = 30_000_000;
+/// The most memory of all states, in bytes, as `size` guesses it.
+const MOST_MEMORY: usize = 250_000_000;
 
-/// A row whose states are not all done. It is at a place of the table.
-#[derive(Clone, Copy)]
+/// The memory of a state without scopes, of a scope without parts, of a part and of a way, in bytes.
+const OF_STATE: usize = 1_400;
+
+const OF_SCOPE: usize = 150;
+
+const OF_PART: usize = 56;
+
+const OF_WAY: usize = 16;
+
+/// A row whose states are not all done.
+#[derive(Drop)]
 struct Open {
-    row: usize,
+    call: Call,
+    /// Its states in the order in which they were found.
+    states: Vec<Own>,
+    index: Index,
+    ways: Items<Way>,
     /// How many states are done.
     done: usize,
+    /// The states that one step of the state leads to that is worked on, as far as they are known.
+    next: Vec<Own>,
 }
 
-/// A table that is being made. The root's row comes first.
+/// A table that is being made.
 #[derive(Drop)]
 struct Closing {
     /// How many interrupts may come.
     interrupts: u32,
+    /// The rows that are done.
     rows: Vec<Row>,
     /// The rows whose states are not all done. Each waits for the one behind it.
     open: Vec<Open>,
     states: usize,
-    /// How often the state was looked at that isn't done.
-    looks: usize,
-    work: usize,
+    memory: usize,
 }
 
-/// How many subtasks a state has in its open scopes, and one.
-fn weight(own: &Own) -> usize {
-    let mut parts: usize = 1;
+/// About how many bytes a state takes.
+fn size(own: &Own) -> usize {
+    let mut size = OF_STATE;
     for seen in own.scopes.as_slice() {
-        parts = parts.saturating_add(seen.parts.as_slice().len());
+        size = size.saturating_add(OF_SCOPE);
+        for part in seen.parts.as_slice() {
+            let ways = part.ways.as_slice().len().saturating_mul(OF_WAY);
+            size = size.saturating_add(OF_PART).saturating_add(ways);
+        }
     }
-    parts
+    size
+}
+
+/// If the instruction is a `fork`, looks for the row of the call.
+fn fork_of(
+    alloc: Global,
+    program: &Program,
+    rows: &[Row],
+    next: &[Own],
+    own: &Own,
+    instr: Instr,
+) -> Result<(), Stop> {
+    if let Instr::Fork {
+        slot,
+        function,
+        handle,
+    } = instr
+    {
+        forks(alloc, program, rows, next, own, slot, function, handle)?;
+    }
+    Ok(())
+}
+
+impl Open {
+    /// The row of a call, with its first state.
+    fn begin(alloc: Global, call: Call, first: Held) -> Result<Open, Stop> {
+        let own = first_state(alloc, &call, first)?;
+        let mut open = Open {
+            call,
+            states: Vec::new(alloc),
+            index: Index::new(alloc)?,
+            ways: Items::new(alloc),
+            done: 0,
+            next: Vec::new(alloc),
+        };
+        open.add(alloc, own)?;
+        Ok(open)
+    }
+
+    fn is_at(&self, place: usize, own: &Own) -> bool {
+        match self.states.get(place) {
+            Some(there) => there.same(own),
+            None => false,
+        }
+    }
+
+    /// Is the state in the row?
+    fn has(&self, own: &Own, print: u64) -> bool {
+        let mut place = self.index.first(print);
+        for _ in 0..self.states.len() {
+            if place >= self.states.len() {
+                return false;
+            }
+            if self.is_at(place, own) {
+                return true;
+            }
+            place = self.index.behind(place, print);
+        }
+        false
+    }
+
+    /// Adds a state.
+    fn push(&mut self, alloc: Global, own: Own, print: u64) -> Result<(), AllocError> {
+        self.index.add(alloc, print)?;
+        self.states.push(own)?;
+        Ok(())
+    }
+
+    /// Adds a state, unless it is in the row. Returns the memory that it takes.
+    fn add(&mut self, alloc: Global, own: Own) -> Result<usize, Stop> {
+        let print = fingerprint(&own);
+        if self.has(&own, print) {
+            return Ok(0);
+        }
+        if self.states.len() >= MOST_OF_ROW {
+            return Err(Stop::Unknown);
+        }
+        let size = size(&own);
+        self.push(alloc, own, print)?;
+        Ok(size)
+    }
+
+    /// Adds the states that the state leads to, which is done then. Returns the memory that they take.
+    fn pass(&mut self, alloc: Global) -> Result<usize, Stop> {
+        let mut next = Vec::new(alloc);
+        std::mem::swap(&mut next, &mut self.next);
+        let mut memory: usize = 0;
+        for own in next {
+            memory = memory.saturating_add(self.add(alloc, own)?);
+        }
+        self.done = self.done.saturating_add(1);
+        Ok(memory)
+    }
+
+    /// Adds a state that the state leads to.
+    fn lead_to_one(&mut self, own: Own) -> Result<(), AllocError> {
+        self.next.push(own)?;
+        sort(&mut self.next)
+    }
+
+    /// Adds states that the state leads to.
+    fn lead_to(&mut self, states: Vec<Own>) -> Result<(), AllocError> {
+        for own in states {
+            self.next.push(own)?;
+        }
+        sort(&mut self.next)
+    }
+
+    /// Looks at a state. The error has what is missing.
+    fn look(
+        &self,
+        alloc: Global,
+        program: &Program,
+        interrupts: u32,
+        rows: &[Row],
+        own: &Own,
+    ) -> Result<(), Stop> {
+        let Some(instr) = instr_at(program, &own.frame) else {
+            return Ok(());
+        };
+        let next = self.next.as_slice();
+        let around = Around {
+            program,
+            interrupts,
+            table: rows,
+            call: &self.call,
+            states: next,
+            own,
+        };
+        fork_of(alloc, program, rows, next, own, instr)?;
+        around.steps(alloc, instr)?;
+        ends(self.ways.as_slice(), own, instr)
+    }
+
+    /// The row, with its states in order.
+    fn row(self, alloc: Global) -> Result<Row, AllocError> {
+        let mut found = self.states;
+        sort(&mut found)?;
+        let mut states = Items::new(alloc);
+        for own in found {
+            states.push(own)?;
+        }
+        Ok(Row {
+            call: self.call,
+            states,
+            ways: self.ways,
+        })
+    }
+}
+
+/// What a look at the innermost open row found.
+#[derive(Drop)]
+enum Look {
+    /// All its states are done.
+    Done,
+    /// The state has no other step.
+    Passed,
+    /// Something is missing.
+    Lacks(Stop),
 }
 
 impl Closing {
-    /// Adds a row, which is worked on next.
-    fn add_row(&mut self, row: Row) -> Result<(), AllocError> {
-        let at = self.rows.len();
-        self.rows.push(row)?;
-        self.open.push(Open { row: at, done: 0 })?;
-        self.states = self.states.saturating_add(1);
+    /// Opens a row.
+    fn push_open(&mut self, open: Open) -> Result<(), AllocError> {
+        self.open.push(open)?;
         Ok(())
     }
 
-    /// Adds the row of a call, with its first state.
+    /// Begins with another call.
     fn begin(&mut self, alloc: Global, call: Call, first: Held) -> Result<(), Stop> {
-        let own = first_state(alloc, &call, first)?;
-        let mut states = Items::new(alloc);
-        states.push(own)?;
-        self.add_row(Row {
-            call,
-            states,
-            ways: Items::new(alloc),
-        })?;
-        Ok(())
+        let open = Open::begin(alloc, call, first)?;
+        Ok(self.push_open(open)?)
     }
 
-    /// Adds a state to the row that is worked on.
-    fn add_state(&mut self, at: usize, own: Own) -> Result<(), Stop> {
-        if let Some(row) = self.rows.get_mut(at) {
-            if row.states.as_slice().len() >= MOST_OF_ROW {
-                return Err(Stop::Unknown);
-            }
-            row.states.push(own)?;
+    /// Looks at a state of the innermost open row.
+    fn look(&self, alloc: Global, program: &Program) -> Look {
+        let Some(top) = self.open.last() else {
+            return Look::Done;
+        };
+        let Some(own) = top.states.get(top.done) else {
+            return Look::Done;
+        };
+        match top.look(alloc, program, self.interrupts, self.rows.as_slice(), own) {
+            Ok(()) => Look::Passed,
+            Err(stop) => Look::Lacks(stop),
         }
-        self.states = self.states.saturating_add(1);
-        Ok(())
     }
 
-    /// Adds a way to the row that is worked on.
-    fn add_way(&mut self, at: usize, end: End) -> Result<(), AllocError> {
-        if let Some(row) = self.rows.get_mut(at) {
-            row.ways.push(Way { end })?;
+    /// Keeps the innermost open row, which is done.
+    fn keep(&mut self, alloc: Global) -> Result<(), AllocError> {
+        if let Some(open) = self.open.pop() {
+            self.states = self.states.saturating_add(open.states.len());
+            self.rows.push(open.row(alloc)?)?;
         }
         Ok(())
     }
 
-    /// Looks at a state. Returns what its row or the table lacks, if anything.
-    fn look(&self, alloc: Global, program: &Program, at: Open) -> Result<bool, Stop> {
-        let table = self.rows.as_slice();
-        let Some(row) = table.get(at.row) else {
-            return Ok(false);
-        };
-        let Some(own) = row.states.as_slice().get(at.done) else {
-            return Ok(false);
-        };
-        check_state(alloc, program, self.interrupts, table, row, own)?;
-        Ok(true)
-    }
-
-    /// Counts a look at a state.
-    fn count(&mut self, at: Open) -> Result<(), Stop> {
-        self.looks = self.looks.saturating_add(1);
-        let own = match self.rows.get(at.row) {
-            Some(row) => row.states.as_slice().get(at.done),
-            None => None,
-        };
-        if let Some(own) = own {
-            let work = weight(own).saturating_mul(self.looks);
-            self.work = self.work.saturating_add(work);
+    /// One state more is done.
+    fn pass(&mut self, alloc: Global) -> Result<(), Stop> {
+        if let Some(top) = self.open.last_mut() {
+            let memory = top.pass(alloc)?;
+            self.memory = self.memory.saturating_add(memory);
         }
-        if self.work > MOST_WORK {
+        if self.memory > MOST_MEMORY {
             return Err(Stop::Unknown);
         }
         Ok(())
     }
 
-    /// One state more is done, or the row is done.
-    fn pass(&mut self, is_state: bool) {
-        self.looks = 0;
-        if !is_state {
-            let _ = self.open.pop();
-            return;
-        }
-        if let Some(top) = self.open.last_mut() {
-            top.done = top.done.saturating_add(1);
-        }
-    }
-
     /// Adds what is missing.
-    fn mend(&mut self, alloc: Global, at: usize, stop: Stop) -> Result<(), Stop> {
+    fn mend(&mut self, alloc: Global, stop: Stop) -> Result<(), Stop> {
+        if let Stop::Call(call) = stop {
+            return self.begin(alloc, call, Held::Lent);
+        }
+        let Some(top) = self.open.last_mut() else {
+            return Ok(());
+        };
         match stop {
-            Stop::State(own) => self.add_state(at, own)?,
-            Stop::Way(end) => self.add_way(at, end)?,
-            Stop::Call(call) => self.begin(alloc, call, Held::Lent)?,
+            Stop::State(own) => top.lead_to_one(own)?,
+            Stop::States(states) => top.lead_to(states)?,
+            Stop::Way(end) => top.ways.push(Way { end })?,
             other => return Err(other),
         }
         Ok(())
     }
 
-    /// Works on a state of the innermost row that is open.
-    fn advance(&mut self, alloc: Global, program: &Program, at: Open) -> Result<(), Stop> {
-        self.count(at)?;
-        match self.look(alloc, program, at) {
-            Ok(is_state) => self.pass(is_state),
-            Err(stop) => self.mend(alloc, at.row, stop)?,
+    /// Works on a state of the innermost open row.
+    fn advance(&mut self, alloc: Global, program: &Program) -> Result<(), Stop> {
+        match self.look(alloc, program) {
+            Look::Done => Ok(self.keep(alloc)?),
+            Look::Passed => self.pass(alloc),
+            Look::Lacks(stop) => self.mend(alloc, stop),
         }
-        Ok(())
+    }
+
+    /// How many states were found.
+    fn count(&self) -> usize {
+        match self.open.last() {
+            Some(top) => self.states.saturating_add(top.states.len()),
+            None => self.states,
+        }
     }
 }
 
@@ -168,25 +327,29 @@ fn table_of(
         rows: Vec::new(alloc),
         open: Vec::new(alloc),
         states: 0,
-        looks: 0,
-        work: 0,
+        memory: 0,
     };
     closing.begin(alloc, root_call(alloc, program)?, Held::Empty)?;
     for _ in 0..u64::MAX {
-        let Some(top) = closing.open.last().copied() else {
+        if closing.open.is_empty() {
             break;
-        };
-        if closing.states > most {
+        }
+        if closing.count() > most {
             return Err(Stop::Unknown);
         }
-        closing.advance(alloc, program, top)?;
+        closing.advance(alloc, program)?;
     }
-    Ok(closing.rows)
+    let mut rows = closing.rows;
+    let count = rows.len();
+    if count > 0 {
+        rows.swap(0, count - 1);
+    }
+    Ok(rows)
 }
 
 /// A table of a program that is closed, if so many interrupts may come. Its first row is the
-/// root's. `None` if it has more than `most` states, or a row more than 4,000, or if it is too much
-/// work, or if some instruction's steps can't be listed.
+/// root's. `None` if it has more than `most` states, or a row more than 100,000, or if it takes too
+/// much memory, or if some instruction's steps can't be listed.
 ///
 /// # Errors
 ///

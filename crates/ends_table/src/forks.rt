@@ -8,11 +8,11 @@ ghost use Rattle.sts_code.specs.Program.{routine};
 
 use crate::beginning::first_state;
 use crate::frames::stepped;
-use crate::joiners::is_cancelled;
 use crate::places::{number, owned, set_held, with_scope};
 use crate::reached::leads;
 use crate::rows::row_of;
 use crate::stop::Stop;
+use ends_picks::joiners::is_cancelled;
 use laws_calls::table::{Call, Held, Own, Part, Row, Seen, Way};
 use std::alloc::{AllocError, Global};
 use sts_code::{Program, args};

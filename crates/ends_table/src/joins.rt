@@ -11,15 +11,16 @@ ghost use Rattle.sts_model.specs.Joining as joining;
 ghost use Rattle.sts_model.specs.declared.event.End.{End};
 
 use crate::frames::{answered, jumped};
-use crate::joiners::{
-    answer_by, answer_by_none, is_any, is_by_one, is_cancelled, is_failure, is_heard, is_trigger,
-    is_unseen, is_until, may_decide,
-};
 use crate::looks::with_knowledge;
+use crate::missing::Missing;
 use crate::parts::{all_ended, has_open, only};
 use crate::places::{number, with_part};
 use crate::reached::leads_with;
 use crate::stop::Stop;
+use ends_picks::joiners::{
+    answer_by, answer_by_none, is_any, is_by_one, is_cancelled, is_failure, is_heard, is_trigger,
+    is_unseen, is_until, may_decide,
+};
 use laws_calls::table::{Knowledge, Own, Part, Seen};
 use std::alloc::{AllocError, Global};
 use sts_model::{End, Phase, Verdict};
@@ -148,12 +149,14 @@ fn by_ends_of(
         → triggers.is_trigger seen.now.joiner e ≡ true
         → led.DecidedLeads states.now own.now place seen.now failed i part.now e) }
 {
+    let mut missing = Missing::new(alloc);
     for way in part.ways.as_slice() {
         if is_trigger(seen.joiner, way.end) {
-            decided(alloc, states, own, place, seen, i, part, way.end, failed)?;
+            let led = decided(alloc, states, own, place, seen, i, part, way.end, failed);
+            missing.note(led)?;
         }
     }
-    Ok(())
+    missing.none()
 }
 
 /// The states after one end of a part cancelled the scope.
@@ -171,8 +174,9 @@ fn by_each(
 {
     let parts = seen.parts.as_slice();
     let count = number(parts.len())?;
+    let mut missing = Missing::new(alloc);
     for i in 0..count {
-        by_ends_of(
+        let led = by_ends_of(
             alloc,
             states,
             own,
@@ -181,9 +185,10 @@ fn by_each(
             i,
             &parts[i as usize],
             failed,
-        )?;
+        );
+        missing.note(led)?;
     }
-    Ok(())
+    missing.none()
 }
 
 fn by_one(
@@ -282,12 +287,14 @@ fn first_of(
     if !part.is_early {
         return Ok(());
     }
+    let mut missing = Missing::new(alloc);
     for way in part.ways.as_slice() {
         if is_failure(way.end) {
-            decided(alloc, states, own, place, after, i, part, way.end, failed)?;
+            let led = decided(alloc, states, own, place, after, i, part, way.end, failed);
+            missing.note(led)?;
         }
     }
-    Ok(())
+    missing.none()
 }
 
 fn each_first(
@@ -305,8 +312,9 @@ fn each_first(
     let after = after_all(alloc, seen)?;
     let parts = seen.parts.as_slice();
     let count = number(parts.len())?;
+    let mut missing = Missing::new(alloc);
     for i in 0..count {
-        first_of(
+        let led = first_of(
             alloc,
             states,
             own,
@@ -315,9 +323,10 @@ fn each_first(
             i,
             &parts[i as usize],
             failed,
-        )?;
+        );
+        missing.note(led)?;
     }
-    Ok(())
+    missing.none()
 }
 
 fn none(

@@ -6,9 +6,9 @@ ghost use Rattle.laws_calls.specs.Steps as def;
 ghost use Rattle.sts_model.specs.Local.{truth};
 
 use crate::frames::pushed;
-use crate::joiners::{is_cancelled, may_be_late, may_decide};
 use crate::reached::{leads_by, leads_with};
 use crate::stop::Stop;
+use ends_picks::joiners::{is_cancelled, may_be_late, may_decide};
 use laws_calls::table::{Knowledge, Own, Seen};
 use std::alloc::{AllocError, Global};
 use sts_same::copied::Copied;

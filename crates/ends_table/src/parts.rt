@@ -7,9 +7,9 @@ ghost use Rattle.laws_calls.specs.Steps as def;
 ghost use Rattle.laws_calls.specs.declared.table.Part.{Part};
 ghost use Rattle.laws_calls.specs.declared.table.Way.{Way};
 
-use crate::counts::sure_count;
-use crate::joiners::{is_failure, is_success, is_trigger, is_unseen, most};
 use crate::places::with_part;
+use ends_picks::counts::sure_count;
+use ends_picks::joiners::{is_failure, is_success, is_trigger, is_unseen, most};
 use laws_calls::table::{Knowledge, Part, Seen, Way};
 use std::alloc::{AllocError, Global};
 use sts_code::Joiner;

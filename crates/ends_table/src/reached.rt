@@ -4,22 +4,25 @@ ghost use Rattle.std.specs.Prelude.{◌≡◌, true, OnOk};
 ghost use Rattle.laws_calls.specs.Steps as def;
 ghost use Rattle.laws_calls.specs.Tasks.{Among};
 
+use crate::fingerprints::{first_like, is_past};
 use crate::places::{with_frame, with_scope};
-use crate::possible::is_possible;
 use crate::stop::Stop;
+use ends_picks::possible::is_possible;
 use laws_calls::table::{Own, Seen};
 use std::alloc::Global;
 use sts_model::Frame;
 use sts_same::same::Same;
 
-/// Is the state among these? The last one, which was added last, comes first.
+/// Is the state among these? They have to be in rising order of their fingerprints.
 pub fn is_among(states: &[Own], own: &Own) -> bool
     ensures { result ≡ true → Among states.now own.now }
 {
-    for i in 0..states.len() {
-        let at = states.len() - 1 - i;
+    for at in first_like(states, own)..states.len() {
         if states[at].same(own) {
             return true;
+        }
+        if is_past(&states[at], own) {
+            return false;
         }
     }
     false

@@ -17,9 +17,11 @@ use crate::places::{held_at, known, owned, set_held, with_frame};
 use crate::reached::{leads, leads_by};
 use crate::scopes::{closed, opened};
 use crate::stop::Stop;
+use crate::sums::totals;
+use crate::tallies::tallies;
 use laws_calls::table::{Call, Held, Own, Row, Seen};
 use std::alloc::Global;
-use sts_code::{Instr, Joiner, Program};
+use sts_code::{Instr, Joiner, Kind, Program};
 use sts_frames::is_local;
 
 /// A state of a row, and what its steps depend on.
@@ -222,6 +224,22 @@ impl<'a> Around<'a> {
         Ok(())
     }
 
+    fn tally(&self, alloc: Global, slot: u8, kind: Kind) -> Result<(), Stop>
+        ensures { OnOk result (led.LeadsOn self.now (instrs.Tally slot kind)) }
+    {
+        let (place, seen) = owned(self.own, slot)?;
+        tallies(alloc, self.states, self.own, place, seen, kind)?;
+        Ok(())
+    }
+
+    fn total(&self, alloc: Global, slot: u8) -> Result<(), Stop>
+        ensures { OnOk result (led.LeadsOn self.now (instrs.Total slot)) }
+    {
+        let (place, seen) = owned(self.own, slot)?;
+        totals(alloc, self.states, self.own, place, seen)?;
+        Ok(())
+    }
+
     /// An instruction that reads or changes the scoped values.
     fn scoped(&self, alloc: Global, instr: Instr) -> Result<(), Stop>
         ensures { OnOk result (led.LeadsOn self.now instr) }
@@ -249,6 +267,8 @@ impl<'a> Around<'a> {
             Instr::Get(handle) => self.get(alloc, handle),
             Instr::Except(handle) => self.except(alloc, handle),
             Instr::Forget(handle) => self.forget(alloc, handle),
+            Instr::Tally(slot, kind) => self.tally(alloc, slot, kind),
+            Instr::Total(slot) => self.total(alloc, slot),
             _ => self.scoped(alloc, instr),
         }
     }

@@ -1,5 +1,6 @@
 //! Why a table is not known to be closed.
 
+use ends_picks::outcomes::Failure;
 use laws_calls::table::{Call, Own};
 use std::alloc::AllocError;
 use sts_model::End;
@@ -13,6 +14,8 @@ pub enum Stop {
     Unknown,
     /// The row lacks this state.
     State(Own),
+    /// The row lacks these states.
+    States(Vec<Own>),
     /// The table lacks a row for this call.
     Call(Call),
     /// The row lacks this way.
@@ -22,5 +25,14 @@ pub enum Stop {
 impl From<AllocError> for Stop {
     fn from(error: AllocError) -> Stop {
         Stop::NoMemory(error)
+    }
+}
+
+impl From<Failure> for Stop {
+    fn from(failure: Failure) -> Stop {
+        match failure {
+            Failure::NoMemory(error) => Stop::NoMemory(error),
+            Failure::TooMany => Stop::Unknown,
+        }
     }
 }

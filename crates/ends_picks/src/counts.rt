@@ -2,7 +2,7 @@
 
 ghost use Rattle.std.specs.Prelude.{◌≡◌, count_by, not};
 ghost use Rattle.std.specs.List.{list_any, list_all};
-ghost use Rattle.ends_table.specs.Bounds as bounds;
+ghost use Rattle.ends_picks.specs.Bounds as bounds;
 ghost use Rattle.laws_calls.specs.Steps as def;
 ghost use Rattle.laws_calls.specs.Triggers as triggers;
 ghost use Rattle.laws_calls.specs.declared.table.Way.{Way};
@@ -69,7 +69,7 @@ fn all_can_be(parts: &[Part]) -> bool
 }
 
 /// May the number of ends that count be one from `least` to `greatest`?
-fn counts_fit(
+pub fn counts_fit(
     knowledge: Knowledge,
     phase: Phase,
     joiner: Joiner,

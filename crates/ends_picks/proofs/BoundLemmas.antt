@@ -19,9 +19,9 @@ use Rattle.laws_calls.specs.Fitting.{heard_in, most, MayCount, Fits, ArePossible
 use Rattle.laws_calls.specs.Steps.{is_sure}
 use Rattle.laws_calls.specs.Triggers.{is_trigger, limit, triggers}
 use Rattle.laws_calls.proofs.SureLemmas.{sure_few}
-use Rattle.ends_table.specs.Bounds.{has_ways, can_be, can_count, counts_fit, may_fit, may_be}
+use Rattle.ends_picks.specs.Bounds.{has_ways, can_be, can_count, counts_fit, may_fit, may_be}
 
-both : (a b : Bool) → a ≡ true → b ≡ true → (a && b) ≡ true
+pub both : (a b : Bool) → a ≡ true → b ≡ true → (a && b) ≡ true
 both a b e k = ap (λ z. z && b) e ∙ k
 
 either : (a b : Bool) → b ≡ true → (a || b) ≡ true
@@ -83,7 +83,7 @@ le_most n least m a b = let k : least ≤ m = omega (arith, a, b) in grind (arit
 lt_most : (n least m : ℕ) → least ≤ n → n < m → nat_lt least m ≡ true
 lt_most n least m a b = let k : least < m = omega (arith, a, b) in grind (arith, nat_tests)
 
-numbers_fit : (q : Knowledge) (phase : Phase) (j : Joiner) (least greatest n : ℕ) → least ≤ n → n ≤ greatest → MayCount q phase j n → counts_fit q phase j least greatest ≡ true
+pub numbers_fit : (q : Knowledge) (phase : Phase) (j : Joiner) (least greatest n : ℕ) → least ≤ n → n ≤ greatest → MayCount q phase j n → counts_fit q phase j least greatest ≡ true
 numbers_fit Unseen Opened j least greatest n a b m = le_most n least (most j) a m
 numbers_fit Unseen Attempted j least greatest n a b m = le_most n least (most j) a m
 numbers_fit Unseen Joined j least greatest n a b m = absurd m

@@ -1,0 +1,4 @@
+pub mod BoundLemmas
+pub mod GroupLemmas
+pub mod ListLemmas
+pub mod OutcomeLemmas

@@ -1,0 +1,4 @@
+pub mod Bounds
+pub mod Groups
+pub mod Outcomes
+pub mod Ranges
