@@ -16,9 +16,9 @@ scopes that are misused. Each is asked with expiries and without, and with an in
 - Random schedules find each end of some races, and of the programs in checks/sampled, which have deadlines. Another seed gives
   another listing, and the same seed the same one. A schedule may have 100,000 events, and no more (`schedules_of_look`).
 - Searches of some larger programs keep as many states as are counted by hand or by all_ends.py (`searches_of_look`).
-- A search by calls finds the ends of programs with 50 subtasks, worked out by hand, and those that the search over all schedules
-  finds of drawn programs (`calls_of_look`; with `--count 600`, of some 3,000 questions). It does so for programs that are
-  interrupted. A table of calls shows that there is no other end, unless each end that it has too many takes more interrupts.
+- A table of calls shows that programs with 16 and 50 subtasks have just the ends that were worked out by hand. It does so for
+  programs that are interrupted, unless each end that it has too many takes more interrupts. A search by calls finds the ends that
+  the search over all schedules finds of drawn programs (`calls_of_look`; with `--count 600`, of some 3,000 questions).
 A program with more than MOST_STATES states is left out. With a PART, which is `schedules_of_look`, `searches_of_look` or
 `calls_of_look`, only that is tried. The last line is `N passed, M failed`, of comparisons.
 """
@@ -321,27 +321,46 @@ def searches_of_look(look, folder):
         yield f"{name}: {printed}", (status, found, printed[-1:]) == (0, [end], [f"{states} states, all schedules"])
 
 
+TOGETHER = ("all", "any", "awaitok", "awaitall", "until failed 3", "until success 3")
 # A subtask that succeeds with its argument, or fails with 7 more if its own scope expires.
 FLAKY = "func work 1 / load 0 / ret / end / func kid 1 / open s1 all timed / load 0 / fork s1 work _ / join s1 bad late intr / pop / " \
     "total s1 / close s1 / ret / bad: / close s1 / fail / late: / close s1 / load 0 / push 7 / add / fail / intr: / close s1 / load 0 / " \
     "push 8 / add / fail / end / "
 
 
-def flaky(joiner, count):
-    """Returns a program that forks so many of these subtasks, and ends with how many successes there were. `any` gives a value."""
+# Any of two answers.
+RACE = "func one 0 / push 1 / ret / end / func two 0 / push 2 / ret / end / func main 0 / open s0 any / fork s0 one _ / fork s0 two _ / " \
+    "join s0 bad - intr / close s0 / ret / bad: / close s0 / fail / intr: / close s0 / push 3 / fail / end"
+# Subtasks of 1, 2, 4, 8, 16 and 32. After a timeout any of them may have succeeded.
+POWERS = "profile 2 / func kid 1 / load 0 / ret / end / func main 0 / open s1 awaitall timed / push 1 / store 5 / push 6 / times 6 / load 5 / " \
+    "fork s1 kid _ / load 5 / push 2 / mul / store 5 / next / join s1 - late intr / total s1 / close s1 / ret / intr: / close s1 / push 80 / " \
+    "fail / late: / total s1 / close s1 / ret / end"
+
+
+def flaky(joiner, count, read="tally s1 S"):
+    """Returns a program that forks so many of these subtasks, and ends with what it reads after `join`. `any` gives a value."""
     fails = joiner in ("all", "any", "awaitok")
     gives = "" if joiner in ("any", "awaitok", "awaitall") else "pop / "
     return lines_of(f"{FLAKY}func main 0 / open s1 {joiner} / push {count} / times {count} / load 5 / push 1 / add / store 5 / load 5 / "
-                    f"fork s1 kid _ / next / join s1 {'bad' if fails else '-'} - intr / {gives}{'' if joiner == 'any' else 'tally s1 S / '}"
+                    f"fork s1 kid _ / next / join s1 {'bad' if fails else '-'} - intr / {gives}{'' if joiner == 'any' else f'{read} / '}"
                     f"close s1 / ret / {'bad: / close s1 / fail / ' if fails else ''}intr: / push 0 / close s1 / fail / end")
 
 
-def ends_of_flaky(joiner, count):
-    """Returns the ends of this program."""
+def ends_of_flaky(joiner, count, read="tally s1 S"):
+    """Returns the ends of this program. Sums are of different numbers from 1 to `count`, and `until failed 3` allows each."""
     each, late = range(1, count + 1), [f"failed {it + 7}" for it in range(1, count + 1)]
-    successes = {"all": [count], "awaitok": [count], "any": each, "awaitall": range(count + 1), "until failed 3": range(count + 1),
-                 "until success 3": range(4)}[joiner]
-    return [f"success {it}" for it in successes] + (late if joiner in ("all", "any", "awaitok") else [])
+    least, total = max(0, count - 3), count * (count + 1) // 2
+    given = {
+        "tally s1 S": {"all": [count], "awaitok": [count], "any": each, "awaitall": range(count + 1), "until success 3": range(4),
+                       "until failed 3": range(count + 1), f"until atleast {count}": range(count + 1)},
+        "tally s1 F": {"all": [0], "awaitok": [0], "any": each, "awaitall": range(count + 1), "until success 3": range(count + 1),
+                       "until failed 3": range(4), f"until atleast {count}": range(count + 1)},
+        "tally s1 U": {"all": [0], "awaitok": [0], "any": each, "awaitall": [0], "until success 3": range(least + 1),
+                       "until failed 3": range(least + 1), f"until atleast {count}": range(count)},
+        "total s1": {"all": [total], "awaitok": [total], "any": each, "awaitall": range(total + 1), "until success 3": range(3 * count - 2),
+                     "until failed 3": range(total + 1), f"until atleast {count}": range(total + 1)},
+    }[read][joiner]
+    return [f"success {it}" for it in given] + (late if joiner in ("all", "any", "awaitok") else [])
 
 
 # A subtask that succeeds with its argument. It fails with 7 more if its own scope expires, and with 100 if it is interrupted there.
@@ -380,12 +399,25 @@ def by_calls(look, text, words, most):
 def calls_of_look(look, folder, count=30, seed="1"):
     """Yields whether a search by calls finds the ends of programs with many subtasks, and those of drawn programs."""
     text = os.path.join(folder, "calls")
-    for joiner in ("all", "any", "awaitok", "awaitall", "until failed 3", "until success 3"):
+    for joiner, read, number in (
+        *((it, "tally s1 S", 50) for it in (*TOGETHER, "until atleast 50")),
+        *((it, read, 16) for read in ("tally s1 F", "tally s1 U", "total s1") for it in (*TOGETHER, "until atleast 16")),
+    ):
         with open(text, "w") as file:
-            file.write(flaky(joiner, 50))
-        found, is_closed, status = by_calls(look, text, [], 2000)
-        expected = ends_of_flaky(joiner, 50)
-        yield f"{joiner} of 50: {found}", (len(found), set(found), is_closed, status) == (len(expected), set(expected), True, 5)
+            file.write(flaky(joiner, number, read))
+        found, _, status = by_calls(look, text, [], 4000)
+        expected = ends_of_flaky(joiner, number, read)
+        yield f"{read}, {joiner} of {number}: {found}", (len(found), set(found), status) == (len(expected), set(expected), 0)
+    # (the rows of the table have two, two and eight states)
+    for name, source, most, expected, wanted in (
+        ("race", RACE, 12, ["success 1", "success 2"], 0),
+        ("race, one state less", RACE, 11, ["success 1", "success 2"], 5),
+        ("sums after a timeout", POWERS, 1000, [f"success {it}" for it in range(2**6)], 0),
+    ):
+        with open(text, "w") as file:
+            file.write(lines_of(source))
+        found, _, status = by_calls(look, text, [], most)
+        yield f"{name}: {found}", (sorted(found), status) == (sorted(expected), wanted)
     for source, interrupts, most, expected, is_whole in interrupted():
         with open(text, "w") as file:
             file.write(source)

@@ -62,3 +62,8 @@ each_way P items ways i same done all e way =
 pub by_state : {X : Type 0} (P : Option X → Type 0) → P None → ((x : X) → P (Some x)) → (q : Option X) → P q
 by_state P none some None = none
 by_state P none some (Some x) = some x
+
+pub way_in : (ways : List Way) (i : ℕ) (d : Way) (e : End) → i < length ways → (get_or ways i d).end ≡ e → HasWay ways e
+way_in [] i d e less same = absurd (omega (arith, less))
+way_in (y ∷ ys) zero d e less same = inl same
+way_in (y ∷ ys) (suc i) d e less same = inr (way_in ys i d e (omega (arith, less)) same)

@@ -1,6 +1,6 @@
 -- What a pick comes to, part by part.
-use Rattle.std.proofs.Common.{◌≡◌, ℕ, ℤ, pos, ◌+◌, ◌≤◌, ◌<◌, List, [], ◌∷◌, ◌++◌, Bool, true, false, Option, Some, None, ◌&&◌}
-use Rattle.std.proofs.Common.{refl, sym, ◌∙◌, ap, subst, arith, cond, inl, inr, length, get_or, take, drop, is_some}
+use Rattle.std.proofs.Common.{◌≡◌, ℕ, ◌+◌, ◌≤◌, ◌<◌, List, [], ◌∷◌, Bool, true, false, Option, Some, None, ◌&&◌}
+use Rattle.std.proofs.Common.{refl, sym, ◌∙◌, ap, subst, arith, cond, length, get_or, take, is_some}
 use Rattle.std.specs.Prelude.{count_by, nat_le}
 use Rattle.std.specs.List.{fold}
 use Rattle.std.proofs.lemmas.Bool.Decides.{nat_tests}
@@ -20,14 +20,13 @@ use Rattle.laws_calls.specs.declared.table.Seen.{Seen}
 use Rattle.laws_calls.specs.declared.table.Knowledge.{Knowledge}
 use Rattle.laws_calls.specs.declared.table.Knowledge.TheVariants.{Unseen, ByJoiner, Late, Heard}
 use Rattle.laws_calls.specs.Fitting.{heard_in, most, MayCount, Fits, Agrees}
-use Rattle.laws_calls.specs.Triggers.{triggers, limit}
-use Rattle.ends_picks.specs.declared.groups.Group.{Group}
+use Rattle.laws_calls.specs.Triggers.{triggers}
 use Rattle.ends_picks.specs.declared.groups.Group.TheVariants.{Counting, Of}
 use Rattle.ends_picks.specs.declared.outcomes.Outcome.{Outcome}
 use Rattle.ends_picks.specs.Groups.{is_in}
-use Rattle.ends_picks.specs.Outcomes.{nothing, counted, added, after, outcome_of, is_at_most, is_within}
+use Rattle.ends_picks.specs.Outcomes.{nothing, after, outcome_of, is_at_most, is_within}
 use Rattle.ends_picks.specs.Bounds.{counts_fit}
-use Rattle.ends_picks.proofs.BoundLemmas.{both, numbers_fit}
+use Rattle.ends_picks.proofs.BoundLemmas.{numbers_fit}
 use Rattle.ends_picks.proofs.GroupLemmas.{as_long, counting_heard, kind_group}
 use Rattle.ends_picks.proofs.ListLemmas.{two_at}
 

@@ -1,12 +1,11 @@
 -- What a pick comes to: how many ends count towards a cancel, the tallies that were asked for, and
 -- the sum (this project's own).
-use Rattle.std.specs.Prelude.{◌≡◌, ℕ, ◌+◌, ℤ, pos, List, Bool, true, false, Option, Some, None}
-use Rattle.std.specs.Prelude.{is_some, nat_le, ◌==◌, ◌&&◌, if◌then◌else◌}
+use Rattle.std.specs.Prelude.{ℕ, ◌+◌, ℤ, pos, List, Bool, true, Option, Some, None}
+use Rattle.std.specs.Prelude.{is_some, nat_le, ◌&&◌, if◌then◌else◌}
 use Rattle.std.specs.List.{fold}
 use Rattle.sts_code.specs.declared.instr.Kind.TheVariants.{S, F, U}
 use Rattle.sts_model.specs.declared.event.End.{End}
 use Rattle.sts_model.specs.Joining.{plus_value}
-use Rattle.laws_runs.specs.Tallies.{is_kind}
 use Rattle.laws_calls.specs.declared.table.Seen.{Seen}
 use Rattle.laws_calls.specs.Fitting.{most}
 use Rattle.ends_picks.specs.declared.groups.Group.TheVariants.{Counting, Of}

@@ -1,3 +1,4 @@
+pub mod MissingLemmas
 pub mod PlaceLemmas
 pub mod StepLemmas
 pub mod TableLemmas

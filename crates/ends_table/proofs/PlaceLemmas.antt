@@ -42,29 +42,6 @@ put_index {X} (y ∷ ys) place (suc i) x n = by (place == length ys) refl (put_i
     by true d rest = absurd (grind (arith, nat_tests))
     by false d rest = ap (λ zs. y ∷ zs) rest
 
--- ---- elements
-
-pub among_at : {X : Type 0} (xs : List X) (i : ℕ) (x : X) → i < length xs → x ≡ get_or xs i x → Among xs x
-among_at [] i x less e = absurd (omega (arith, less))
-among_at (y ∷ ys) zero x less e = inl (sym e)
-among_at (y ∷ ys) (suc i) x less e = inr (among_at ys i x (omega (arith, less)) e)
-
-pub all_among : {X : Type 0} (P : X → Type 0) (xs : List X) (x : X) → All P xs → Among xs x → P x
-all_among P [] x all at = absurd at
-all_among P (y ∷ ys) x all (inl e) = subst P e (All-head P y ys all)
-all_among P (y ∷ ys) x all (inr at) = all_among P ys x (All-tail P y ys all) at
-
-pub way_at : (ways : List Way) (i : ℕ) (way : Way) (e : End) → i < length ways → way ≡ get_or ways i way → way.end ≡ e → HasWay ways e
-way_at [] i way e less is same = absurd (omega (arith, less))
-way_at (y ∷ ys) zero way e less is same = inl (ap (λ (w : Way). w.end) (sym is) ∙ same)
-way_at (y ∷ ys) (suc i) way e less is same = inr (way_at ys i way e (omega (arith, less)) is same)
-
--- what holds of each way holds of each end that has one
-pub all_ways : (P : End → Type 0) (ways : List Way) (e : End) → All (λ (way : Way). P way.end) ways → HasWay ways e → P e
-all_ways P [] e all h = absurd h
-all_ways P (way ∷ ways) e all (inl same) = subst P same (All-head (λ (w : Way). P w.end) way ways all)
-all_ways P (way ∷ ways) e all (inr h) = all_ways P ways e (All-tail (λ (w : Way). P w.end) way ways all) h
-
 -- ---- parts
 
 pub get_less : {X : Type 0} (xs : List X) (i : ℕ) (x : X) → slice_get xs i ≡ Some x → i < length xs
@@ -96,17 +73,3 @@ at_index_in ys xs place i x same n is = subst (λ zs. at_place zs place ≡ Some
 
 pub put_index_in : {X : Type 0} (ys xs zs : List X) (place i : ℕ) (x : X) → ys ≡ xs → length ys ≡ place + i + 1 → zs ≡ set xs i x → zs ≡ put_place xs place x
 put_index_in ys xs zs place i x same n is = is ∙ sym (put_index xs place i x (ap length (sym same) ∙ n))
-
-pub among_in : {X : Type 0} (xs : List X) (i : ℕ) (y x : X) → i < length xs → y ≡ get_or xs i y → y ≡ x → Among xs x
-among_in xs i y x less is same = subst (λ z. Among xs z) same (among_at xs i y less is)
-
-pub way_in : (ways : List Way) (i : ℕ) (d : Way) (e : End) → i < length ways → (get_or ways i d).end ≡ e → HasWay ways e
-way_in [] i d e less same = absurd (omega (arith, less))
-way_in (y ∷ ys) zero d e less same = inl same
-way_in (y ∷ ys) (suc i) d e less same = inr (way_in ys i d e (omega (arith, less)) same)
-
--- what holds of each way of a slice that has the list
-pub each_way : (P : End → Type 0) (items ways : List Way) (i : ℕ) → items ≡ ways → length items ≤ i → AllWithin (λ (way : Way). P way.end) items 0 i → (e : End) → HasWay ways e → P e
-each_way P items ways i same done all e way =
-    let whole = All-from_all_within (λ (w : Way). P w.end) items (AllWithin-upto (λ (w : Way). P w.end) items 0 i (length items) done all) in
-    all_ways P items e whole (subst (λ ws. HasWay ws e) (sym same) way)

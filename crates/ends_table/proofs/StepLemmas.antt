@@ -5,10 +5,11 @@ use Rattle.std.specs.Prelude.{unwrap_or, slice_get, drop, slice_set}
 use Rattle.sts_code.specs.Program.{Program}
 use Rattle.sts_code.specs.declared.instr.Instr.{Instr}
 use Rattle.sts_code.specs.declared.instr.Instr.TheVariants.{Open, Fork, Join, Close, Cancelled}
-use Rattle.sts_code.specs.declared.instr.Instr.TheVariants.{Case, Get, Except, Forget}
+use Rattle.sts_code.specs.declared.instr.Instr.TheVariants.{Case, Get, Except, Tally, Total, Forget}
 use Rattle.sts_code.specs.declared.instr.Instr.TheVariants.{Bind, Unbind, Read, Bound, OrElse}
 use Rattle.sts_code.specs.declared.instr.Instr.TheVariants.{Interrupted, Ret, Fail}
 use Rattle.sts_code.specs.declared.instr.Joiner.{Joiner}
+use Rattle.sts_code.specs.declared.instr.Kind.{Kind}
 use Rattle.sts_model.specs.declared.event.End.TheVariants.{Success, Failed}
 use Rattle.sts_model.specs.declared.record.Entry.TheVariants as entry
 use Rattle.sts_model.specs.World.{code}
@@ -30,6 +31,7 @@ use Rattle.laws_calls.specs.Steps.{failure_step, missed_step, get_step, except_s
 use Rattle.laws_calls.specs.Steps.{tally_step, total_step}
 use Rattle.laws_calls.specs.Steps.{is_cancelled, may_decide, may_be_late}
 use Rattle.laws_calls.specs.Steps.{with_seen, after_cancel, after_expiry}
+use Rattle.ends_table.specs.Answered.{TalliesLead, TotalsLead}
 use Rattle.ends_table.specs.Led.{AllLead, LooksLead, AttemptLeads, JoinsLead, CasesLead, ReadsLead, ForkLeads}
 
 module _ (p : Program) (interrupts : ℕ) (c : Call) (states : List Own) (own : Own) where
@@ -193,3 +195,15 @@ module _ (p : Program) (interrupts : ℕ) (c : Call) (states : List Own) (own : 
   except_leads x place seen i part o h next (local_step e) = cc
   except_leads x place seen i part o h next (except_step place2 seen2 j part2 v q way) =
       knows (λ a s k y. ReadsLead states own a s k y false) x place place2 seen seen2 i j part part2 o q h (Failed v) way refl
+
+  -- ---- answers
+
+  pub tallies_lead : (x place : ℕ) (kind : Kind) (seen : Seen) → Owns own x place seen → TalliesLead states own place seen kind → AllLead p c states own (Tally x kind)
+  tallies_lead x place kind seen o h next (local_step e) = cc
+  tallies_lead x place kind seen o h next (tally_step place2 seen2 pick q fits) =
+      (owned (λ a s. TalliesLead states own a s kind) x place place2 seen seen2 o q h) pick fits
+
+  pub totals_lead : (x place : ℕ) (seen : Seen) → Owns own x place seen → TotalsLead states own place seen → AllLead p c states own (Total x)
+  totals_lead x place seen o h next (local_step e) = cc
+  totals_lead x place seen o h next (total_step place2 seen2 pick q fits) =
+      (owned (λ a s. TotalsLead states own a s) x place place2 seen seen2 o q h) pick fits

@@ -7,7 +7,7 @@ use Rattle.laws_calls.specs.declared.table.Own.{Own}
 use Rattle.laws_calls.specs.Steps.{Table, IsTable}
 use Rattle.laws_calls.specs.declared.table.Row.{Row}
 use Rattle.ends_table.specs.Led.{IsLedAt, IsLedRow, IsRoot, IsClosed}
-use Rattle.ends_table.proofs.PlaceLemmas.{all_among}
+use Rattle.ends_picks.proofs.ListLemmas.{all_among}
 
 pub is_table : (p : Program) (interrupts : ℕ) (t : Table) (root : Row) → Among t root → IsRoot p root → All (IsLedRow p interrupts t) t → IsTable p interrupts t root
 is_table p interrupts t root there is all =

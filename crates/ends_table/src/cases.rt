@@ -125,6 +125,29 @@ fn read_end(
     leads_with(alloc, states, own, place, after, frame)
 }
 
+/// The state after this end of a part was read, if it is of this kind.
+fn read_of_kind(
+    alloc: Global,
+    states: &[Own],
+    own: &Own,
+    place: u32,
+    seen: &Seen,
+    i: u32,
+    part: &Part,
+    end: End,
+    succeeds: bool,
+) -> Result<(), Stop>
+    requires { i < length seen.now.parts }
+    ensures { OnOk result (led.of_kind succeeds end ≡ true → def.Leads states.now (def.pushes
+        (def.with_part own.now place seen.now i (def.only end part.now)) 0 (led.value_in end))) }
+{
+    if !is_of_kind(succeeds, end) {
+        return Ok(());
+    }
+    read_end(alloc, states, own, place, seen, i, part, end)?;
+    Ok(())
+}
+
 /// The states after the value of a success, or the code of a failure, was read.
 pub fn reads(
     alloc: Global,
@@ -142,10 +165,9 @@ pub fn reads(
 {
     let mut missing = Missing::new(alloc);
     for way in part.ways.as_slice() {
-        if is_of_kind(succeeds, way.end) {
-            let led = read_end(alloc, states, own, place, seen, i, part, way.end);
-            missing.note(led)?;
-        }
+        let step = read_of_kind(alloc, states, own, place, seen, i, part, way.end, succeeds);
+        missing.note(step)?;
     }
-    missing.none()
+    missing.none()?;
+    Ok(())
 }

@@ -22,7 +22,7 @@ use sts_same::same::Same;
 const MOST_OF_ROW: usize = 100_000;
 
 /// The most memory of all states, in bytes, as `size` guesses it.
-const MOST_MEMORY: usize = 250_000_000;
+const MOST_MEMORY: usize = 200_000_000;
 
 /// The memory of a state without scopes, of a scope without parts, of a part and of a way, in bytes.
 const OF_STATE: usize = 1_400;

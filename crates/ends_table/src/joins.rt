@@ -133,6 +133,29 @@ fn decided(
     joined(alloc, states, own, place, after, answer, failed)
 }
 
+/// The state after this end of a part cancelled the scope, if it counts.
+fn by_end(
+    alloc: Global,
+    states: &[Own],
+    own: &Own,
+    place: u32,
+    seen: &Seen,
+    i: u32,
+    part: &Part,
+    end: End,
+    failed: u32,
+) -> Result<(), Stop>
+    requires { i < length seen.now.parts }
+    ensures { OnOk result (triggers.is_trigger seen.now.joiner end ≡ true
+        → led.DecidedLeads states.now own.now place seen.now failed i part.now end) }
+{
+    if !is_trigger(seen.joiner, end) {
+        return Ok(());
+    }
+    decided(alloc, states, own, place, seen, i, part, end, failed)?;
+    Ok(())
+}
+
 /// The states after an end of this part cancelled the scope.
 fn by_ends_of(
     alloc: Global,
@@ -151,12 +174,11 @@ fn by_ends_of(
 {
     let mut missing = Missing::new(alloc);
     for way in part.ways.as_slice() {
-        if is_trigger(seen.joiner, way.end) {
-            let led = decided(alloc, states, own, place, seen, i, part, way.end, failed);
-            missing.note(led)?;
-        }
+        let step = by_end(alloc, states, own, place, seen, i, part, way.end, failed);
+        missing.note(step)?;
     }
-    missing.none()
+    missing.none()?;
+    Ok(())
 }
 
 /// The states after one end of a part cancelled the scope.
@@ -176,7 +198,7 @@ fn by_each(
     let count = number(parts.len())?;
     let mut missing = Missing::new(alloc);
     for i in 0..count {
-        let led = by_ends_of(
+        let step = by_ends_of(
             alloc,
             states,
             own,
@@ -186,9 +208,10 @@ fn by_each(
             &parts[i as usize],
             failed,
         );
-        missing.note(led)?;
+        missing.note(step)?;
     }
-    missing.none()
+    missing.none()?;
+    Ok(())
 }
 
 fn by_one(
@@ -268,6 +291,29 @@ fn heard(
     by_none(alloc, states, own, place, after_all(alloc, seen)?, failed)
 }
 
+/// The state after all parts failed, this one as the first and by this end, if it is a failure.
+fn first_by(
+    alloc: Global,
+    states: &[Own],
+    own: &Own,
+    place: u32,
+    after: &Seen,
+    i: u32,
+    part: &Part,
+    end: End,
+    failed: u32,
+) -> Result<(), Stop>
+    requires { i < length after.now.parts }
+    ensures { OnOk result (joining.is_failure end ≡ true
+        → led.DecidedLeads states.now own.now place after.now failed i part.now end) }
+{
+    if !is_failure(end) {
+        return Ok(());
+    }
+    decided(alloc, states, own, place, after, i, part, end, failed)?;
+    Ok(())
+}
+
 /// The states after all parts failed, this one as the first. `after` is the scope after all ended.
 fn first_of(
     alloc: Global,
@@ -289,12 +335,11 @@ fn first_of(
     }
     let mut missing = Missing::new(alloc);
     for way in part.ways.as_slice() {
-        if is_failure(way.end) {
-            let led = decided(alloc, states, own, place, after, i, part, way.end, failed);
-            missing.note(led)?;
-        }
+        let step = first_by(alloc, states, own, place, after, i, part, way.end, failed);
+        missing.note(step)?;
     }
-    missing.none()
+    missing.none()?;
+    Ok(())
 }
 
 fn each_first(
@@ -314,7 +359,7 @@ fn each_first(
     let count = number(parts.len())?;
     let mut missing = Missing::new(alloc);
     for i in 0..count {
-        let led = first_of(
+        let step = first_of(
             alloc,
             states,
             own,
@@ -324,9 +369,10 @@ fn each_first(
             &parts[i as usize],
             failed,
         );
-        missing.note(led)?;
+        missing.note(step)?;
     }
-    missing.none()
+    missing.none()?;
+    Ok(())
 }
 
 fn none(

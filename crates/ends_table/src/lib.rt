@@ -21,5 +21,3 @@ pub mod steps;
 pub mod stop;
 pub mod sums;
 pub mod tallies;
-#[cfg(test)]
-mod tests;

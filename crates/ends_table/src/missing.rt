@@ -23,11 +23,11 @@ impl Missing {
     }
 
     /// Keeps the states that the row lacks for a step. Other errors are returned.
-    pub fn note(&mut self, led: Result<(), Stop>) -> Result<(), Stop>
+    pub fn note(&mut self, step: Result<(), Stop>) -> Result<(), Stop>
         ensures before { OnOk result (self.new.states.items ≡ [] → self.old.states.items ≡ []) }
-        ensures led { OnOk result (self.new.states.items ≡ [] → IsOk led) }
+        ensures step { OnOk result (self.new.states.items ≡ [] → IsOk step) }
     {
-        match led {
+        match step {
             Ok(()) => Ok(()),
             Err(Stop::State(own)) => Ok(self.keep(own)?),
             Err(Stop::States(list)) => self.keep_all(list),

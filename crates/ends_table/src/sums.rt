@@ -55,10 +55,11 @@ fn each_of(
 {
     let mut missing = Missing::new(alloc);
     for outcome in outcomes {
-        let led = summed(alloc, states, own, place, seen, *outcome);
-        missing.note(led)?;
+        let step = summed(alloc, states, own, place, seen, *outcome);
+        missing.note(step)?;
     }
-    missing.none()
+    missing.none()?;
+    Ok(())
 }
 
 /// The states after a `total` of a scope at this place.

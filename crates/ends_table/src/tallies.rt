@@ -75,10 +75,11 @@ fn each_of(
     let behind = behind(range)?;
     let mut missing = Missing::new(alloc);
     for count in least..behind {
-        let led = tallied(alloc, states, own, place, seen, kind, count);
-        missing.note(led)?;
+        let step = tallied(alloc, states, own, place, seen, kind, count);
+        missing.note(step)?;
     }
-    missing.none()
+    missing.none()?;
+    Ok(())
 }
 
 /// The states after a `tally` of a scope at this place.

@@ -1,4 +1,4 @@
-use Rattle.std.proofs.Common.{◌≡◌, ℕ, ◌+◌, ◌<◌, arith, subst}
+use Rattle.std.proofs.Common.{ℕ, ◌+◌, arith, subst}
 use Rattle.ends_picks.specs.Ranges.{IsIn}
 use Rattle.ends_picks.proofs.tallies.have_sum.Goals as goal
 

@@ -1,4 +1,4 @@
-use Rattle.std.proofs.Common.{◌≡◌, ℕ, ◌+◌, List, arith, sym, ap, ◌∙◌, length, subst}
+use Rattle.std.proofs.Common.{List, sym, ap, ◌∙◌, length}
 use Rattle.std.specs.Prelude.{count_by}
 use Rattle.sts_code.specs.declared.instr.Kind.TheVariants.{S, F, U}
 use Rattle.laws_runs.specs.Tallies.{is_kind}

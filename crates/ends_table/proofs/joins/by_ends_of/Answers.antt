@@ -1,11 +1,19 @@
-use Rattle.std.proofs.Common.{◌≡◌, true}
+use Rattle.std.proofs.Common.{◌≡◌, true, pos}
 use Rattle.sts_model.specs.declared.event.End.{End}
+use Rattle.sts_model.specs.declared.event.End.TheVariants.{Success}
+use Rattle.laws_calls.specs.declared.table.Way.{Way}
 use Rattle.laws_calls.specs.Triggers.{is_trigger}
 use Rattle.ends_table.specs.Led.{DecidedLeads}
-use Rattle.ends_table.proofs.PlaceLemmas.{each_way}
+use Rattle.ends_picks.proofs.ListLemmas.{each_way}
+use Rattle.ends_table.proofs.MissingLemmas.{by_ok, one_more}
 use Rattle.ends_table.proofs.joins.by_ends_of.Goals as goal
+
+pub loop-way-preserved : goal.loop-way-preserved
+loop-way-preserved c none =
+    one_more (λ (way : Way). is_trigger c.args.seen.now.joiner way.end ≡ true → DecidedLeads c.args.states.now c.args.own.now c.args.place c.args.seen.now c.args.failed c.args.i c.args.part.now way.end)
+    c.as_slice-way-items.result.now c.loop-way.way-index (record { end = Success (pos 0) }) c.loop-way-test.true (c.loop-way.invariant (c.in_ok-note.ensures.before none)) (by_ok c.by_end-step.result (c.in_ok-note.ensures.step none) c.by_end-step.ensures)
 
 pub returns : goal.returns
 returns c =
     let decides = λ (e : End). is_trigger c.args.seen.now.joiner e ≡ true → DecidedLeads c.args.states.now c.args.own.now c.args.place c.args.seen.now c.args.failed c.args.i c.args.part.now e in
-    each_way decides c.as_slice-way-items.result.now c.args.part.now.ways c.loop-way.way-index c.as_slice-way-items.ensures c.loop-way-test.false c.loop-way.invariant
+    each_way decides c.as_slice-way-items.result.now c.args.part.now.ways c.loop-way.way-index c.as_slice-way-items.ensures c.loop-way-test.false (c.loop-way.invariant c.in_ok-none.ensures)

@@ -1,5 +1,5 @@
 use Rattle.std.proofs.Common.{arith}
-use Rattle.ends_table.proofs.PlaceLemmas.{among_in}
+use Rattle.ends_picks.proofs.ListLemmas.{among_in}
 use Rattle.ends_table.proofs.reached.is_among.Goals as goal
 
 pub returns-then-same : goal.returns-then-same

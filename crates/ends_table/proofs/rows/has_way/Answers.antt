@@ -1,4 +1,4 @@
-use Rattle.ends_table.proofs.PlaceLemmas.{way_in}
+use Rattle.ends_picks.proofs.ListLemmas.{way_in}
 use Rattle.ends_table.proofs.rows.has_way.Goals as goal
 
 pub returns-then-is_way_to : goal.returns-then-is_way_to

@@ -2,7 +2,7 @@ use Rattle.std.proofs.Common.{List, subst}
 use Rattle.laws_calls.specs.declared.table.Held.TheVariants.{Lent}
 use Rattle.laws_calls.specs.declared.table.Own.{Own}
 use Rattle.laws_calls.specs.Tasks.{Among, begin}
-use Rattle.ends_table.proofs.PlaceLemmas.{among_at}
+use Rattle.ends_picks.proofs.ListLemmas.{among_at}
 use Rattle.ends_table.proofs.rows.row_of.Goals as goal
 
 pub returns-then-is_among : goal.returns-then-is_among

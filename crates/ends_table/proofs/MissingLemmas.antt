@@ -1,0 +1,25 @@
+-- Steps over which missing states are gathered.
+use Rattle.std.proofs.Common.{◌≡◌, ℕ, zero, ◌+◌, ◌≤◌, ◌<◌, List, Bool, true, false, refl, sym, subst, arith, get_or, length, Result, Ok, Err}
+use Rattle.std.specs.Result.{IsOk, OnOk}
+use Rattle.std.specs.List.{AllWithin}
+use Rattle.std.specs.Prelude.{nat_eq}
+use Rattle.std.proofs.lemmas.Bool.Decides.{nat_tests}
+use Rattle.std.proofs.lemmas.List.{get_or_default}
+use Rattle.std.proofs.lemmas.List.Elements.{AllWithin-more}
+
+-- what a step shows that went well
+pub by_ok : {T E P : Type 0} (r : Result T E) → IsOk r → OnOk r P → P
+by_ok (Ok x) ok h = h
+by_ok (Err e) ok h = cc
+
+-- one element more
+pub one_more : {X : Type 0} (P : X → Type 0) (xs : List X) (i : ℕ) (d : X) → i < length xs → AllWithin P xs 0 i → P (get_or xs i d) → AllWithin P xs 0 (i + 1)
+one_more P xs i d less before here = AllWithin-more P xs 0 i before (λ e. subst P (sym (get_or_default xs i e d less)) here)
+
+-- one number more
+pub number_more : (P : ℕ → Type 0) (low i : ℕ) → ((n : ℕ) → low ≤ n → n < i → P n) → P i → (n : ℕ) → low ≤ n → n < i + 1 → P n
+number_more P low i before here n least less = by (nat_eq n i) refl
+  where
+    by : (b : Bool) → nat_eq n i ≡ b → P n
+    by true e = subst P (let same : i ≡ n = grind (arith, nat_tests) in same) here
+    by false e = before n least (grind (arith, nat_tests))

@@ -1,0 +1,14 @@
+use Rattle.std.proofs.Common.{◌≡◌, ℕ, true, List, subst, get_or}
+use Rattle.sts_model.specs.declared.event.End.{End}
+use Rattle.laws_calls.specs.declared.table.Part.{Part}
+use Rattle.sts_model.specs.Joining.{is_failure}
+use Rattle.ends_table.specs.Led.{DecidedLeads}
+use Rattle.ends_table.proofs.PlaceLemmas.{parts_more}
+use Rattle.ends_table.proofs.MissingLemmas.{by_ok}
+use Rattle.ends_table.proofs.joins.each_first.Goals as goal
+
+pub loop-i-preserved : goal.loop-i-preserved
+loop-i-preserved c none =
+    let x = c.index-parts-i.result in
+    let is : x ≡ get_or c.args.seen.now.parts c.loop-i.i x = subst (λ (ps : List Part). x ≡ get_or ps c.loop-i.i x) c.as_slice-parts.ensures c.index-parts-i.is in
+    parts_more c.args.seen.now c.loop-i.i x (λ k part e. is_failure e ≡ true → part.is_early ≡ true → DecidedLeads c.args.states.now c.args.own.now c.args.place c.in_ok-after.after c.args.failed k part e) is (c.loop-i.invariant (c.in_ok-note.ensures.before none)) (by_ok c.first_of-step.result (c.in_ok-note.ensures.step none) c.first_of-step.ensures)

@@ -1,0 +1,13 @@
+use Rattle.std.proofs.Common.{ℤ, List, sym, subst}
+use Rattle.laws_calls.specs.Tasks.{Among}
+use Rattle.ends_picks.specs.declared.outcomes.Outcome.{Outcome}
+use Rattle.ends_picks.specs.Outcomes.{outcome_of}
+use Rattle.ends_picks.proofs.OutcomeLemmas.{total_is}
+use Rattle.ends_table.specs.Answered.{SumLeads}
+use Rattle.ends_table.proofs.sums.totals.Goals as goal
+
+pub returns : goal.returns
+returns c pick fits =
+    let x = c.args.seen.now in
+    let there = subst (λ (os : List Outcome). Among os (outcome_of x pick)) (sym c.as_slice.ensures.value) (c.in_ok-outcomes.ensures pick fits) in
+    subst (λ (n : ℤ). SumLeads c.args.states.now c.args.own.now c.args.place x n) (total_is x pick) (c.in_ok-each_of.ensures (outcome_of x pick) there)
