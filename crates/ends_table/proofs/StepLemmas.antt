@@ -198,12 +198,12 @@ module _ (p : Program) (interrupts : ℕ) (c : Call) (states : List Own) (own : 
 
   -- ---- answers
 
-  pub tallies_lead : (x place : ℕ) (kind : Kind) (seen : Seen) → Owns own x place seen → TalliesLead states own place seen kind → AllLead p c states own (Tally x kind)
+  pub tallies_lead : (x place : ℕ) (kind : Kind) (seen : Seen) → Owns own x place seen → TalliesLead states own place seen kind → AllLead p interrupts c states own (Tally x kind)
   tallies_lead x place kind seen o h next (local_step e) = cc
   tallies_lead x place kind seen o h next (tally_step place2 seen2 pick q fits) =
       (owned (λ a s. TalliesLead states own a s kind) x place place2 seen seen2 o q h) pick fits
 
-  pub totals_lead : (x place : ℕ) (seen : Seen) → Owns own x place seen → TotalsLead states own place seen → AllLead p c states own (Total x)
+  pub totals_lead : (x place : ℕ) (seen : Seen) → Owns own x place seen → TotalsLead states own place seen → AllLead p interrupts c states own (Total x)
   totals_lead x place seen o h next (local_step e) = cc
   totals_lead x place seen o h next (total_step place2 seen2 pick q fits) =
       (owned (λ a s. TotalsLead states own a s) x place place2 seen seen2 o q h) pick fits

@@ -43,7 +43,7 @@ fn check_fork(
     Ok(())
 }
 
-/// All that a table owes at a state whose next instruction is this, if so many interrupts may come.
+/// All that a table owes at a state whose next instruction is this.
 fn check_instr(
     alloc: Global,
     program: &Program,

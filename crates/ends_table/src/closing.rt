@@ -347,9 +347,9 @@ fn table_of(
     Ok(rows)
 }
 
-/// A table of a program that is closed, if so many interrupts may come. Its first row is the
-/// root's. `None` if it has more than `most` states, or a row more than 100,000, or if it takes too
-/// much memory, or if some instruction's steps can't be listed.
+/// A table of a program that is closed, with at most this number of interrupts. Its first row is
+/// the root's. `None` if it has more than `most` states, or a row more than 100,000, or if it takes
+/// too much memory, or if some instruction's steps can't be listed.
 ///
 /// # Errors
 ///

@@ -17,7 +17,7 @@ EventsAreCovered =
     → Covers p interrupts t root w → (is_interrupt e ≡ true → 0 < interrupts)
     → Covers p interrupts t root v)
 
--- a table covers each state that a run comes to with at most so many interrupts
+-- a table covers each state of a run that has no more interrupts than the table allows
 abbrev pub RunsAreCovered : Type 0
 RunsAreCovered =
     (p : Program) (interrupts : ℕ) (t : Table) (root : Row) → IsTable p interrupts t root

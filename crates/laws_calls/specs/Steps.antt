@@ -288,7 +288,7 @@ pub record IsRowOf (t : Table) (row : Row) (c : Call) : Type 0 where
 
 -- ---- steps
 
--- from a state of a call by an instruction to another state, in runs with so many interrupts
+-- from a state of a call by an instruction to another state, with at most this number of interrupts
 pub data Steps (p : Program) (interrupts : ℕ) (c : Call) (own : Own) : Instr → Own → Type 0 where
   -- the frame alone
   local_step : {i : Instr} → is_local i ≡ true

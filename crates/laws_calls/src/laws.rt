@@ -39,7 +39,7 @@ pub fn events_are_covered()
     ensures { EventsAreCovered }
 {}
 
-/// A table covers each state that a run comes to with at most as many interrupts as it allows.
+/// A table covers each state of a run that has no more interrupts than the table allows.
 pub fn runs_are_covered()
     ensures { RunsAreCovered }
 {}
