@@ -11,10 +11,9 @@ use Rattle.std.specs.Option.{option_copied, option_copied_mut, IsSome}
 use Rattle.sts_records.specs.Holes.{Holes, key_at}
 use Rattle.sts_records.specs.Pages.{Comes, Goes, HasPagesFor, KeepsKeys}
 use Rattle.sts_records.specs.Slots.{AreGiven, birth_of, births, body_of, slots}
-use Rattle.slab.specs.Slab.{Slab, Updates, get}
+use Rattle.sts_records.specs.Places.{Entry, Places, Updates, get}
 use Rattle.sts_records.specs.declared.pages.Pages.{Pages}
 use Rattle.sts_records.proofs.Cells.{came, inside_of, stayed}
-use Rattle.sts_records.specs.declared.held.Entry.{Entry}
 
 some_same : {X : Type 0} → (a b : X) → Some a ≡ Some b → a ≡ b
 some_same a b e = cc
@@ -136,7 +135,7 @@ module _ {T : Type 0} where
           rw (s, is, was, body_other i birth x ne) (rw r refl)
       by i ne false q = let s : get_or keys i 0 ≢ get_or keys birth 0 = grind (arith, nat_tests) in rw (others (get_or keys i 0) s) refl
 
-  -- the entry of one birth is taken out
+  -- the entry of one birth is discarded
   pub emptied : (keys : List ℕ) (old new : List (Option (Entry T))) (birth : ℕ) (e : Entry T) → birth < length keys → get_or old (get_or keys birth 0) None ≡ Some e → e.birth ≡ birth → get_or new (get_or keys birth 0) None ≡ None → ((j : ℕ) → j ≢ get_or keys birth 0 → get_or new j None ≡ get_or old j None) → slots 0 keys new ≡ set (slots 0 keys old) birth None
   emptied keys old new birth e less was own is others =
       written keys old new birth None less (rw is refl)
@@ -207,8 +206,8 @@ module _ {T : Type 0} where
   no_entries p entries none kept = subst (λ (l : List (Option (Entry T))). KeepsKeys p 0 (births l)) (sym none) kept
 
   -- an entry of a new birth
-  pub comes : (keys : List ℕ) (entries after : Slab (Entry T)) (key birth : ℕ) (x : T) → birth ≡ length keys → AreGiven keys (births entries.slots) → get entries key ≡ None → Updates entries after key (Some (record { birth = birth; body = x })) → Comes (births entries.slots) (births after.slots) key birth
-  comes keys entries after key birth x last given vacant u = record {
+  pub comes : (keys : List ℕ) (places after : Places T) (key birth : ℕ) (x : T) → birth ≡ length keys → AreGiven keys (births places.slots) → get places key ≡ None → Updates places after key (Some (record { birth = birth; body = x })) → Comes (births places.slots) (births after.slots) key birth
+  comes keys places after key birth x last given vacant u = record {
     was = ap birth_of vacant;
     is = ap birth_of u.changed;
     others = λ k ne. ap birth_of (u.others k ne);
@@ -251,6 +250,31 @@ module _ {T : Type 0} where
   other_of entries key birth e is ne at =
       let same : Some e.birth ≡ Some birth = sym (ap birth_of is) ∙ at in
       ne cc
+
+  -- what a look-up of a birth finds, by its key
+  pub looked_up : (keys : List ℕ) (entries : List (Option (Entry T))) (birth key : ℕ) → AreGiven keys (births entries) → ((k : ℕ) → births entries k ≡ Some birth → key ≡ k) → body_of birth (get_or entries key None) ≡ get_or (slots 0 keys entries) birth None
+  looked_up keys entries birth key given leads = by (get_or entries key None) refl
+    where
+      by : (o : Option (Entry T)) → get_or entries key None ≡ o → body_of birth o ≡ get_or (slots 0 keys entries) birth None
+      by None q = sym (not_found keys entries birth key leads (none_of entries key birth q))
+      by (Some e) q = own (nat_eq e.birth birth) refl
+        where
+          own : (t : Bool) → nat_eq e.birth birth ≡ t → body_of birth (Some e) ≡ get_or (slots 0 keys entries) birth None
+          own true r =
+              let s : e.birth ≡ birth = grind (arith, nat_tests) in
+              rw r (sym (found keys entries birth key e given q s))
+          own false r =
+              let s : e.birth ≢ birth = grind (arith, nat_tests) in
+              rw r (sym (not_found keys entries birth key leads (other_of entries key birth e q s)))
+
+  -- the record at a key
+  pub at_key : (entries : List (Option (Entry T))) (key k : ℕ) (e : Entry T) → key ≡ k → get_or entries k None ≡ Some e → get_or entries key None ≡ Some e
+  at_key entries key k e same is = ap (λ (n : ℕ). get_or entries n None) same ∙ is
+
+  pub is_at_key : (entries : List (Option (Entry T))) (key k : ℕ) (e : Entry T) → key ≡ k → get_or entries k None ≡ Some e → get_or entries key None ≢ None
+  is_at_key entries key k e same is none =
+      let no : Some e ≡ None = sym (at_key entries key k e same is) ∙ none in
+      cc
 
   -- an entry that is written over keeps its birth
   rewritten_births : (entries : List (Option (Entry T))) (k : ℕ) (e : Entry T) (x : T) → get_or entries k None ≡ Some e → k < length entries → (j : ℕ) → births (set entries k (Some (record { birth = e.birth; body = x }))) j ≡ births entries j

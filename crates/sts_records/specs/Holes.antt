@@ -3,7 +3,7 @@ use Rattle.std.specs.Prelude.{ℕ, List, Option, Some, None, refl, is_some, if�
 use Rattle.std.specs.Prelude.{slice_index_or}
 use Rattle.std.specs.Coded.{Coded, code_by, coded×, coded_ℕ, coded_list, coded_option}
 
--- the records by birth, with a hole for each that was taken out; the key that each birth was given;
+-- the records by birth, with a hole for each that was discarded; the key that each birth was given;
 -- how many more fit
 pub record Holes (T : Type 0) : Type 0 where
   pub slots : List (Option T)

@@ -2,7 +2,7 @@
 use Rattle.std.specs.Prelude.{◌≡◌, ◌<◌, ℕ, suc, List, [], ◌∷◌, Option, Some, None, nat_eq}
 use Rattle.std.specs.Prelude.{if◌then◌else◌, length}
 use Rattle.std.specs.Prelude.{slice_index_or}
-use Rattle.sts_records.specs.declared.held.Entry.{Entry}
+use Rattle.sts_records.specs.Places.{Entry}
 
 -- the body of an entry, if it is that of this birth
 abbrev pub body_of : {T : Type 0} → ℕ → Option (Entry T) → Option T

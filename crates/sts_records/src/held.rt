@@ -1,37 +1,27 @@
-//! Records found by birth, until they are taken out.
+//! Records found by birth, until they are discarded.
 
 ghost use Rattle.std.specs.Prelude.{◌≡◌, ◌≢◌, ◌+◌, ◌-◌, ◌<◌, ◌≤◌, ◌++◌, [], ◌∷◌, ℕ, length};
 ghost use Rattle.std.specs.Prelude.{Option, Some, None, IfOk, slice_index_or, slice_set};
-ghost use Rattle.std.specs.Prelude.{option_copied};
+ghost use Rattle.std.specs.Prelude.{true, false, option_copied};
 ghost use Rattle.std.specs.Borrow.{sem};
 ghost use Rattle.sts_records.specs.Holes.{key_at};
 ghost use Rattle.sts_records.specs.Lends.{lends_slot};
 
 use crate::given::Given;
 use crate::pages::Pages;
-use slab::Slab;
+use crate::places::Places;
 use std::alloc::{AllocError, Global};
 use std::marker::Model;
 
-/// How many keys of 32 bits there are. That is more than any room has.
-const KEYS: usize = 4_294_967_296;
-
-/// A record with its birth.
-#[derive(Drop)]
-pub(crate) struct Entry<T> {
-    pub(crate) birth: usize,
-    body: T,
-}
-
-/// Records by birth. Contracts see a list by birth, with a hole for each record that was taken out.
+/// Records by birth. Contracts see a list by birth, with a hole for each record that was discarded.
 ///
-/// Births count from 0 and are never used twice. Each record has a key. When it is taken out, a
-/// later record may be given its key.
+/// Births count from 0 and are never used twice. Each record has a key. When it is discarded, it
+/// stays where it lies, and a later record may be given its key and be written over it.
 #[derive(Drop)]
 pub struct Held<T> {
     /// The key of each birth that has a record.
     pages: Pages,
-    entries: Slab<Entry<T>>,
+    places: Places<T>,
     /// The key that each birth was given.
     given: Given,
     born: u32,
@@ -40,7 +30,7 @@ pub struct Held<T> {
 
 impl<T> Model for Held<T> {
     ghost use Rattle.std.specs.Prelude.{◌≡◌, ◌≤◌, ◌+◌, ◌/◌, ◌<◌, ◌^◌, length};
-    ghost use Rattle.slab.specs.Slab.{HasRoomFor, slab_len};
+    ghost use Rattle.sts_records.specs.Places.{HasRoomFor, filled};
     ghost use Rattle.sts_records.specs.Holes.{Holes, holes_code};
 
     ghost Value = { Holes T };
@@ -51,17 +41,16 @@ impl<T> Model for Held<T> {
     ghost use Rattle.sts_records.specs.Slots.{AreGiven, births, slots};
 
     ghost view = { λ h. record {
-      slots = slots 0 h.given.keys h.entries.slots;
+      slots = slots 0 h.given.keys h.places.slots;
       keys = h.given.keys;
       room = h.room;
     } };
 
-    ghost invariant = { λ h. HasRoomFor h.entries h.room × (slab_len h.entries + h.room < 2 ^ 32)
-        × (h.entries.capacity ≤ 2 ^ 32)
+    ghost invariant = { λ h. HasRoomFor h.places h.room × (filled h.places + h.room < 2 ^ 32)
         × (h.born ≡ length h.given.keys) × (h.born ≤ 1000000)
-        × AreGiven h.given.keys (births h.entries.slots)
-        × KeepsKeys h.pages (h.born / 4096) (births h.entries.slots)
-        × HasPagesFor h.pages (slab_len h.entries + h.room) };
+        × AreGiven h.given.keys (births h.places.slots)
+        × KeepsKeys h.pages (h.born / 4096) (births h.places.slots)
+        × HasPagesFor h.pages (filled h.places + h.room) };
 }
 
 impl<T: Drop> Held<T> {
@@ -74,16 +63,11 @@ impl<T: Drop> Held<T> {
     pub fn with_room(alloc: Global, room: u32) -> Result<Held<T>, AllocError>
         ensures { IfOk result (λ h. h ≡ record { slots = []; keys = []; room = room }) }
     {
-        let mut entries = Slab::new(alloc);
-        entries.reserve_exact(room as usize)?;
-        // (a slab reserves no more than it is asked for, but no contract says so)
-        if entries.capacity() > KEYS {
-            return Err(AllocError);
-        }
+        let places = Places::with_room(alloc, room)?;
         let pages = Pages::with_room(alloc, room)?;
         Ok(Held {
             pages,
-            entries,
+            places,
             given: Given::new(),
             born: 0,
             room,
@@ -112,10 +96,7 @@ impl<T: Drop> Held<T> {
         if birth >= self.born as usize {
             return None;
         }
-        match self.entries.get(self.pages.key(birth)) {
-            Some(entry) if entry.birth == birth => Some(&entry.body),
-            _ => None,
-        }
+        self.places.get(self.pages.key(birth), birth as u32)
     }
 
     /// The record of a birth. It must exist.
@@ -125,7 +106,7 @@ impl<T: Drop> Held<T> {
         ensures { slice_index_or self.now.slots birth None ≡ Some result.now }
     {
         let key = self.pages.key(birth);
-        &self.entries[key].body
+        self.places.record(key)
     }
 
     /// The record of a birth, for writing. It must exist.
@@ -135,7 +116,7 @@ impl<T: Drop> Held<T> {
         ensures value { slice_index_or self.old.slots birth None ≡ Some result.now }
     {
         let key = self.pages.key(birth);
-        &mut self.entries[key].body
+        self.places.at(key)
     }
 
     /// The key of the record of a birth, if it exists.
@@ -154,7 +135,7 @@ impl<T: Drop> Held<T> {
         ensures value { (b : ℕ) → key_at self.now.slots self.now.keys b ≡ Some key → result ≡ b }
         ensures few { result < 1000000 }
     {
-        self.entries.get(key).unwrap().birth
+        self.places.birth(key).unwrap() as usize
     }
 
     /// Makes a record of the next birth, and answers that birth.
@@ -168,13 +149,38 @@ impl<T: Drop> Held<T> {
         ensures room { self.new.room ≡ self.old.room - 1 }
     {
         let birth = self.born as usize;
-        let key = self.entries.insert_reserved(Entry { birth, body }) as u32;
+        let key = self.places.insert(self.born, body);
         self.pages.put(birth, key);
         self.given = self.given.and(&key);
         self.born = birth as u32 + 1;
         self.room -= 1;
-        self.pages.turn(birth + 1, &self.entries);
+        self.pages.turn(birth + 1, &self.places);
         birth
+    }
+
+    /// Makes a discarded record that of the next birth. It still has what it had, so the caller
+    /// writes over it. Answers whether there was one; if not, nothing changes. No clause says when
+    /// there is one, since a caller may `push` in any case.
+    #[inline(always)]
+    pub fn reuse(&mut self) -> bool
+        requires room { 0 < self.old.room }
+        requires births { length self.old.slots < 1000000 }
+        ensures none { result ≡ false → self.new ≡ self.old }
+        ensures slots { result ≡ true → (body : T)
+            × (self.new.slots ≡ self.old.slots ++ Some body ∷ []) }
+        ensures keys { result ≡ true → (key : ℕ) × (self.new.keys ≡ self.old.keys ++ key ∷ []) }
+        ensures room { result ≡ true → self.new.room ≡ self.old.room - 1 }
+    {
+        let birth = self.born as usize;
+        let Some(key) = self.places.reuse(self.born) else {
+            return false;
+        };
+        self.pages.put(birth, key);
+        self.given = self.given.and(&key);
+        self.born = birth as u32 + 1;
+        self.room -= 1;
+        self.pages.turn(birth + 1, &self.places);
+        true
     }
 
     /// Takes the next birth without a record, and answers it. It takes no room, and never has a
@@ -190,21 +196,20 @@ impl<T: Drop> Held<T> {
         // No record has this birth, so any key will do.
         self.given = self.given.and(&0);
         self.born += 1;
-        self.pages.turn(birth + 1, &self.entries);
+        self.pages.turn(birth + 1, &self.places);
         birth
     }
 
-    /// Takes the record of a birth out. Its key may then be given to a later record.
-    pub fn remove(&mut self, birth: usize) -> T
+    /// Discards the record of a birth. Its key may then be given to a later record.
+    #[inline(always)]
+    pub fn discard(&mut self, birth: usize)
         requires { slice_index_or self.old.slots birth None ≢ None }
-        ensures value { slice_index_or self.old.slots birth None ≡ Some result }
         ensures slots { self.new.slots ≡ slice_set self.old.slots birth None }
         ensures keys { self.new.keys ≡ self.old.keys }
         ensures room { self.new.room ≡ self.old.room + 1 }
     {
         let key = self.pages.key(birth);
-        let entry = self.entries.remove(key);
+        self.places.discard(key);
         self.room += 1;
-        entry.body
     }
 }

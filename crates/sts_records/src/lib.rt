@@ -9,5 +9,6 @@
 mod given;
 mod held;
 mod pages;
+mod places;
 
 pub use held::Held;

@@ -2,12 +2,11 @@
 
 ghost use Rattle.std.specs.Prelude.{◌≡◌, ◌≢◌, ◌+◌, ◌-◌, ◌/◌, ◌<◌, ◌≤◌, ℕ, length, IfOk};
 ghost use Rattle.std.specs.Prelude.{Option, Some, None, IsTrue, false, vec_capacity};
-ghost use Rattle.slab.specs.Slab.{slab_len};
+ghost use Rattle.sts_records.specs.Places.{filled};
 ghost use Rattle.sts_records.specs.Pages.{Comes, Extends, HasPagesFor, KeepsKeys, cell_of, page_of};
 ghost use Rattle.sts_records.specs.Slots.{births};
 
-use crate::held::Entry;
-use slab::Slab;
+use crate::places::Places;
 use std::alloc::{AllocError, Global};
 
 /// How many births a block has. A page has as many cells.
@@ -89,32 +88,32 @@ impl Pages {
 
     /// So many births have come. Begins the block of the next one, if no birth of it has come.
     #[inline(always)]
-    pub(crate) fn turn<T>(&mut self, born: usize, entries: &Slab<Entry<T>>)
+    pub(crate) fn turn<T>(&mut self, born: usize, places: &Places<T>)
         requires born { (0 < born) × (born ≤ 1000000) }
-        requires keys { KeepsKeys self.old ((born - 1) / 4096) (births entries.now.slots) }
-        requires room { HasPagesFor self.old (slab_len entries.now) }
-        ensures keys { KeepsKeys self.new (born / 4096) (births entries.now.slots) }
+        requires keys { KeepsKeys self.old ((born - 1) / 4096) (births places.now.slots) }
+        requires room { HasPagesFor self.old (filled places.now) }
+        ensures keys { KeepsKeys self.new (born / 4096) (births places.now.slots) }
         ensures pages { self.new.pages ≡ self.old.pages }
     {
         if born % BLOCK == 0 {
-            self.begin(born / BLOCK, entries);
+            self.begin(born / BLOCK, places);
         }
     }
 
     /// Begins this block, the next one. It gets a page in which no record has its cell.
     #[cold]
     #[inline(never)]
-    fn begin<T>(&mut self, block: usize, entries: &Slab<Entry<T>>)
+    fn begin<T>(&mut self, block: usize, places: &Places<T>)
         requires block { (0 < block) × (block < 245) }
-        requires keys { KeepsKeys self.old (block - 1) (births entries.now.slots) }
-        requires room { HasPagesFor self.old (slab_len entries.now) }
-        ensures keys { KeepsKeys self.new block (births entries.now.slots) }
+        requires keys { KeepsKeys self.old (block - 1) (births places.now.slots) }
+        requires room { HasPagesFor self.old (filled places.now) }
+        ensures keys { KeepsKeys self.new block (births places.now.slots) }
         ensures pages { self.new.pages ≡ self.old.pages }
     {
         let page = if self.pages == BLOCKS {
             block
         } else {
-            self.unused_page(entries)
+            self.unused_page(places)
         };
         extend(&mut self.cells, page * BLOCK + BLOCK);
         self.offsets[block] = (page * BLOCK + BIRTHS - block * BLOCK) as u32;
@@ -122,15 +121,15 @@ impl Pages {
 
     /// The first page in which no record has its cell. There is one, since there are more pages
     /// than records.
-    fn unused_page<T>(&self, entries: &Slab<Entry<T>>) -> usize
-        requires keys { (latest : ℕ) × KeepsKeys self.now latest (births entries.now.slots) }
-        requires room { slab_len entries.now < self.now.pages }
+    fn unused_page<T>(&self, places: &Places<T>) -> usize
+        requires keys { (latest : ℕ) × KeepsKeys self.now latest (births places.now.slots) }
+        requires room { filled places.now < self.now.pages }
         ensures few { result < self.now.pages }
         ensures unused { (key : ℕ)
-            → page_of self.now.offsets (births entries.now.slots key) ≢ Some result }
+            → page_of self.now.offsets (births places.now.slots key) ≢ Some result }
     {
         for page in 0..self.pages {
-            if !self.is_used(entries, page) {
+            if !self.is_used(places, page) {
                 return page;
             }
         }
@@ -138,16 +137,16 @@ impl Pages {
     }
 
     /// Whether a record has its cell in this page.
-    fn is_used<T>(&self, entries: &Slab<Entry<T>>, page: usize) -> bool
-        requires { (latest : ℕ) × KeepsKeys self.now latest (births entries.now.slots) }
+    fn is_used<T>(&self, places: &Places<T>, page: usize) -> bool
+        requires { (latest : ℕ) × KeepsKeys self.now latest (births places.now.slots) }
         ensures used { IsTrue result → (key : ℕ)
-            × (page_of self.now.offsets (births entries.now.slots key) ≡ Some page) }
+            × (page_of self.now.offsets (births places.now.slots key) ≡ Some page) }
         ensures unused { result ≡ false → (key : ℕ)
-            → page_of self.now.offsets (births entries.now.slots key) ≢ Some page }
+            → page_of self.now.offsets (births places.now.slots key) ≢ Some page }
     {
-        for key in 0..entries.capacity() {
-            if let Some(entry) = entries.get(key) {
-                if self.cell(entry.birth) / BLOCK == page {
+        for key in 0..places.len() {
+            if let Some(birth) = places.birth(key) {
+                if self.cell(birth as usize) / BLOCK == page {
                     return true;
                 }
             }

@@ -1,5 +1,5 @@
 -- A subtask is forked: the view after it, and the facts that keep the parts in order.
-use Rattle.std.proofs.Common.{◌≡◌, ◌≢◌, ℕ, zero, suc, ◌+◌, arith, List, [], ◌∷◌, ◌++◌, length, Bool, true, false, Option, Some, None, refl, sym, ◌∙◌, ap, get_or, cond, not, nat_eq, is_some, take, length-append}
+use Rattle.std.proofs.Common.{◌≡◌, ◌≢◌, ℕ, ℤ, zero, suc, ◌+◌, arith, List, [], ◌∷◌, ◌++◌, length, Bool, true, false, Option, Some, None, refl, sym, ◌∙◌, ap, get_or, set, cond, not, nat_eq, is_some, take, length-append}
 use Rattle.std.proofs.lemmas.Bool.Decides.{nat_tests}
 use Rattle.std.proofs.lemmas.List.{length-map, map-append}
 use Rattle.std.specs.Prelude.{option_map, unwrap_or, reverse}
@@ -16,13 +16,14 @@ use Rattle.sts_model.specs.World.{entry_frame}
 use Rattle.sts_model.specs.Live.{Live, LiveScope, Alive}
 use Rattle.sts_model.specs.declared.event.Stand.TheVariants.{Free}
 use Rattle.sts_model.specs.declared.record.Frame.{Frame}
+use Rattle.sts_model.specs.declared.record.Slot.{Slot}
 use Rattle.sts_model.specs.declared.record.Slot.TheVariants.{Lent}
 use Rattle.sts_tree.specs.Steps.{seen}
 use Rattle.sts_tree.specs.Reading.{lives_at}
 use Rattle.laws_live.specs.Effect.{live_fork, live_child}
 use Rattle.laws_live.specs.Reading.{live_scope_at, with_live_frame}
 use Rattle.laws_live.specs.Order.{InOrder}
-use Rattle.sts_store.specs.View.{Beside, view_of, tasks_from, scope_seen, alive_of}
+use Rattle.sts_store.specs.View.{view_of, scope_seen, alive_of}
 use Rattle.sts_store.proofs.ViewingLemmas.{words, scope_there, same_view}
 use Rattle.sts_store.specs.declared.running.Running.{Running}
 use Rattle.sts_store.specs.Parts.{Parts, live_of, beside, frame_of, running_at, no_running, stand_of, unseen_of}
@@ -46,9 +47,17 @@ last : {X : Type 0} (xs : List X) (y d : X) → get_or (xs ++ y ∷ []) (length 
 last [] y d = refl
 last (x ∷ xs) y d = last xs y d
 
+pub set_last : {X : Type 0} (xs : List X) (old new : X) → set (xs ++ old ∷ []) (length xs) new ≡ xs ++ new ∷ []
+set_last [] old new = refl
+set_last (x ∷ xs) old new = ap (λ l. x ∷ l) (set_last xs old new)
+
 -- the tree with a subtask more
 abbrev pub with_subtask : Forest Env → ℕ → Bool → List ℕ → ℕ → Forest Env
 with_subtask f s lives keys room = record f { tasks = f.tasks ++ Some (subtask s lives) ∷ []; task_keys = keys; task_room = room }
+
+-- a subtask at place 0, with these locals, this slot 0 and this environment
+abbrev pub begun : ℕ → List ℤ → Slot → Env → Running
+begun function locals slot env = record { frame = record (entry_frame function [] slot) { locals = locals }; env = env }
 
 -- the record at the next birth
 abbrev pub born_if : Bool → Running → Option Running

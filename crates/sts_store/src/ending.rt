@@ -52,7 +52,7 @@ impl Store {
         } }
     {
         finish(&mut self.tree, t, end);
-        self.frames.remove(t as usize);
+        self.frames.discard(t as usize);
         self.root_end = root_end_after(self.root_end, t, end);
     }
 }

@@ -4,30 +4,44 @@ ghost use Rattle.std.specs.Prelude.{◌≡◌, ◌<◌, ◌≤◌, ◌+◌, ◌-
 ghost use Rattle.std.specs.Prelude.{true, is_some, Some, None, if◌then◌else◌};
 ghost use Rattle.sts_code.specs.declared.limits.TheConstants.{MAX_BIRTHS};
 ghost use Rattle.sts_code.specs.Program.{routine};
+ghost use Rattle.sts_model.specs.World as def;
 ghost use Rattle.sts_model.specs.declared.event.Stand.TheVariants.{Free};
 ghost use Rattle.laws_live.specs.Effect.{live_fork};
 ghost use Rattle.laws_live.specs.Reading.{live_scope_at, lives_in, scope_in};
 ghost use Rattle.sts_store.specs.Parts.{frame_of, live_of, unseen_of};
 ghost use Rattle.laws_live.specs.Order.{InOrder};
 
+use crate::beginning::begin;
 use crate::running::Running;
 use crate::store::Store;
 use sts_code::{Program, args};
+use sts_env::Env;
 use sts_frames::{entry_frame, leave_fork};
 use sts_model::Slot;
 use sts_records::Held;
 
-/// A place for the next birth, with its own state if it lives.
-fn place(frames: &mut Held<Running>, running: Running, lives: bool)
+/// A place for the next birth, with its own state if it lives: at place 0 of a function, with these
+/// locals, this slot 0 and this environment.
+#[inline(always)]
+fn place(
+    frames: &mut Held<Running>,
+    function: u32,
+    locals: [i64; 16],
+    slot: Slot,
+    env: Env,
+    lives: bool,
+)
     requires room { 0 < frames.old.room }
     requires births { length frames.old.slots < MAX_BIRTHS }
-    ensures slots { frames.new.slots
-        ≡ frames.old.slots ++ (if lives then Some running else None) ∷ [] }
+    ensures slots { frames.new.slots ≡ frames.old.slots ++ (if lives then Some (record {
+      frame = record (def.entry_frame function [] slot) { locals = locals };
+      env = env;
+    }) else None) ∷ [] }
     ensures room { frames.new.room
         ≡ (if lives then frames.old.room - 1 else frames.old.room) }
 {
     if lives {
-        frames.push(running);
+        begin(frames, function, locals, slot, env);
     } else {
         frames.skip();
     }
@@ -59,9 +73,16 @@ impl Store {
         let args = args(program, function);
         let env = *self.tree.env(s);
         let forker = self.frames.record(t as usize);
-        let frame = entry_frame(function, args, &forker.frame, Slot::Lent(s));
+        let entry = entry_frame(function, args, &forker.frame, Slot::Lent(s));
         let (child, lives) = self.tree.add_subtask(s);
-        place(&mut self.frames, Running { frame, env }, lives);
+        place(
+            &mut self.frames,
+            function,
+            entry.locals,
+            Slot::Lent(s),
+            env,
+            lives,
+        );
         leave_fork(
             &mut self.frames.at(t as usize).frame,
             args as usize,

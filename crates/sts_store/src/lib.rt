@@ -10,6 +10,7 @@
 #![tactic(auto)]
 
 pub mod agreement;
+mod beginning;
 mod binding;
 mod closing;
 mod ending;

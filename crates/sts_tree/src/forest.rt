@@ -82,7 +82,7 @@ fn push_if(tasks: &mut Tasks, layer: u8, list: Ends, key: usize, wanted: bool) -
     }
 }
 
-/// Takes out the records of a list of subtasks.
+/// Discards the records of a list of subtasks.
 fn remove_all(tasks: &mut Tasks, list: Ends, count: u32)
     requires { (keys : List ℕ)
         × IsList (link_at tasks.old.held.slots 0) list keys × (length keys ≡ count) }
@@ -97,7 +97,8 @@ fn remove_all(tasks: &mut Tasks, list: Ends, count: u32)
         let Some(t) = at else {
             return;
         };
-        at = tasks.held.remove(t).links[0].after;
+        at = tasks.held.record(t).links[0].after;
+        tasks.held.discard(t);
     }
 }
 
@@ -410,8 +411,10 @@ impl<E: Drop> Forest<E> {
             is_of s x ≡ true → has t self.old.ready ≡ false }
         ensures { self.new ≡ closed self.old s }
     {
-        let row = self.scopes.remove(s as usize);
-        remove_all(&mut self.tasks, row.forks, row.fork_count);
+        let row = self.scopes.record(s as usize);
+        let (forks, count) = (row.forks, row.fork_count);
+        self.scopes.discard(s as usize);
+        remove_all(&mut self.tasks, forks, count);
     }
 
     /// How many tasks were born.

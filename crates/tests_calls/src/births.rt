@@ -14,6 +14,20 @@ fn push(held: &mut Held<u32>, body: u32) -> Option<usize> {
     }
 }
 
+/// Returns the birth of a record that is written over a discarded one, if there are one and room.
+fn reuse(held: &mut Held<u32>, body: u32) -> Option<usize> {
+    if held.room() == 0 || held.born() == 1000000 {
+        return None;
+    }
+    let birth = held.born();
+    if held.reuse() {
+        *held.at(birth) = body;
+        Some(birth)
+    } else {
+        None
+    }
+}
+
 /// Returns a birth that never has a record, if there may be one.
 fn skip(held: &mut Held<u32>) -> Option<usize> {
     if held.born() < 1000000 {
@@ -33,13 +47,13 @@ fn write(held: &mut Held<u32>, birth: usize, body: u32) -> bool {
     }
 }
 
-/// Returns what a record had that is removed, if the birth has one.
+/// Returns what a record had that is discarded, if the birth has one.
 fn remove(held: &mut Held<u32>, birth: usize) -> Option<u32> {
-    if held.get(birth).is_some() {
-        Some(held.remove(birth))
-    } else {
-        None
+    let body = held.get(birth).copied();
+    if body.is_some() {
+        held.discard(birth);
     }
+    body
 }
 
 /// Returns the birth in the record under the key of this birth: the same birth.
@@ -62,18 +76,18 @@ fn is_gone(held: &Held<u32>, birth: usize) -> bool {
 
 /// Births 0 and 1 have all the room.
 fn two_come(held: &mut Held<u32>) -> bool {
-    let is_empty = held.born() == 0 && is_gone(held, 0);
+    let is_empty = held.born() == 0 && is_gone(held, 0) && reuse(held, 5).is_none();
     let births = [push(held, 10), push(held, 20)];
     let is_written = write(held, 1, 25) && held.room() == 0;
     let are_there = is_there(held, 0, 10) && is_there(held, 1, 25);
     is_empty && births == [Some(0), Some(1)] && is_written && are_there
 }
 
-/// Birth 0 goes, birth 2 never has a record, and birth 3 gets the room of birth 0.
+/// Birth 0 goes, birth 2 never has a record, and birth 3 is written over the record of birth 0.
 fn another_comes(held: &mut Held<u32>) -> bool {
     let goes = remove(held, 0) == Some(10) && is_gone(held, 0) && held.room() == 1;
     let skips = skip(held) == Some(2) && is_gone(held, 2) && held.room() == 1;
-    let comes = push(held, 40) == Some(3) && held.room() == 0 && held.born() == 4;
+    let comes = reuse(held, 40) == Some(3) && held.room() == 0 && held.born() == 4;
     goes && skips && comes
 }
 

@@ -19,14 +19,14 @@ use Rattle.sts_store.specs.Stored.{IsStore}
 use Rattle.sts_store.proofs.Views.{same_frame, with_running}
 use Rattle.sts_store.proofs.Writing.{living, has_frame}
 use Rattle.sts_store.proofs.Seeing.{scope_stands}
-use Rattle.sts_store.proofs.Forks.{tasks_born, born_if, still_there, fork_kept, fork_live, fork_unseen}
+use Rattle.sts_store.proofs.Forks.{tasks_born, begun, born_if, still_there, fork_kept, fork_live, fork_unseen}
 use Rattle.sts_store.proofs.store.Store.fork.Goals as goal
 
 pub record-forker-requires : goal.record-forker-requires
 record-forker-requires c = has_frame (living (the_view c.self.inside) c.args.self.now c.self.invariant c.self.view_is c.args.t c.requires.lives)
 
-pub entry_frame-frame-requires-clause-enough : goal.entry_frame-frame-requires-clause-enough
-entry_frame-frame-requires-clause-enough c =
+pub entry_frame-entry-requires-clause-enough : goal.entry_frame-entry-requires-clause-enough
+entry_frame-entry-requires-clause-enough c =
     let m = the_view c.self.inside in
     let l = living m c.args.self.now c.self.invariant c.self.view_is c.args.t c.requires.lives in
     let run : c.record-forker.result.now ≡ l.run = same_Some _ _ (sym c.record-forker.ensures ∙ l.runs) in
@@ -55,7 +55,7 @@ leave_fork-requires c =
     let m = the_view c.self.inside in
     let l = living m c.args.self.now c.self.invariant c.self.view_is c.args.t c.requires.lives in
     let p = scope_stands m c.args.s (subst (λ n. is_some (scope_in (live_of n) c.args.s) ≡ true) (sym c.self.view_is) c.requires.stands) in
-    let child : Running = record { frame = c.entry_frame-frame.result; env = c.env-env.result.now } in
+    let child : Running = begun c.args.function c.entry_frame-entry.result.locals (Lent c.args.s) c.env-env.result.now in
     let slots = c.place.ensures.slots ∙ ap (λ b. m.frames.slots ++ born_if b child ∷ []) (c.add_subtask-child.ensures.lives p.0 p.1) in
     let there = still_there m c.self.invariant (subst (λ n. InOrder (live_of n)) (sym c.self.view_is) c.requires.order) c.args.t c.args.s p.0 p.1 child c.add_subtask-child.new.self.task_keys (m.tree.task_room - 1) c.place.new.frames slots l c.add_subtask-child.new.self (c.add_subtask-child.ensures.added p.0 p.1) in
     let run : c.at.result.now ≡ l.run = same_Some c.at.result.now l.run (sym c.at.ensures.value ∙ there) in
@@ -77,12 +77,12 @@ invariant_of-self c =
     let l = living m now c.self.invariant c.self.view_is t c.requires.lives in
     let p = scope_stands m s (subst (λ n. is_some (scope_in (live_of n) s) ≡ true) (sym c.self.view_is) c.requires.stands) in
     let order = subst (λ n. InOrder (live_of n)) (sym c.self.view_is) c.requires.order in
-    let child : Running = record { frame = c.entry_frame-frame.result; env = c.env-env.result.now } in
+    let child : Running = begun c.args.function c.entry_frame-entry.result.locals (Lent c.args.s) c.env-env.result.now in
     let slots = c.place.ensures.slots ∙ ap (λ b. m.frames.slots ++ born_if b child ∷ []) (c.add_subtask-child.ensures.lives p.0 p.1) in
     let same = c.add_subtask-child.ensures.added p.0 p.1 in
     let there = still_there m c.self.invariant order t s p.0 p.1 child g.task_keys (m.tree.task_room - 1) h slots l g same in
     let run : c.at.result.now ≡ l.run = same_Some c.at.result.now l.run (sym c.at.ensures.value ∙ there) in
-    let entries : child.frame.entries ≡ [] = ap (λ (f : Frame). f.entries) c.entry_frame-frame.ensures in
+    let entries : child.frame.entries ≡ [] = refl in
     let kept : c.leave_fork.new.frame.entries ≡ l.run.frame.entries = ap (λ (f : Frame). f.entries) c.leave_fork.ensures ∙ ap (λ (z : Running). z.frame.entries) run in
     subst (λ (z : Running). IsStore (with_running (record m { tree = g; frames = h }) t (record z { frame = c.leave_fork.new.frame }) m.chains)) (sym run)
     (fork_kept m c.self.invariant order t s p.0 p.1 child g.task_keys (m.tree.task_room - 1) h slots l g same c.leave_fork.new.frame (c.env-env.ensures p.0 p.1) entries kept)
@@ -98,7 +98,7 @@ returns-clause-live c =
     let l = living m now c.self.invariant c.self.view_is t c.requires.lives in
     let p = scope_stands m s (subst (λ n. is_some (scope_in (live_of n) s) ≡ true) (sym c.self.view_is) c.requires.stands) in
     let order = subst (λ n. InOrder (live_of n)) (sym c.self.view_is) c.requires.order in
-    let child : Running = record { frame = c.entry_frame-frame.result; env = c.env-env.result.now } in
+    let child : Running = begun c.args.function c.entry_frame-entry.result.locals (Lent c.args.s) c.env-env.result.now in
     let slots = c.place.ensures.slots ∙ ap (λ b. m.frames.slots ++ born_if b child ∷ []) (c.add_subtask-child.ensures.lives p.0 p.1) in
     let same = c.add_subtask-child.ensures.added p.0 p.1 in
     let there = still_there m c.self.invariant order t s p.0 p.1 child g.task_keys (m.tree.task_room - 1) h slots l g same in
@@ -106,7 +106,7 @@ returns-clause-live c =
     let program = c.args.program.now in
     let first : c.record-forker.result.now ≡ l.run = same_Some _ _ (sym c.record-forker.ensures ∙ l.runs) in
     let begins : child.frame ≡ entry_frame c.args.function (reverse (take (routine program c.args.function).args l.run.frame.operands)) (Lent s) =
-    c.entry_frame-frame.ensures
+    ap (λ (f : Frame). record (entry_frame c.args.function [] (Lent s)) { locals = f.locals }) c.entry_frame-entry.ensures
     ∙ ap (λ a. entry_frame c.args.function (reverse (take a c.record-forker.result.now.frame.operands)) (Lent s)) c.args-args.ensures.value
     ∙ ap (λ (z : Running). entry_frame c.args.function (reverse (take (routine program c.args.function).args z.frame.operands)) (Lent s)) first
     in
@@ -132,7 +132,7 @@ returns-clause-unseen c =
     let l = living m now c.self.invariant c.self.view_is t c.requires.lives in
     let p = scope_stands m s (subst (λ n. is_some (scope_in (live_of n) s) ≡ true) (sym c.self.view_is) c.requires.stands) in
     let order = subst (λ n. InOrder (live_of n)) (sym c.self.view_is) c.requires.order in
-    let child : Running = record { frame = c.entry_frame-frame.result; env = c.env-env.result.now } in
+    let child : Running = begun c.args.function c.entry_frame-entry.result.locals (Lent c.args.s) c.env-env.result.now in
     let slots = c.place.ensures.slots ∙ ap (λ b. m.frames.slots ++ born_if b child ∷ []) (c.add_subtask-child.ensures.lives p.0 p.1) in
     let same = c.add_subtask-child.ensures.added p.0 p.1 in
     let there = still_there m c.self.invariant order t s p.0 p.1 child g.task_keys (m.tree.task_room - 1) h slots l g same in
@@ -171,7 +171,7 @@ at-requires c = λ none.
     let m = the_view c.self.inside in
     let p = scope_stands m c.args.s (subst (λ n. is_some (scope_in (live_of n) c.args.s) ≡ true) (sym c.self.view_is) c.requires.stands) in
     let l = living m c.args.self.now c.self.invariant c.self.view_is c.args.t c.requires.lives in
-    let child : Running = record { frame = c.entry_frame-frame.result; env = c.env-env.result.now } in
+    let child : Running = begun c.args.function c.entry_frame-entry.result.locals (Lent c.args.s) c.env-env.result.now in
     let slots = c.place.ensures.slots ∙ ap (λ b. m.frames.slots ++ born_if b child ∷ []) (c.add_subtask-child.ensures.lives p.0 p.1) in
     let there = still_there m c.self.invariant (subst (λ n. InOrder (live_of n)) (sym c.self.view_is) c.requires.order) c.args.t c.args.s p.0 p.1 child c.add_subtask-child.new.self.task_keys (m.tree.task_room - 1) c.place.new.frames slots l c.add_subtask-child.new.self (c.add_subtask-child.ensures.added p.0 p.1) in
     let never = sym there ∙ none in
