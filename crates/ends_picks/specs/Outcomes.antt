@@ -1,4 +1,4 @@
--- What a pick comes to: how many ends count towards a cancel, the tallies that were asked for, and
+-- The result of a pick: how many ends count towards a cancel, the tallies that were asked for, and
 -- the sum (this project's own).
 use Rattle.std.specs.Prelude.{ℕ, ◌+◌, ℤ, pos, List, Bool, true, Option, Some, None}
 use Rattle.std.specs.Prelude.{is_some, nat_le, ◌&&◌, if◌then◌else◌}

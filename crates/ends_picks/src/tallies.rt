@@ -53,7 +53,7 @@ fn kind_of(succeeds: bool) -> Kind
     if succeeds { Kind::S } else { Kind::F }
 }
 
-/// How many subtasks succeeded, or failed. Only so many of their ends count as may count.
+/// How many subtasks succeeded, or failed. No more of their ends count than may count.
 fn ended(seen: &Seen, succeeds: bool) -> Range
     ensures { (pick : List (Option End)) → Fits seen.now pick
         → IsIn result (count_by (groups.is_in seen.now.joiner (Of (groups.kind_of succeeds))) pick) }
@@ -116,7 +116,7 @@ fn is_asked(asked: Asked) -> bool {
     asked.successes.is_some() || asked.failures.is_some() || asked.unavailable.is_some()
 }
 
-/// May the subtasks have come to the tallies that the owner was told? No if the answer is false.
+/// May the subtasks have come to the tallies that the owner has read? No if the answer is false.
 pub fn tallies_fit(seen: &Seen) -> bool
     ensures { (pick : List (Option End)) → Fits seen.now pick → result ≡ true }
 {

@@ -16,7 +16,7 @@ use laws_calls::table::{Own, Seen};
 use std::alloc::{AllocError, Global};
 use sts_same::copied::Copied;
 
-/// The scope, whose owner was told the sum of this outcome.
+/// The scope after its owner has read the sum of this outcome.
 fn told(alloc: Global, seen: &Seen, outcome: Outcome) -> Result<Seen, AllocError>
     ensures { IfOk result (λ x. x ≡ def.summed outcome.total seen.now) }
 {

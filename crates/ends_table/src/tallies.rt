@@ -17,7 +17,7 @@ use std::alloc::{AllocError, Global};
 use sts_code::Kind;
 use sts_same::copied::Copied;
 
-/// The scope, whose owner was told this number.
+/// The scope after its owner has read this number.
 fn told(alloc: Global, seen: &Seen, kind: Kind, count: u32) -> Result<Seen, AllocError>
     ensures { IfOk result (λ x. x ≡ def.counted kind count seen.now) }
 {
