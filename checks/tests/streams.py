@@ -65,9 +65,13 @@ RUN_OF_SUM = (
 ENDS_OF_SUM = ("1 after 24 events: success 50\n83 states, all schedules\n", 0)
 REFUSED = ("func main 0\nx:\njmp x\nend\n", ("refused V4 in main at 0: jmp L0\n", 4))
 FAULTY = ("func main 0\npuhs 7\nret\nend\n", ("error A2 line 2\n", 3))
-# a text with more states than any search finds in a few seconds: ten subtasks of three steps. No table of calls has `total`
-MANY_STATES = "func kid 0\npush 1\ninterrupted\nadd\nret\nend\nfunc main 0\nopen s0 all\n" + "fork s0 kid _\n" * 10 + (
-    "join s0 bad - intr\npop\ntotal s0\nclose s0\nret\nbad:\nclose s0\nfail\nintr:\npush 0\nclose s0\nfail\nend\n"
+# a text with more states than any search finds in a few seconds: ten subtasks of three steps. The loop gives
+# `main` more states than a row of a table of calls may have
+MANY_STATES = "func kid 0\npush 1\ninterrupted\nadd\nret\nend\nfunc main 0\npush 10000\ntimes 10000\n" + (
+    "push 0\npop\n" * 5
+    + "next\nopen s0 all\n"
+    + "fork s0 kid _\n" * 10
+    + "join s0 bad - intr\npop\ntotal s0\nclose s0\nret\nbad:\nclose s0\nfail\nintr:\npush 0\nclose s0\nfail\nend\n"
 )
 
 
