@@ -19,8 +19,8 @@ use Rattle.laws_calls.specs.Covers.{AreWithin}
 use Rattle.laws_calls.specs.Covers as covers
 use Rattle.laws_calls.specs.Covered.{EndsAreWays}
 use Rattle.laws_calls.specs.declared.table.Way.{Way}
+use Rattle.ends_picks.proofs.ListLemmas.{all_ways}
 use Rattle.ends_table.specs.Led.{IsClosed}
-use Rattle.ends_table.proofs.PlaceLemmas.{all_ways}
 use Rattle.ends_plain.specs.Ends.{AreAll, is_end, is_interrupt}
 use Rattle.ends_plain.specs.Listed.{ends_of}
 use Rattle.ends_plain.specs.declared.config.Found.{Found}
