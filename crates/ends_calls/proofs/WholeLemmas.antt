@@ -1,5 +1,5 @@
 -- A closed table has each end of an accepted program.
-use Rattle.std.proofs.Common.{◌≡◌, ℕ, ◌≤◌, List, [], ◌∷◌, Bool, true, Option, Some, None, refl, sym, subst, arith, cond, length, get_or}
+use Rattle.std.proofs.Common.{◌≡◌, ℕ, inr, List, [], ◌∷◌, Bool, true, Option, Some, None, refl, sym, subst, arith, cond, length, get_or}
 use Rattle.std.specs.Prelude.{count_by, nat_lt}
 use Rattle.std.specs.List.{All, Contains}
 use Rattle.std.proofs.lemmas.List.Sums.{sum_by-cons}
@@ -12,6 +12,7 @@ use Rattle.sts_plain.specs.Seen.{shown, ended_or_running}
 use Rattle.sts_plain.specs.declared.misstep.PlainState.{PlainState}
 use Rattle.sts_plain.specs.declared.misstep.PlainState.TheVariants as plain
 use Rattle.laws_runs.specs.Runs.{In, NeverFaults}
+use Rattle.laws_calls.specs.Outside.{Outside, only_interrupts}
 use Rattle.laws_calls.specs.Tasks.{HasWay}
 use Rattle.laws_calls.specs.Steps.{Table, IsTable}
 use Rattle.laws_calls.specs.declared.table.Row.{Row}
@@ -41,7 +42,7 @@ same_interrupts (e ∷ es) =
     one (event.Interrupt t) = refl
     one (event.Expire s) = refl
 
-module _ (law : EndsAreWays) (p : Program) (interrupts : ℕ) (t : Table) (root : Row) (is : IsTable p interrupts t root) (never : NeverFaults p) (ends : List PlainState) (has : (e : End) → HasWay root.ways e → Contains ends (plain.Ended e)) where
+module _ (law : EndsAreWays) (p : Program) (interrupts : ℕ) (t : Table) (root : Row) (is : IsTable p (only_interrupts interrupts) t root) (never : NeverFaults p) (ends : List PlainState) (has : (e : End) → HasWay root.ways e → Contains ends (plain.Ended e)) where
   of : (o : Option End) → ((e : End) → o ≡ Some e → HasWay root.ways e) → (end : PlainState) → ended_or_running o ≡ end → is_end end ≡ true → Contains ends end
   of None ways end same ends_so = let e : is_end plain.Running ≡ true = subst (λ x. is_end x ≡ true) (sym same) ends_so in cc
   of (Some e) ways end same ends_so = subst (λ x. Contains ends x) same (has e (ways e refl))
@@ -49,22 +50,22 @@ module _ (law : EndsAreWays) (p : Program) (interrupts : ℕ) (t : Table) (root 
   pub whole : (may_expire : Bool) → AreAll p may_expire interrupts ends
   whole may_expire events end it =
       let same = same_interrupts events in
-      let within : AreWithin interrupts events = omega (arith, it.allowed.interrupts, same) in
+      let within : AreWithin (only_interrupts interrupts) events = inr (omega (arith, it.allowed.interrupts, same)) in
       let run = never events in
       let w : World = run.0 in
       of (task_at w 0).outcome
-      (λ e. subst (λ (s : State). In (λ v. (task_at v 0).outcome ≡ Some e → HasWay root.ways e) s) run.1 (law p interrupts t root is events within e))
+      (λ e. subst (λ (s : State). In (λ v. (task_at v 0).outcome ≡ Some e → HasWay root.ways e) s) run.1 (law p (only_interrupts interrupts) t root is events within e))
       end
       (subst (λ (s : State). shown s ≡ end) run.1 it.comes)
       it.ends
 
 -- the first row of a closed table
-first_row : (p : Program) (interrupts : ℕ) (t : Table) (root : Row) → IsClosed p interrupts t → true ≡ nat_lt 0 (length t) → root ≡ get_or t 0 root → IsTable p interrupts t root
-first_row p interrupts [] root closed some at = absurd (cc)
-first_row p interrupts (first ∷ rows) root closed some at = subst (λ (r : Row). IsTable p interrupts (first ∷ rows) r) (sym at) closed
+first_row : (p : Program) (outside : Outside) (t : Table) (root : Row) → IsClosed p outside t → true ≡ nat_lt 0 (length t) → root ≡ get_or t 0 root → IsTable p outside t root
+first_row p outside [] root closed some at = absurd (cc)
+first_row p outside (first ∷ rows) root closed some at = subst (λ (r : Row). IsTable p outside (first ∷ rows) r) (sym at) closed
 
 -- the ends of the ways of a closed table's first row are all ends
-pub are_all : EndsAreWays → (g : Setting) (t : Table) (root : Row) (ways : List Way) (found : List Found) → IsClosed g.program g.interrupts t → true ≡ nat_lt 0 (length t) → root ≡ get_or t 0 root → ways ≡ root.ways → All (λ (way : Way). Contains (ends_of found) (plain.Ended way.end)) ways → NeverFaults g.program → AreAllOf g found
+pub are_all : EndsAreWays → (g : Setting) (t : Table) (root : Row) (ways : List Way) (found : List Found) → IsClosed g.program (only_interrupts g.interrupts) t → true ≡ nat_lt 0 (length t) → root ≡ get_or t 0 root → ways ≡ root.ways → All (λ (way : Way). Contains (ends_of found) (plain.Ended way.end)) ways → NeverFaults g.program → AreAllOf g found
 are_all law g t root ways found closed some at same have never =
     let has = λ (e : End) (way : HasWay root.ways e). all_ways (λ (d : End). Contains (ends_of found) (plain.Ended d)) ways e have (subst (λ (ws : List Way). HasWay ws e) (sym same) way) in
-    whole law g.program g.interrupts t root (first_row g.program g.interrupts t root closed some at) never (ends_of found) has g.expiries
+    whole law g.program g.interrupts t root (first_row g.program (only_interrupts g.interrupts) t root closed some at) never (ends_of found) has g.expiries

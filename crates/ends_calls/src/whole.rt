@@ -10,7 +10,7 @@ ghost use Rattle.sts_plain.specs.declared.misstep.PlainState.TheVariants as plai
 use ends_plain::config::{Found, Setting};
 use ends_table::closing::closed_table;
 use laws_calls::ends_are_ways;
-use laws_calls::table::Way;
+use laws_calls::table::{Outside, Way};
 use std::alloc::{AllocError, Global};
 use sts_plain::PlainState;
 
@@ -53,7 +53,11 @@ pub fn are_whole(
     ensures { IfOk result (λ yes. AreWhole yes setting.now found.now) }
 {
     ends_are_ways();
-    let Some(rows) = closed_table(alloc, &setting.program, setting.interrupts, most)? else {
+    let outside = Outside {
+        interrupts: setting.interrupts,
+        cancels: false,
+    };
+    let Some(rows) = closed_table(alloc, &setting.program, outside, most)? else {
         return Ok(false);
     };
     match rows.as_slice().get(0) {

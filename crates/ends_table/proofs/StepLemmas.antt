@@ -16,6 +16,7 @@ use Rattle.sts_model.specs.World.{code}
 use Rattle.sts_model.specs.Local.{is_local, local, operand, steps, truth}
 use Rattle.sts_model.specs.Environment.{read}
 use Rattle.laws_calls.specs.declared.table.Held.TheVariants as held
+use Rattle.laws_calls.specs.Outside.{Outside, may_flag}
 use Rattle.laws_calls.specs.Tasks.{at_place, held_at, bindings}
 use Rattle.laws_calls.specs.declared.table.Call.{Call}
 use Rattle.laws_calls.specs.declared.table.Own.{Own}
@@ -24,7 +25,7 @@ use Rattle.laws_calls.specs.declared.table.Part.{Part}
 use Rattle.laws_calls.specs.Steps.{Table, Leads, Owns, Knows, to, pushes, opened, closed}
 use Rattle.laws_calls.specs.Steps.{local_step, read_step, bound_step, or_else_step, bind_step}
 use Rattle.laws_calls.specs.Steps.{unbind_step, forget_step, calm_step, interrupted_step, lent_step}
-use Rattle.laws_calls.specs.Steps.{going_step, cancelled_step, expired_step, open_step}
+use Rattle.laws_calls.specs.Steps.{lent_cancelled_step, going_step, cancelled_step, expired_step, open_step}
 use Rattle.laws_calls.specs.Steps.{unstarted_step, close_step, attempted_step, timeout_step}
 use Rattle.laws_calls.specs.Steps.{by_one_step, by_count_step, heard_step, none_step, success_step}
 use Rattle.laws_calls.specs.Steps.{failure_step, missed_step, get_step, except_step}
@@ -34,7 +35,7 @@ use Rattle.laws_calls.specs.Steps.{with_seen, after_cancel, after_expiry}
 use Rattle.ends_table.specs.Answered.{TalliesLead, TotalsLead}
 use Rattle.ends_table.specs.Led.{AllLead, LooksLead, AttemptLeads, JoinsLead, CasesLead, ReadsLead, ForkLeads}
 
-module _ (p : Program) (interrupts : ℕ) (c : Call) (states : List Own) (own : Own) where
+module _ (p : Program) (outside : Outside) (c : Call) (states : List Own) (own : Own) where
   -- ---- what a slot holds
 
   -- a slot holds one scope
@@ -63,7 +64,7 @@ module _ (p : Program) (interrupts : ℕ) (c : Call) (states : List Own) (own : 
 
   -- ---- the frame alone
 
-  pub local_leads : (i : Instr) → is_local i ≡ true → Leads states (to own (local (code p own.frame) i own.frame)) → AllLead p interrupts c states own i
+  pub local_leads : (i : Instr) → is_local i ≡ true → Leads states (to own (local (code p own.frame) i own.frame)) → AllLead p outside c states own i
   local_leads i e h next (local_step same) = h
   local_leads i e h next read_step = cc
   local_leads i e h next bound_step = cc
@@ -74,6 +75,7 @@ module _ (p : Program) (interrupts : ℕ) (c : Call) (states : List Own) (own : 
   local_leads i e h next calm_step = cc
   local_leads i e h next (interrupted_step may) = cc
   local_leads i e h next (lent_step holds) = cc
+  local_leads i e h next (lent_cancelled_step holds may) = cc
   local_leads i e h next (going_step place seen pick o free fits less) = cc
   local_leads i e h next (cancelled_step place seen o may) = cc
   local_leads i e h next (expired_step place seen o may timed) = cc
@@ -94,73 +96,75 @@ module _ (p : Program) (interrupts : ℕ) (c : Call) (states : List Own) (own : 
   local_leads i e h next (tally_step place seen pick o fits) = cc
   local_leads i e h next (total_step place seen pick o fits) = cc
 
-  pub read_leads : (k : ℕ) → Leads states (pushes own 0 (unwrap_or (read (bindings c own) k) (pos 0))) → AllLead p interrupts c states own (Read k)
+  pub read_leads : (k : ℕ) → Leads states (pushes own 0 (unwrap_or (read (bindings c own) k) (pos 0))) → AllLead p outside c states own (Read k)
   read_leads k h next (local_step e) = cc
   read_leads k h next read_step = h
 
-  pub bound_leads : (k : ℕ) → Leads states (pushes own 0 (truth (is_some (read (bindings c own) k)))) → AllLead p interrupts c states own (Bound k)
+  pub bound_leads : (k : ℕ) → Leads states (pushes own 0 (truth (is_some (read (bindings c own) k)))) → AllLead p outside c states own (Bound k)
   bound_leads k h next (local_step e) = cc
   bound_leads k h next bound_step = h
 
-  pub or_else_leads : (k : ℕ) → Leads states (pushes own 1 (unwrap_or (read (bindings c own) k) (operand own.frame 0))) → AllLead p interrupts c states own (OrElse k)
+  pub or_else_leads : (k : ℕ) → Leads states (pushes own 1 (unwrap_or (read (bindings c own) k) (operand own.frame 0))) → AllLead p outside c states own (OrElse k)
   or_else_leads k h next (local_step e) = cc
   or_else_leads k h next or_else_step = h
 
-  pub bind_leads : (k : ℕ) → Leads states (to own (record (steps own.frame 1 []) { entries = entry.Binding k (operand own.frame 0) ∷ own.frame.entries })) → AllLead p interrupts c states own (Bind k)
+  pub bind_leads : (k : ℕ) → Leads states (to own (record (steps own.frame 1 []) { entries = entry.Binding k (operand own.frame 0) ∷ own.frame.entries })) → AllLead p outside c states own (Bind k)
   bind_leads k h next (local_step e) = cc
   bind_leads k h next bind_step = h
 
-  pub unbind_leads : Leads states (to own (record (steps own.frame 0 []) { entries = drop 1 own.frame.entries })) → AllLead p interrupts c states own Unbind
+  pub unbind_leads : Leads states (to own (record (steps own.frame 0 []) { entries = drop 1 own.frame.entries })) → AllLead p outside c states own Unbind
   unbind_leads h next (local_step e) = cc
   unbind_leads h next unbind_step = h
 
-  pub forget_leads : (x : ℕ) → Leads states (record own { frame = steps own.frame 0 []; held = slice_set own.held x held.Empty }) → AllLead p interrupts c states own (Forget x)
+  pub forget_leads : (x : ℕ) → Leads states (record own { frame = steps own.frame 0 []; held = slice_set own.held x held.Empty }) → AllLead p outside c states own (Forget x)
   forget_leads x h next (local_step e) = cc
   forget_leads x h next forget_step = h
 
-  pub interrupted_leads : Leads states (pushes own 0 (truth false)) → (0 < interrupts → Leads states (pushes own 0 (truth true))) → AllLead p interrupts c states own Interrupted
+  pub interrupted_leads : Leads states (pushes own 0 (truth false)) → (may_flag outside ≡ true → Leads states (pushes own 0 (truth true))) → AllLead p outside c states own Interrupted
   interrupted_leads h k next (local_step e) = cc
   interrupted_leads h k next calm_step = h
   interrupted_leads h k next (interrupted_step may) = k may
 
-  pub ret_leads : AllLead p interrupts c states own Ret
+  pub ret_leads : AllLead p outside c states own Ret
   ret_leads next (local_step e) = cc
 
-  pub fail_leads : AllLead p interrupts c states own Fail
+  pub fail_leads : AllLead p outside c states own Fail
   fail_leads next (local_step e) = cc
 
   -- ---- scopes
 
-  pub open_leads : (x : ℕ) (joiner : Joiner) (timed : Bool) → Leads states (opened c own x joiner timed) → AllLead p interrupts c states own (Open x joiner timed)
+  pub open_leads : (x : ℕ) (joiner : Joiner) (timed : Bool) → Leads states (opened c own x joiner timed) → AllLead p outside c states own (Open x joiner timed)
   open_leads x joiner timed h next (local_step e) = cc
   open_leads x joiner timed h next open_step = h
 
-  pub close_leads : (x : ℕ) → Leads states (closed own) → AllLead p interrupts c states own (Close x)
+  pub close_leads : (x : ℕ) → Leads states (closed own) → AllLead p outside c states own (Close x)
   close_leads x h next (local_step e) = cc
   close_leads x h next close_step = h
 
-  pub fork_leads : (t : Table) (x g : ℕ) (q : Option ℕ) → ((place : ℕ) (seen : Seen) → Owns own x place seen → ForkLeads p t states own x g q place seen) → AllLead p interrupts c states own (Fork x g q)
+  pub fork_leads : (t : Table) (x g : ℕ) (q : Option ℕ) → ((place : ℕ) (seen : Seen) → Owns own x place seen → ForkLeads p t states own x g q place seen) → AllLead p outside c states own (Fork x g q)
   fork_leads t x g q h next (local_step e) = cc
   fork_leads t x g q h next (unstarted_step place seen o gone) = (h place seen o).unstarted gone
 
   not_lent : (x place : ℕ) (seen : Seen) → held_at own x ≡ held.Lent → Owns own x place seen → ⊥
   not_lent x place seen holds o = let e : held.Lent ≡ held.Own place = sym holds ∙ o.holds in cc
 
-  pub lent_leads : (x : ℕ) → held_at own x ≡ held.Lent → Leads states (pushes own 0 (truth false)) → AllLead p interrupts c states own (Cancelled x)
-  lent_leads x holds h next (local_step e) = cc
-  lent_leads x holds h next (lent_step again) = h
-  lent_leads x holds h next (going_step place seen pick o free fits less) = h
-  lent_leads x holds h next (cancelled_step place seen o may) = absurd (not_lent x place seen holds o)
-  lent_leads x holds h next (expired_step place seen o may timed) = absurd (not_lent x place seen holds o)
+  pub lent_leads : (x : ℕ) → held_at own x ≡ held.Lent → Leads states (pushes own 0 (truth false)) → (outside.cancels ≡ true → Leads states (pushes own 0 (truth true))) → AllLead p outside c states own (Cancelled x)
+  lent_leads x holds h k next (local_step e) = cc
+  lent_leads x holds h k next (lent_step again) = h
+  lent_leads x holds h k next (lent_cancelled_step again may) = k may
+  lent_leads x holds h k next (going_step place seen pick o free fits less) = h
+  lent_leads x holds h k next (cancelled_step place seen o may) = absurd (not_lent x place seen holds o)
+  lent_leads x holds h k next (expired_step place seen o may timed) = absurd (not_lent x place seen holds o)
 
-  pub looks_lead : (x place : ℕ) (seen : Seen) → Owns own x place seen → LooksLead states own place seen → AllLead p interrupts c states own (Cancelled x)
+  pub looks_lead : (x place : ℕ) (seen : Seen) → Owns own x place seen → LooksLead states own place seen → AllLead p outside c states own (Cancelled x)
   looks_lead x place seen o h next (local_step e) = cc
   looks_lead x place seen o h next (lent_step holds) = absurd (not_lent x place seen holds o)
+  looks_lead x place seen o h next (lent_cancelled_step holds may) = absurd (not_lent x place seen holds o)
   looks_lead x place seen o h next (going_step place2 seen2 pick q free fits less) = owned (λ a s. is_cancelled s.knowledge ≡ false → Leads states (pushes own 0 (truth false))) x place place2 seen seen2 o q h.going free
   looks_lead x place seen o h next (cancelled_step place2 seen2 q may) = owned (λ a s. may_decide s.knowledge ≡ true → Leads states (pushes (with_seen own a (after_cancel s)) 0 (truth true))) x place place2 seen seen2 o q h.cancelled may
   looks_lead x place seen o h next (expired_step place2 seen2 q may timed) = owned (λ a s. may_be_late s.knowledge ≡ true → s.timed ≡ true → Leads states (pushes (with_seen own a (after_expiry s)) 0 (truth true))) x place place2 seen seen2 o q h.expired may timed
 
-  pub joins_lead : (x to_i : ℕ) (failed timeout : Option ℕ) (place : ℕ) (seen : Seen) → Owns own x place seen → JoinsLead states own place seen (unwrap_or failed 0) (unwrap_or timeout 0) → (0 < interrupts → AttemptLeads states own place seen to_i) → AllLead p interrupts c states own (Join x failed timeout to_i)
+  pub joins_lead : (x to_i : ℕ) (failed timeout : Option ℕ) (place : ℕ) (seen : Seen) → Owns own x place seen → JoinsLead states own place seen (unwrap_or failed 0) (unwrap_or timeout 0) → (may_flag outside ≡ true → AttemptLeads states own place seen to_i) → AllLead p outside c states own (Join x failed timeout to_i)
   joins_lead x to_i failed timeout place seen o h k next (local_step e) = cc
   joins_lead x to_i failed timeout place seen o h k next (attempted_step place2 seen2 may q unseen some) =
       owned (λ a s. AttemptLeads states own a s to_i) x place place2 seen seen2 o q (k may) unseen some
@@ -177,7 +181,7 @@ module _ (p : Program) (interrupts : ℕ) (c : Call) (states : List Own) (own : 
 
   -- ---- subtasks
 
-  pub cases_lead : (x good bad place : ℕ) (seen : Seen) (i : ℕ) (part : Part) → Knows own x place seen i part → CasesLead states own place seen i part good bad → AllLead p interrupts c states own (Case x good bad)
+  pub cases_lead : (x good bad place : ℕ) (seen : Seen) (i : ℕ) (part : Part) → Knows own x place seen i part → CasesLead states own place seen i part good bad → AllLead p outside c states own (Case x good bad)
   cases_lead x good bad place seen i part o h next (local_step e) = cc
   cases_lead x good bad place seen i part o h next (success_step place2 seen2 j part2 counting q) =
       (knows (λ a s k y. CasesLead states own a s k y good bad) x place place2 seen seen2 i j part part2 o q h).success counting
@@ -186,24 +190,24 @@ module _ (p : Program) (interrupts : ℕ) (c : Call) (states : List Own) (own : 
   cases_lead x good bad place seen i part o h next (missed_step place2 seen2 j part2 q may) =
       (knows (λ a s k y. CasesLead states own a s k y good bad) x place place2 seen seen2 i j part part2 o q h).unended may
 
-  pub get_leads : (x place : ℕ) (seen : Seen) (i : ℕ) (part : Part) → Knows own x place seen i part → ReadsLead states own place seen i part true → AllLead p interrupts c states own (Get x)
+  pub get_leads : (x place : ℕ) (seen : Seen) (i : ℕ) (part : Part) → Knows own x place seen i part → ReadsLead states own place seen i part true → AllLead p outside c states own (Get x)
   get_leads x place seen i part o h next (local_step e) = cc
   get_leads x place seen i part o h next (get_step place2 seen2 j part2 v q way) =
       knows (λ a s k y. ReadsLead states own a s k y true) x place place2 seen seen2 i j part part2 o q h (Success v) way refl
 
-  pub except_leads : (x place : ℕ) (seen : Seen) (i : ℕ) (part : Part) → Knows own x place seen i part → ReadsLead states own place seen i part false → AllLead p interrupts c states own (Except x)
+  pub except_leads : (x place : ℕ) (seen : Seen) (i : ℕ) (part : Part) → Knows own x place seen i part → ReadsLead states own place seen i part false → AllLead p outside c states own (Except x)
   except_leads x place seen i part o h next (local_step e) = cc
   except_leads x place seen i part o h next (except_step place2 seen2 j part2 v q way) =
       knows (λ a s k y. ReadsLead states own a s k y false) x place place2 seen seen2 i j part part2 o q h (Failed v) way refl
 
   -- ---- answers
 
-  pub tallies_lead : (x place : ℕ) (kind : Kind) (seen : Seen) → Owns own x place seen → TalliesLead states own place seen kind → AllLead p interrupts c states own (Tally x kind)
+  pub tallies_lead : (x place : ℕ) (kind : Kind) (seen : Seen) → Owns own x place seen → TalliesLead states own place seen kind → AllLead p outside c states own (Tally x kind)
   tallies_lead x place kind seen o h next (local_step e) = cc
   tallies_lead x place kind seen o h next (tally_step place2 seen2 pick q fits) =
       (owned (λ a s. TalliesLead states own a s kind) x place place2 seen seen2 o q h) pick fits
 
-  pub totals_lead : (x place : ℕ) (seen : Seen) → Owns own x place seen → TotalsLead states own place seen → AllLead p interrupts c states own (Total x)
+  pub totals_lead : (x place : ℕ) (seen : Seen) → Owns own x place seen → TotalsLead states own place seen → AllLead p outside c states own (Total x)
   totals_lead x place seen o h next (local_step e) = cc
   totals_lead x place seen o h next (total_step place2 seen2 pick q fits) =
       (owned (λ a s. TotalsLead states own a s) x place place2 seen seen2 o q h) pick fits

@@ -2,6 +2,7 @@
 use Rattle.std.proofs.Common.{◌≡◌, ℕ, [], ◌∷◌, get_or, inl, subst, refl}
 use Rattle.std.specs.Prelude.{All}
 use Rattle.sts_code.specs.Program.{Program}
+use Rattle.laws_calls.specs.Outside.{Outside}
 use Rattle.laws_calls.specs.Tasks.{Among}
 use Rattle.laws_calls.specs.declared.table.Own.{Own}
 use Rattle.laws_calls.specs.Steps.{Table, IsTable}
@@ -9,10 +10,10 @@ use Rattle.laws_calls.specs.declared.table.Row.{Row}
 use Rattle.ends_table.specs.Led.{IsLedAt, IsLedRow, IsRoot, IsClosed}
 use Rattle.ends_picks.proofs.ListLemmas.{all_among}
 
-pub is_table : (p : Program) (interrupts : ℕ) (t : Table) (root : Row) → Among t root → IsRoot p root → All (IsLedRow p interrupts t) t → IsTable p interrupts t root
-is_table p interrupts t root there is all =
-    let at : (row : Row) (own : Own) → Among t row → Among row.states own → IsLedAt p interrupts t row own =
-    λ row own a b. all_among (IsLedAt p interrupts t row) row.states own (all_among (IsLedRow p interrupts t) t row all a) b in
+pub is_table : (p : Program) (outside : Outside) (t : Table) (root : Row) → Among t root → IsRoot p root → All (IsLedRow p outside t) t → IsTable p outside t root
+is_table p outside t root there is all =
+    let at : (row : Row) (own : Own) → Among t row → Among row.states own → IsLedAt p outside t row own =
+    λ row own a b. all_among (IsLedAt p outside t row) row.states own (all_among (IsLedRow p outside t) t row all a) b in
     record {
       listed = there;
       call = is.call;
@@ -22,6 +23,6 @@ is_table p interrupts t root there is all =
       ends = λ row own i e a b is2 ends. (at row own a b i is2).ends e ends;
     }
 
-pub is_closed : (p : Program) (interrupts : ℕ) (t : Table) (root : Row) → root ≡ get_or t 0 root → IsRoot p root → All (IsLedRow p interrupts t) t → IsClosed p interrupts t
-is_closed p interrupts [] root at is all = tt
-is_closed p interrupts (first ∷ rows) root at is all = is_table p interrupts (first ∷ rows) first (inl refl) (subst (λ r. IsRoot p r) at is) all
+pub is_closed : (p : Program) (outside : Outside) (t : Table) (root : Row) → root ≡ get_or t 0 root → IsRoot p root → All (IsLedRow p outside t) t → IsClosed p outside t
+is_closed p outside [] root at is all = tt
+is_closed p outside (first ∷ rows) root at is all = is_table p outside (first ∷ rows) first (inl refl) (subst (λ r. IsRoot p r) at is) all

@@ -12,6 +12,7 @@ use Rattle.sts_model.specs.Joining.{is_success, is_failure, result_of}
 use Rattle.sts_model.specs.Local.{truth, goes}
 use Rattle.sts_model.specs.World.{instr_at}
 use Rattle.laws_calls.specs.declared.table.Held.TheVariants as held
+use Rattle.laws_calls.specs.Outside.{Outside}
 use Rattle.laws_calls.specs.Tasks.{Among, HasWay, begin}
 use Rattle.laws_calls.specs.declared.table.Part.{Part}
 use Rattle.laws_calls.specs.declared.table.Seen.{Seen}
@@ -28,13 +29,13 @@ use Rattle.laws_calls.specs.Triggers.{is_trigger}
 use Rattle.ends_table.specs.declared.steps.Around.{Around}
 
 -- each step leads to a state that is there, or to one that isn't possible
-abbrev pub AllLead : Program → ℕ → Call → List Own → Own → Instr → Type 0
-AllLead p interrupts c states own i =
-    (next : Own) → Steps p interrupts c own i next → Leads states next
+abbrev pub AllLead : Program → Outside → Call → List Own → Own → Instr → Type 0
+AllLead p outside c states own i =
+    (next : Own) → Steps p outside c own i next → Leads states next
 
 -- the same for a state of a row
 abbrev pub LeadsOn : Around → Instr → Type 0
-LeadsOn a i = AllLead a.program.now a.interrupts a.call.now a.states.now a.own.now i
+LeadsOn a i = AllLead a.program.now a.outside a.call.now a.states.now a.own.now i
 
 -- ---- kinds of ends
 
@@ -140,18 +141,18 @@ ForksLead p t row own i =
     → is_cancelled seen.knowledge ≡ false → Forks p t row.states own x g h place seen
 
 -- all that a table owes at a state of a row whose next instruction is this
-pub record IsLed (p : Program) (interrupts : ℕ) (t : Table) (row : Row) (own : Own) (i : Instr)
+pub record IsLed (p : Program) (outside : Outside) (t : Table) (row : Row) (own : Own) (i : Instr)
     : Type 0 where
   pub forks : ForksLead p t row own i
-  pub closed : AllLead p interrupts row.call row.states own i
+  pub closed : AllLead p outside row.call row.states own i
   pub ends : (e : End) → end_by i own.frame ≡ Some e → HasWay row.ways e
 
-abbrev pub IsLedAt : Program → ℕ → Table → Row → Own → Type 0
-IsLedAt p interrupts t row own =
-    (i : Instr) → instr_at p own.frame ≡ Some i → IsLed p interrupts t row own i
+abbrev pub IsLedAt : Program → Outside → Table → Row → Own → Type 0
+IsLedAt p outside t row own =
+    (i : Instr) → instr_at p own.frame ≡ Some i → IsLed p outside t row own i
 
-abbrev pub IsLedRow : Program → ℕ → Table → Row → Type 0
-IsLedRow p interrupts t row = All (IsLedAt p interrupts t row) row.states
+abbrev pub IsLedRow : Program → Outside → Table → Row → Type 0
+IsLedRow p outside t row = All (IsLedAt p outside t row) row.states
 
 -- the row is that of the root's call
 pub record IsRoot (p : Program) (root : Row) : Type 0 where
@@ -159,6 +160,6 @@ pub record IsRoot (p : Program) (root : Row) : Type 0 where
   pub begins : Among root.states (begin held.Empty (root_call p))
 
 -- the table is closed, and its first row is the root's
-abbrev pub IsClosed : Program → ℕ → Table → Type 0
-IsClosed p interrupts [] = Unit {0}
-IsClosed p interrupts (root ∷ rows) = IsTable p interrupts (root ∷ rows) root
+abbrev pub IsClosed : Program → Outside → Table → Type 0
+IsClosed p outside [] = Unit {0}
+IsClosed p outside (root ∷ rows) = IsTable p outside (root ∷ rows) root

@@ -14,7 +14,7 @@ use crate::reached::is_among;
 use crate::rows::ends;
 use crate::steps::Around;
 use crate::stop::Stop;
-use laws_calls::table::{Held, Own, Row};
+use laws_calls::table::{Held, Outside, Own, Row};
 use std::alloc::{AllocError, Global};
 use sts_code::{Instr, Program};
 use sts_frames::instr_at;
@@ -47,17 +47,17 @@ fn check_fork(
 fn check_instr(
     alloc: Global,
     program: &Program,
-    interrupts: u32,
+    outside: Outside,
     table: &[Row],
     row: &Row,
     own: &Own,
     instr: Instr,
 ) -> Result<(), Stop>
-    ensures { OnOk result (led.IsLed program.now interrupts table.now row.now own.now instr) }
+    ensures { OnOk result (led.IsLed program.now outside table.now row.now own.now instr) }
 {
     let around = Around {
         program,
-        interrupts,
+        outside,
         table,
         call: &row.call,
         states: row.states.as_slice(),
@@ -77,17 +77,17 @@ fn check_instr(
 pub fn check_state(
     alloc: Global,
     program: &Program,
-    interrupts: u32,
+    outside: Outside,
     table: &[Row],
     row: &Row,
     own: &Own,
 ) -> Result<(), Stop>
-    ensures { OnOk result (led.IsLedAt program.now interrupts table.now row.now own.now) }
+    ensures { OnOk result (led.IsLedAt program.now outside table.now row.now own.now) }
 {
     let Some(instr) = instr_at(program, &own.frame) else {
         return Ok(());
     };
-    check_instr(alloc, program, interrupts, table, row, own, instr)?;
+    check_instr(alloc, program, outside, table, row, own, instr)?;
     Ok(())
 }
 
@@ -95,25 +95,25 @@ pub fn check_state(
 fn check_row(
     alloc: Global,
     program: &Program,
-    interrupts: u32,
+    outside: Outside,
     table: &[Row],
     row: &Row,
 ) -> Result<(), Stop>
-    ensures { OnOk result (All (led.IsLedAt program.now interrupts table.now row.now)
+    ensures { OnOk result (All (led.IsLedAt program.now outside table.now row.now)
         row.now.states) }
 {
     for own in row.states.as_slice() {
-        check_state(alloc, program, interrupts, table, row, own)?;
+        check_state(alloc, program, outside, table, row, own)?;
     }
     Ok(())
 }
 
 /// All that a table owes at the states of its rows.
-fn check_rows(alloc: Global, program: &Program, interrupts: u32, table: &[Row]) -> Result<(), Stop>
-    ensures { OnOk result (All (led.IsLedRow program.now interrupts table.now) table.now) }
+fn check_rows(alloc: Global, program: &Program, outside: Outside, table: &[Row]) -> Result<(), Stop>
+    ensures { OnOk result (All (led.IsLedRow program.now outside table.now) table.now) }
 {
     for row in table {
-        check_row(alloc, program, interrupts, table, row)?;
+        check_row(alloc, program, outside, table, row)?;
     }
     Ok(())
 }
@@ -138,16 +138,16 @@ fn check_root(alloc: Global, program: &Program, root: &Row) -> Result<(), Stop>
 pub fn check_table(
     alloc: Global,
     program: &Program,
-    interrupts: u32,
+    outside: Outside,
     table: &[Row],
 ) -> Result<(), Stop>
-    ensures { OnOk result (led.IsClosed program.now interrupts table.now) }
+    ensures { OnOk result (led.IsClosed program.now outside table.now) }
 {
     let Some(root) = table.get(0) else {
         return Ok(());
     };
     check_root(alloc, program, root)?;
-    check_rows(alloc, program, interrupts, table)?;
+    check_rows(alloc, program, outside, table)?;
     Ok(())
 }
 
@@ -159,12 +159,12 @@ pub fn check_table(
 pub fn is_closed(
     alloc: Global,
     program: &Program,
-    interrupts: u32,
+    outside: Outside,
     table: &[Row],
 ) -> Result<bool, AllocError>
-    ensures { IfOk result (λ yes. yes ≡ true → led.IsClosed program.now interrupts table.now) }
+    ensures { IfOk result (λ yes. yes ≡ true → led.IsClosed program.now outside table.now) }
 {
-    match check_table(alloc, program, interrupts, table) {
+    match check_table(alloc, program, outside, table) {
         Ok(()) => Ok(true),
         Err(Stop::NoMemory(error)) => Err(error),
         Err(_) => Ok(false),

@@ -11,7 +11,7 @@ use crate::rows::ends;
 use crate::steps::Around;
 use crate::stop::Stop;
 use ends_search::index::Index;
-use laws_calls::table::{Call, Held, Own, Row, Way};
+use laws_calls::table::{Call, Held, Outside, Own, Row, Way};
 use std::alloc::{AllocError, Global};
 use sts_code::{Instr, Program};
 use sts_frames::instr_at;
@@ -50,8 +50,8 @@ struct Open {
 /// A table that is being made.
 #[derive(Drop)]
 struct Closing {
-    /// How many interrupts may come.
-    interrupts: u32,
+    /// What may come to a task from outside.
+    outside: Outside,
     /// The rows that are done.
     rows: Vec<Row>,
     /// The rows whose states are not all done. Each waits for the one behind it.
@@ -183,7 +183,7 @@ impl Open {
         &self,
         alloc: Global,
         program: &Program,
-        interrupts: u32,
+        outside: Outside,
         rows: &[Row],
         own: &Own,
     ) -> Result<(), Stop> {
@@ -193,7 +193,7 @@ impl Open {
         let next = self.next.as_slice();
         let around = Around {
             program,
-            interrupts,
+            outside,
             table: rows,
             call: &self.call,
             states: next,
@@ -252,7 +252,7 @@ impl Closing {
         let Some(own) = top.states.get(top.done) else {
             return Look::Done;
         };
-        match top.look(alloc, program, self.interrupts, self.rows.as_slice(), own) {
+        match top.look(alloc, program, self.outside, self.rows.as_slice(), own) {
             Ok(()) => Look::Passed,
             Err(stop) => Look::Lacks(stop),
         }
@@ -319,11 +319,11 @@ impl Closing {
 fn table_of(
     alloc: Global,
     program: &Program,
-    interrupts: u32,
+    outside: Outside,
     most: usize,
 ) -> Result<Vec<Row>, Stop> {
     let mut closing = Closing {
-        interrupts,
+        outside,
         rows: Vec::new(alloc),
         open: Vec::new(alloc),
         states: 0,
@@ -347,7 +347,7 @@ fn table_of(
     Ok(rows)
 }
 
-/// A table of a program that is closed, with at most this number of interrupts. Its first row is
+/// A table of a program that is closed, if this may come to a task from outside. Its first row is
 /// the root's. `None` if it has more than `most` states, or a row more than 100,000, or if it takes
 /// too much memory, or if some instruction's steps can't be listed.
 ///
@@ -357,18 +357,18 @@ fn table_of(
 pub fn closed_table(
     alloc: Global,
     program: &Program,
-    interrupts: u32,
+    outside: Outside,
     most: usize,
 ) -> Result<Option<Vec<Row>>, AllocError>
     ensures { IfOk result
-        (λ table. IfSome table (λ rows. led.IsClosed program.now interrupts rows.items)) }
+        (λ table. IfSome table (λ rows. led.IsClosed program.now outside rows.items)) }
 {
-    let rows = match table_of(alloc, program, interrupts, most) {
+    let rows = match table_of(alloc, program, outside, most) {
         Ok(rows) => rows,
         Err(Stop::NoMemory(error)) => return Err(error),
         Err(_) => return Ok(None),
     };
-    if is_closed(alloc, program, interrupts, rows.as_slice())? {
+    if is_closed(alloc, program, outside, rows.as_slice())? {
         Ok(Some(rows))
     } else {
         Ok(None)

@@ -1,7 +1,8 @@
 //! The states after `cancelled`.
 
-ghost use Rattle.std.specs.Prelude.{◌≡◌, ◌<◌, false, true, OnOk, IfOk};
+ghost use Rattle.std.specs.Prelude.{◌≡◌, false, true, OnOk, IfOk};
 ghost use Rattle.ends_table.specs.Led as led;
+ghost use Rattle.laws_calls.specs.Outside.{may_flag};
 ghost use Rattle.laws_calls.specs.Steps as def;
 ghost use Rattle.sts_model.specs.Local.{truth};
 
@@ -9,7 +10,7 @@ use crate::frames::pushed;
 use crate::reached::{leads_by, leads_with};
 use crate::stop::Stop;
 use ends_picks::joiners::{is_cancelled, may_be_late, may_decide};
-use laws_calls::table::{Knowledge, Own, Seen};
+use laws_calls::table::{Knowledge, Outside, Own, Seen};
 use std::alloc::{AllocError, Global};
 use sts_same::copied::Copied;
 
@@ -30,16 +31,39 @@ pub fn not_cancelled(alloc: Global, states: &[Own], own: &Own) -> Result<(), Sto
     leads_by(alloc, states, own, frame)
 }
 
-/// `interrupted` pushes 1, if an interrupt may come.
-pub fn interrupted(alloc: Global, states: &[Own], own: &Own, interrupts: u32) -> Result<(), Stop>
-    ensures { OnOk result (0 < interrupts
-        → def.Leads states.now (def.pushes own.now 0 (truth true))) }
+/// It pushes 1.
+fn one(alloc: Global, states: &[Own], own: &Own) -> Result<(), Stop>
+    ensures { OnOk result (def.Leads states.now (def.pushes own.now 0 (truth true))) }
 {
-    if interrupts == 0 {
-        return Ok(());
-    }
     let frame = pushed(&own.frame, 0, 1)?;
     leads_by(alloc, states, own, frame)
+}
+
+/// `interrupted` pushes 1, if the flag may be set.
+pub fn interrupted(alloc: Global, states: &[Own], own: &Own, outside: Outside) -> Result<(), Stop>
+    ensures { OnOk result (may_flag outside ≡ true
+        → def.Leads states.now (def.pushes own.now 0 (truth true))) }
+{
+    if !outside.may_flag() {
+        return Ok(());
+    }
+    one(alloc, states, own)
+}
+
+/// `cancelled` of the scope that the task is in pushes 1, if a cancel may come.
+pub fn lent_cancelled(
+    alloc: Global,
+    states: &[Own],
+    own: &Own,
+    outside: Outside,
+) -> Result<(), Stop>
+    ensures { OnOk result (outside.cancels ≡ true
+        → def.Leads states.now (def.pushes own.now 0 (truth true))) }
+{
+    if !outside.cancels {
+        return Ok(());
+    }
+    one(alloc, states, own)
 }
 
 /// It pushes 1, and the owner knows why.

@@ -1,7 +1,8 @@
 //! The states after each instruction.
 
-ghost use Rattle.std.specs.Prelude.{◌≡◌, ◌<◌, OnOk, true};
+ghost use Rattle.std.specs.Prelude.{◌≡◌, OnOk, true};
 ghost use Rattle.ends_table.specs.Led as led;
+ghost use Rattle.laws_calls.specs.Outside.{may_flag};
 ghost use Rattle.laws_calls.specs.Tasks as tasks;
 ghost use Rattle.laws_calls.specs.declared.table.Held.TheVariants as held;
 ghost use Rattle.sts_code.specs.declared.instr.Instr.TheVariants as instrs;
@@ -12,14 +13,14 @@ use crate::cases::{cases, reads};
 use crate::forks::forks;
 use crate::frames::{after_local, left, pushed, stepped};
 use crate::joins::{attempted, joins, target};
-use crate::looks::{interrupted, looks, not_cancelled};
+use crate::looks::{interrupted, lent_cancelled, looks, not_cancelled};
 use crate::places::{held_at, known, owned, set_held, with_frame};
 use crate::reached::{leads, leads_by};
 use crate::scopes::{closed, opened};
 use crate::stop::Stop;
 use crate::sums::totals;
 use crate::tallies::tallies;
-use laws_calls::table::{Call, Held, Own, Row, Seen};
+use laws_calls::table::{Call, Held, Outside, Own, Row, Seen};
 use std::alloc::Global;
 use sts_code::{Instr, Joiner, Kind, Program};
 use sts_frames::is_local;
@@ -28,8 +29,8 @@ use sts_frames::is_local;
 #[derive(Drop)]
 pub struct Around<'a> {
     pub program: &'a Program,
-    /// How many interrupts may come.
-    pub interrupts: u32,
+    /// What may come to a task from outside.
+    pub outside: Outside,
     pub table: &'a [Row],
     pub call: &'a Call,
     pub states: &'a [Own],
@@ -90,7 +91,7 @@ impl<'a> Around<'a> {
         ensures { OnOk result (led.LeadsOn self.now instrs.Interrupted) }
     {
         not_cancelled(alloc, self.states, self.own)?;
-        interrupted(alloc, self.states, self.own, self.interrupts)?;
+        interrupted(alloc, self.states, self.own, self.outside)?;
         Ok(())
     }
 
@@ -149,6 +150,7 @@ impl<'a> Around<'a> {
         ensures { OnOk result (led.LeadsOn self.now (instrs.Cancelled slot)) }
     {
         not_cancelled(alloc, self.states, self.own)?;
+        lent_cancelled(alloc, self.states, self.own, self.outside)?;
         Ok(())
     }
 
@@ -161,12 +163,12 @@ impl<'a> Around<'a> {
         }
     }
 
-    /// The state after a `join` that is interrupted, if an interrupt may come.
+    /// The state after a `join` that is interrupted, if the flag may be set.
     fn attempt(&self, alloc: Global, place: u32, seen: &Seen, to: u32) -> Result<(), Stop>
-        ensures { OnOk result (0 < self.now.interrupts
+        ensures { OnOk result (may_flag self.now.outside ≡ true
             → led.AttemptLeads self.now.states.now self.now.own.now place seen.now to) }
     {
-        if self.interrupts == 0 {
+        if !self.outside.may_flag() {
             return Ok(());
         }
         attempted(alloc, self.states, self.own, place, seen, to)

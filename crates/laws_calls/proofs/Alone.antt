@@ -35,16 +35,17 @@ use Rattle.laws_runs.proofs.EventLemmas.{Next}
 use Rattle.laws_runs.proofs.StayLemmas.{ended_is_dead}
 use Rattle.laws_runs.proofs.FrameLemmas.{at_own-is, Leaves, leaves-local, own_slot}
 use Rattle.laws_runs.specs.Tallies.{is_kind}
+use Rattle.laws_calls.specs.Outside.{Outside}
 use Rattle.laws_calls.specs.Fitting.{Answers, heard_in, most, MayCount}
 use Rattle.laws_calls.specs.Held as held
 use Rattle.laws_calls.specs.Tasks.{AllTwo, at_place, HasWay, Part, Seen, Own, bare, births_in, held_at}
 use Rattle.laws_calls.specs.Tasks.{Knowledge, Unseen, ByJoiner, Heard, bindings, May, Asked, Late}
 use Rattle.laws_calls.specs.Steps.{Row, Table, Steps, IsTable, to, pushes, after_cancel, counted, summed, parts_with, split, told, after_expiry, expired_step, saw_failure, may_decide, may_be_late, is_heard}
 use Rattle.laws_calls.specs.Steps.{local_step, read_step, bound_step, or_else_step, bind_step, unbind_step, forget_step}
-use Rattle.laws_calls.specs.Steps.{calm_step, interrupted_step, lent_step, going_step, cancelled_step, success_step, failure_step}
+use Rattle.laws_calls.specs.Steps.{calm_step, interrupted_step, lent_step, lent_cancelled_step, going_step, cancelled_step, success_step, failure_step}
 use Rattle.laws_calls.specs.Steps.{missed_step, get_step, except_step, tally_step, total_step, only, kept, missed, with_part, with_seen}
 use Rattle.laws_calls.specs.Covers.{PartFits, SeenFits, HeldFits, FrameFits, TaskFits, IsRight, IsTimely, InOrder, subs}
-use Rattle.laws_calls.specs.Covers.{IsByInterrupt, Watched, Covers, alive_in}
+use Rattle.laws_calls.specs.Covers.{FlagMayBe, IsCovered, Covers, alive_in}
 use Rattle.laws_calls.proofs.Lists.{all_set, Apart, kept_way, no, at_among}
 use Rattle.laws_calls.proofs.Turns.{Facts, FlagsHaveCause, apart_births, free_around, births_has}
 use Rattle.laws_calls.proofs.Moves.{Turned, covers_turned, turned_frame, turned_flag, fits_later, subs_same}
@@ -67,9 +68,9 @@ changes_frame_alone Fail = false
 changes_frame_alone _ = true
 
 -- a step of the table, to a state that fits the frame g in the state before
-pub record StepsTo (p : Program) (interrupts : ℕ) (t : Table) (rows : ℕ → Row) (w : World) (u : ℕ) (own : Own) (i : Instr) (g : Frame) : Type 0 where
+pub record StepsTo (p : Program) (outside : Outside) (t : Table) (rows : ℕ → Row) (w : World) (u : ℕ) (own : Own) (i : Instr) (g : Frame) : Type 0 where
   pub next : Own
-  pub step : Steps p interrupts (rows u).call own i next
+  pub step : Steps p outside (rows u).call own i next
   pub fits : FrameFits rows w g next
 
 pub instr_of : (p : Program) (f : Frame) (own : Own) (i : Instr) → bare f ≡ own.frame → instr_at p f ≡ Some i → instr_at p own.frame ≡ Some i
@@ -113,14 +114,14 @@ split_self true true e = refl
 split_self true false e = refl
 split_self false b e = cc
 
-module _ (p : Program) (interrupts : ℕ) (t : Table) (root : Row) (is : IsTable p interrupts t root) (w : World) (h : Facts w) where
+module _ (p : Program) (outside : Outside) (t : Table) (root : Row) (is : IsTable p outside t root) (w : World) (h : Facts w) where
   -- the task goes on with the frame g, and no scope changes
-  pub covers_alone : (c : Covers p interrupts t root w) (v : World) (u : ℕ) (i : Instr) (g : Frame) → Next w v → FlagsHaveCause interrupts w v → Turned w v u g → ((s : ℕ) → scope_at v s ≡ scope_at w s) → Does p w u i
-      → (Watched w u → (own : Own) → TaskFits interrupts c.rows w u own → StepsTo p interrupts t c.rows w u own i g) → Covers p interrupts t root v
+  pub covers_alone : (c : Covers p outside t root w) (v : World) (u : ℕ) (i : Instr) (g : Frame) → Next w v → FlagsHaveCause outside w v → Turned w v u g → ((s : ℕ) → scope_at v s ≡ scope_at w s) → Does p w u i
+      → (IsCovered outside w u → (own : Own) → TaskFits outside c.rows w u own → StepsTo p outside t c.rows w u own i g) → Covers p outside t root v
   covers_alone c v u i g n flags turned scopes d moves =
-      covers_turned p interrupts t root w v h n flags c u g turned d.alive
-      (λ watched own k.
-      let m = moves watched own k in
+      covers_turned p outside t root w v h n flags c u g turned d.alive
+      (λ owed own k.
+      let m = moves owed own k in
       record {
         own = m.next;
         there = is.closed (c.rows u) own m.next i (c.listed u) k.there (instr_of p (task_at w u).frame own i k.fits.frame d.at) m.step (are_possible c.rows w h.right (births_in g.entries) m.next.scopes m.fits.scopes);
@@ -157,11 +158,11 @@ module _ (p : Program) (interrupts : ℕ) (t : Table) (root : Row) (is : IsTable
 
   -- ---- the frame alone
 
-  module _ (rows : ℕ → Row) (u : ℕ) (own : Own) (k : TaskFits interrupts rows w u own) where
+  module _ (rows : ℕ → Row) (u : ℕ) (own : Own) (k : TaskFits outside rows w u own) where
     abbrev f : Frame
     f = (task_at w u).frame
 
-    to_local : (i : Instr) → is_local i ≡ true → StepsTo p interrupts t rows w u own i (locals.local (code p f) i f)
+    to_local : (i : Instr) → is_local i ≡ true → StepsTo p outside t rows w u own i (locals.local (code p f) i f)
     to_local i local =
         record {
           next = to own (locals.local (code p own.frame) i own.frame);
@@ -171,7 +172,7 @@ module _ (p : Program) (interrupts : ℕ) (t : Table) (root : Row) (is : IsTable
         }
 
     -- a state that differs in an operand alone
-    to_pushes : (i : Instr) (n : ℕ) (a b : _) → a ≡ b → Steps p interrupts (rows u).call own i (pushes own n b) → StepsTo p interrupts t rows w u own i (steps f n (a ∷ []))
+    to_pushes : (i : Instr) (n : ℕ) (a b : _) → a ≡ b → Steps p outside (rows u).call own i (pushes own n b) → StepsTo p outside t rows w u own i (steps f n (a ∷ []))
     to_pushes i n a b e step =
         record {
           next = pushes own n b;
@@ -179,10 +180,10 @@ module _ (p : Program) (interrupts : ℕ) (t : Table) (root : Row) (is : IsTable
           fits = subst (λ z. FrameFits rows w (steps f n (a ∷ [])) (pushes own n z)) e (fits_steps rows f own n (a ∷ []) k.fits);
         }
 
-    to_interrupted : StepsTo p interrupts t rows w u own Interrupted (steps f 0 (truth (task_at w u).flag ∷ []))
+    to_interrupted : StepsTo p outside t rows w u own Interrupted (steps f 0 (truth (task_at w u).flag ∷ []))
     to_interrupted = by (task_at w u).flag k.flag
       where
-        by : (b : Bool) → IsByInterrupt interrupts b → StepsTo p interrupts t rows w u own Interrupted (steps f 0 (truth b ∷ []))
+        by : (b : Bool) → FlagMayBe outside b → StepsTo p outside t rows w u own Interrupted (steps f 0 (truth b ∷ []))
         by false may = to_pushes Interrupted 0 (truth false) (truth false) refl calm_step
         by true may = to_pushes Interrupted 0 (truth true) (truth true) refl (interrupted_step (may refl))
 
@@ -191,19 +192,19 @@ module _ (p : Program) (interrupts : ℕ) (t : Table) (root : Row) (is : IsTable
         ap (λ bs. bs ++ (scope_of w u).environment) (sym (blank_bounds f.entries) ∙ ap (λ (z : Frame). filter_map bound_of z.entries) k.fits.frame)
         ∙ ap (λ e. filter_map bound_of own.frame.entries ++ e) k.environment
 
-    to_read : (x : ℕ) → StepsTo p interrupts t rows w u own (Read x) (moved p w u f (Read x))
+    to_read : (x : ℕ) → StepsTo p outside t rows w u own (Read x) (moved p w u f (Read x))
     to_read x = to_pushes (Read x) 0 _ _ (ap (λ bs. unwrap_or (read bs x) (pos 0)) bindings_same) read_step
 
-    to_bound : (x : ℕ) → StepsTo p interrupts t rows w u own (Bound x) (moved p w u f (Bound x))
+    to_bound : (x : ℕ) → StepsTo p outside t rows w u own (Bound x) (moved p w u f (Bound x))
     to_bound x = to_pushes (Bound x) 0 _ _ (ap (λ bs. truth (is_some (read bs x))) bindings_same) bound_step
 
-    to_or_else : (x : ℕ) → StepsTo p interrupts t rows w u own (OrElse x) (moved p w u f (OrElse x))
+    to_or_else : (x : ℕ) → StepsTo p outside t rows w u own (OrElse x) (moved p w u f (OrElse x))
     to_or_else x =
         to_pushes (OrElse x) 1 _ _
         (ap (λ bs. unwrap_or (read bs x) (operand f 0)) bindings_same ∙ ap (λ d. unwrap_or (read (bindings (rows u).call own) x) d) (operand_same f own 0 k.fits.frame))
         or_else_step
 
-    to_bind : (x : ℕ) → StepsTo p interrupts t rows w u own (Bind x) (record (steps f 1 []) { entries = entry.Binding x (operand f 0) ∷ f.entries })
+    to_bind : (x : ℕ) → StepsTo p outside t rows w u own (Bind x) (record (steps f 1 []) { entries = entry.Binding x (operand f 0) ∷ f.entries })
     to_bind x =
         record {
           next = to own (record (steps own.frame 1 []) { entries = entry.Binding x (operand own.frame 0) ∷ own.frame.entries });
@@ -215,7 +216,7 @@ module _ (p : Program) (interrupts : ℕ) (t : Table) (root : Row) (is : IsTable
           };
         }
 
-    to_forget : (x : ℕ) → StepsTo p interrupts t rows w u own (Forget x) (record (steps f 0 []) { slots = set f.slots x slots.Empty })
+    to_forget : (x : ℕ) → StepsTo p outside t rows w u own (Forget x) (record (steps f 0 []) { slots = set f.slots x slots.Empty })
     to_forget x =
         record {
           next = record own { frame = steps own.frame 0 []; held = set own.held x held.Empty };
@@ -232,7 +233,7 @@ module _ (p : Program) (interrupts : ℕ) (t : Table) (root : Row) (is : IsTable
     births_unbind (entry.Binding x v ∷ es) e = refl
     births_unbind (entry.Scope s ∷ es) e = cc
 
-    to_unbind : not (innermost is_binding f.entries) ≡ false → StepsTo p interrupts t rows w u own Unbind (record (steps f 0 []) { entries = drop 1 f.entries })
+    to_unbind : not (innermost is_binding f.entries) ≡ false → StepsTo p outside t rows w u own Unbind (record (steps f 0 []) { entries = drop 1 f.entries })
     to_unbind legal =
         record {
           next = to own (record (steps own.frame 0 []) { entries = drop 1 own.frame.entries });
@@ -259,11 +260,11 @@ module _ (p : Program) (interrupts : ℕ) (t : Table) (root : Row) (is : IsTable
         (record { frame = k.fits.frame; held = k.fits.held; scopes = put_seen rows w opened own.scopes place s x k.fits.scopes (apart alive) at new })
         e
 
-    to_cancelled : ((s : ℕ) → IsTimely (scope_at w s)) → lives (task_at w u) ≡ true → Watched w u → (x : ℕ) → not (is_scope (slot f x)) ≡ false → StepsTo p interrupts t rows w u own (Cancelled x) (moved p w u f (Cancelled x))
-    to_cancelled timely alive watched x legal = by (slot f x) refl legal
+    to_cancelled : ((s : ℕ) → IsTimely (scope_at w s)) → lives (task_at w u) ≡ true → IsCovered outside w u → (x : ℕ) → not (is_scope (slot f x)) ≡ false → StepsTo p outside t rows w u own (Cancelled x) (moved p w u f (Cancelled x))
+    to_cancelled timely alive owed x legal = by (slot f x) refl legal
       where
         -- the scope is cancelled
-        pushed : (s : ℕ) (o : OwnScope rows w f own x s) (y : Seen) → SeenFits rows w s y → Steps p interrupts (rows u).call own (Cancelled x) (pushes (with_seen own o.place y) 0 (truth true)) → StepsTo p interrupts t rows w u own (Cancelled x) (steps f 0 (truth true ∷ []))
+        pushed : (s : ℕ) (o : OwnScope rows w f own x s) (y : Seen) → SeenFits rows w s y → Steps p outside (rows u).call own (Cancelled x) (pushes (with_seen own o.place y) 0 (truth true)) → StepsTo p outside t rows w u own (Cancelled x) (steps f 0 (truth true ∷ []))
         pushed s o y new step =
             record {
               next = pushes (with_seen own o.place y) 0 (truth true);
@@ -276,26 +277,26 @@ module _ (p : Program) (interrupts : ℕ) (t : Table) (root : Row) (is : IsTable
         known_as s y q k2 right counts =
             record { joiner = k2.joiner; timed = k2.timed; environment = k2.environment; phase = k2.phase; known = right; parts = k2.parts; counts = counts; asked = k2.asked; order = k2.order }
 
-        by_joiner : (s : ℕ) (o : OwnScope rows w f own x s) → (scope_at w s).cancelled ≡ true → may_decide o.seen.knowledge ≡ true → StepsTo p interrupts t rows w u own (Cancelled x) (steps f 0 (truth true ∷ []))
+        by_joiner : (s : ℕ) (o : OwnScope rows w f own x s) → (scope_at w s).cancelled ≡ true → may_decide o.seen.knowledge ≡ true → StepsTo p outside t rows w u own (Cancelled x) (steps f 0 (truth true ∷ []))
         by_joiner s o e may = pushed s o (after_cancel o.seen) (known_as s o.seen ByJoiner o.fits e (counts_cancelled o.seen.knowledge o.seen.phase o.seen.joiner _ may o.fits.counts)) (cancelled_step o.place o.seen o.owns may)
 
-        by_expiry : (s : ℕ) (o : OwnScope rows w f own x s) → (scope_at w s).cancelled ≡ true → (scope_at w s).expired ≡ true → may_be_late o.seen.knowledge ≡ true → StepsTo p interrupts t rows w u own (Cancelled x) (steps f 0 (truth true ∷ []))
+        by_expiry : (s : ℕ) (o : OwnScope rows w f own x s) → (scope_at w s).cancelled ≡ true → (scope_at w s).expired ≡ true → may_be_late o.seen.knowledge ≡ true → StepsTo p outside t rows w u own (Cancelled x) (steps f 0 (truth true ∷ []))
         by_expiry s o e late may =
             pushed s o (after_expiry o.seen) (known_as s o.seen Late o.fits (e, late) (counts_most o.seen.knowledge o.seen.phase o.seen.joiner _ o.fits.counts))
             (expired_step o.place o.seen o.owns may (o.fits.timed ∙ timely s late))
 
         -- what was known of a scope that has expired
-        gone_late : (s : ℕ) (o : OwnScope rows w f own x s) → (scope_at w s).cancelled ≡ true → (scope_at w s).expired ≡ true → (q : Knowledge) → o.seen.knowledge ≡ q → StepsTo p interrupts t rows w u own (Cancelled x) (steps f 0 (truth true ∷ []))
+        gone_late : (s : ℕ) (o : OwnScope rows w f own x s) → (scope_at w s).cancelled ≡ true → (scope_at w s).expired ≡ true → (q : Knowledge) → o.seen.knowledge ≡ q → StepsTo p outside t rows w u own (Cancelled x) (steps f 0 (truth true ∷ []))
         gone_late s o e late Unseen is = by_expiry s o e late (ap may_be_late is)
         gone_late s o e late Late is = by_expiry s o e late (ap may_be_late is)
         gone_late s o e late ByJoiner is = by_joiner s o e (ap may_decide is)
         gone_late s o e late Heard is = absurd (no (sym (ap is_heard is) ∙ unheard o.seen.knowledge (scope_at w s) o.fits.known e))
 
-        gone : (s : ℕ) (o : OwnScope rows w f own x s) → (scope_at w s).cancelled ≡ true → (b : Bool) → (scope_at w s).expired ≡ b → StepsTo p interrupts t rows w u own (Cancelled x) (steps f 0 (truth true ∷ []))
+        gone : (s : ℕ) (o : OwnScope rows w f own x s) → (scope_at w s).cancelled ≡ true → (b : Bool) → (scope_at w s).expired ≡ b → StepsTo p outside t rows w u own (Cancelled x) (steps f 0 (truth true ∷ []))
         gone s o e false on_time = by_joiner s o e (undecided o.seen.knowledge (scope_at w s) o.fits.known e on_time)
         gone s o e true late = gone_late s o e late o.seen.knowledge refl
 
-        by_own : (s : ℕ) → slot f x ≡ slots.Own s → OwnScope rows w f own x s → (b : Bool) → (scope_at w s).cancelled ≡ b → StepsTo p interrupts t rows w u own (Cancelled x) (steps f 0 (truth b ∷ []))
+        by_own : (s : ℕ) → slot f x ≡ slots.Own s → OwnScope rows w f own x s → (b : Bool) → (scope_at w s).cancelled ≡ b → StepsTo p outside t rows w u own (Cancelled x) (steps f 0 (truth b ∷ []))
         by_own s mine o false e =
             let fits = pick_fits rows w h.right s o.seen o.fits in
             let few = few_free w h s (h.right.sound.own u x s mine).born e o.seen.joiner o.fits.joiner in
@@ -307,14 +308,24 @@ module _ (p : Program) (interrupts : ℕ) (t : Table) (root : Row) (is : IsTable
             }
         by_own s mine o true e = gone s o e (scope_at w s).expired refl
 
-        by : (q : Slot) → slot f x ≡ q → not (is_scope q) ≡ false → StepsTo p interrupts t rows w u own (Cancelled x) (steps f 0 (truth (scope_at w (named q)).cancelled ∷ []))
+        -- the task is covered though its scope is cancelled
+        wide : (s : ℕ) → (task_at w u).scope ≡ Some s → (scope_at w s).cancelled ≡ true → IsCovered outside w u → outside.cancels ≡ true
+        wide s inside gone_s (inl any) = any
+        wide s inside gone_s (inr watched) = absurd (no (sym gone_s ∙ free_around w h.right u s inside watched))
+
+        by_lent : (s : ℕ) → (task_at w u).scope ≡ Some s → held_at own x ≡ held.Lent → (b : Bool) → (scope_at w s).cancelled ≡ b → StepsTo p outside t rows w u own (Cancelled x) (steps f 0 (truth b ∷ []))
+        by_lent s inside lent b e = record { next = pushes own 0 (truth b); step = step b e; fits = fits_steps rows f own 0 (truth b ∷ []) k.fits }
+          where
+            step : (b : Bool) → (scope_at w s).cancelled ≡ b → Steps p outside (rows u).call own (Cancelled x) (pushes own 0 (truth b))
+            step false e = lent_step lent
+            step true e = lent_cancelled_step lent (wide s inside e owed)
+
+        by : (q : Slot) → slot f x ≡ q → not (is_scope q) ≡ false → StepsTo p outside t rows w u own (Cancelled x) (steps f 0 (truth (scope_at w (named q)).cancelled ∷ []))
         by (slots.Own s) e d = by_own s e (own_scope rows w f own x s k.fits e) (scope_at w s).cancelled refl
         by (slots.Lent s) e d =
             let inside = ((h.names u x alive).lent s e).1 in
-            let free = free_around w h.right u s inside watched in
             let lent : held_at own x ≡ held.Lent = held_lent w opened s (held_at own x) (subst (λ z. HeldFits w opened z (held_at own x)) e (held_slot rows w f own x k.fits)) in
-            subst (λ b. StepsTo p interrupts t rows w u own (Cancelled x) (steps f 0 (truth b ∷ []))) (sym free)
-            (record { next = pushes own 0 (truth false); step = lent_step lent; fits = fits_steps rows f own 0 (truth false ∷ []) k.fits })
+            by_lent s inside lent (scope_at w s).cancelled refl
         by slots.Empty e d = cc
         by (slots.Sub q) e d = cc
 
@@ -325,7 +336,7 @@ module _ (p : Program) (interrupts : ℕ) (t : Table) (root : Row) (is : IsTable
     -- the same, with another part
     to_part : lives (task_at w u) ≡ true → (i : Instr) (x : ℕ) (o : OwnSub rows w f own x (named (slot f x))) (part : Part) (g next : Frame) → (is_joined o.seen.phase ≡ false → InOrder o.seen.has_failure (scope_at w o.scope) (subs w o.scope) (set o.seen.parts o.i part)) → Leaves f g → bare g ≡ next
         → PartFits rows (alive_in w) (scope_at w o.scope) (named (slot f x)) part
-        → Steps p interrupts (rows u).call own i (to (with_part own o.place o.seen o.i part) next) → StepsTo p interrupts t rows w u own i g
+        → Steps p outside (rows u).call own i (to (with_part own o.place o.seen o.i part) next) → StepsTo p outside t rows w u own i g
     to_part alive i x o part g next order same e new step =
         record {
           next = to (with_part own o.place o.seen o.i part) next;
@@ -376,13 +387,13 @@ module _ (p : Program) (interrupts : ℕ) (t : Table) (root : Row) (is : IsTable
                 whole = λ a free e way. (let dead = h.settled o.scope c r.1 r.0 o.inside in absurd (no (sym a ∙ dead)));
               }
 
-      to_case : (success failed : ℕ) → StepsTo p interrupts t rows w u own (Case x success failed) (goes f (case_target state success failed (f.pc + 1)) 0 [])
+      to_case : (success failed : ℕ) → StepsTo p outside t rows w u own (Case x success failed) (goes f (case_target state success failed (f.pc + 1)) 0 [])
       to_case success failed = by state refl
         where
           -- the part has ended by an end that counts, or by another
           to_told : (to_pc : ℕ) (test : End → Bool) (end : End) (y : Seen) → SeenFits rows w o.scope y → slice_get y.parts o.i ≡ Some o.part → state ≡ Some end → test end ≡ true
-              → Steps p interrupts (rows u).call own (Case x success failed) (to (with_seen own o.place (told y o.i o.part (is_trigger y.joiner end) test)) (goes own.frame to_pc 0 []))
-              → StepsTo p interrupts t rows w u own (Case x success failed) (goes f to_pc 0 [])
+              → Steps p outside (rows u).call own (Case x success failed) (to (with_seen own o.place (told y o.i o.part (is_trigger y.joiner end) test)) (goes own.frame to_pc 0 []))
+              → StepsTo p outside t rows w u own (Case x success failed) (goes f to_pc 0 [])
           to_told to_pc test end y seen known e passes step =
               let counting : Bool = is_trigger y.joiner end in
               let part : Part = kept (split y.joiner counting test) o.part in
@@ -412,7 +423,7 @@ module _ (p : Program) (interrupts : ℕ) (t : Table) (root : Row) (is : IsTable
                 order = λ q. order_saw w h.right o.scope (PartFits rows (alive_in w) (scope_at w o.scope)) o.seen.parts o.fits.parts o.seen.has_failure (o.fits.order q) c v e;
               }
 
-          by : (q : Option End) → state ≡ q → StepsTo p interrupts t rows w u own (Case x success failed) (goes f (case_target q success failed (f.pc + 1)) 0 [])
+          by : (q : Option End) → state ≡ q → StepsTo p outside t rows w u own (Case x success failed) (goes f (case_target q success failed (f.pc + 1)) 0 [])
           by None e =
               to_part alive (Case x success failed) x o (missed o.seen.knowledge o.seen.has_failure o.part) (goes f (f.pc + 1) 0 []) (goes own.frame (own.frame.pc + 1) 0 []) (λ q. order_missed o.seen.has_failure (scope_at w o.scope) (subs w o.scope) o.seen.parts o.i c o.part o.sub e o.knows.known o.seen.knowledge (o.fits.order q)) (leaves_refl f (f.pc + 1) 0 [])
               (ap (λ (z : Frame). goes z (z.pc + 1) 0 []) k.fits.frame) (missed_part e) (missed_step o.place o.seen o.i o.part o.knows (open_of e))
@@ -421,10 +432,10 @@ module _ (p : Program) (interrupts : ℕ) (t : Table) (root : Row) (is : IsTable
           by (Some (Failed v)) e =
               to_told failed is_failure (Failed v) (saw_failure o.seen) (saw_fits v e) o.knows.known e refl (failure_step o.place o.seen o.i o.part (is_trigger o.seen.joiner (Failed v)) o.knows)
 
-      to_get : has_succeeded state ≡ true → StepsTo p interrupts t rows w u own (Get x) (steps f 0 (value_or_zero state ∷ []))
+      to_get : has_succeeded state ≡ true → StepsTo p outside t rows w u own (Get x) (steps f 0 (value_or_zero state ∷ []))
       to_get = by state refl
         where
-          by : (q : Option End) → state ≡ q → has_succeeded q ≡ true → StepsTo p interrupts t rows w u own (Get x) (steps f 0 (value_or_zero q ∷ []))
+          by : (q : Option End) → state ≡ q → has_succeeded q ≡ true → StepsTo p outside t rows w u own (Get x) (steps f 0 (value_or_zero q ∷ []))
           by None e legal = cc
           by (Some (Failed v)) e legal = cc
           by (Some (Success v)) e legal =
@@ -433,10 +444,10 @@ module _ (p : Program) (interrupts : ℕ) (t : Table) (root : Row) (is : IsTable
               (ended_part (only (Success v) o.part) (Success v) e (inl refl))
               (get_step o.place o.seen o.i o.part v o.knows (way_of (Success v) e))
 
-      to_except : has_failed state ≡ true → StepsTo p interrupts t rows w u own (Except x) (steps f 0 (value_or_zero state ∷ []))
+      to_except : has_failed state ≡ true → StepsTo p outside t rows w u own (Except x) (steps f 0 (value_or_zero state ∷ []))
       to_except = by state refl
         where
-          by : (q : Option End) → state ≡ q → has_failed q ≡ true → StepsTo p interrupts t rows w u own (Except x) (steps f 0 (value_or_zero q ∷ []))
+          by : (q : Option End) → state ≡ q → has_failed q ≡ true → StepsTo p outside t rows w u own (Except x) (steps f 0 (value_or_zero q ∷ []))
           by None e legal = cc
           by (Some (Success v)) e legal = cc
           by (Some (Failed v)) e legal =
@@ -477,7 +488,7 @@ module _ (p : Program) (interrupts : ℕ) (t : Table) (root : Row) (is : IsTable
     seen_counted U n s x k2 joined answers = seen_asked s x (counted U n x).asked k2 joined answers
 
     -- the value is pushed, and the scope changes
-    to_answer : lives (task_at w u) ≡ true → (i : Instr) (place s : ℕ) (x : Seen) (a b : _) → a ≡ b → at_place opened place ≡ Some s → SeenFits rows w s x → Steps p interrupts (rows u).call own i (pushes (with_seen own place x) 0 b) → StepsTo p interrupts t rows w u own i (steps f 0 (a ∷ []))
+    to_answer : lives (task_at w u) ≡ true → (i : Instr) (place s : ℕ) (x : Seen) (a b : _) → a ≡ b → at_place opened place ≡ Some s → SeenFits rows w s x → Steps p outside (rows u).call own i (pushes (with_seen own place x) 0 b) → StepsTo p outside t rows w u own i (steps f 0 (a ∷ []))
     to_answer alive i place s x a b e at new step =
         record {
           next = pushes (with_seen own place x) 0 b;
@@ -486,7 +497,7 @@ module _ (p : Program) (interrupts : ℕ) (t : Table) (root : Row) (is : IsTable
               (fits_seen alive place s x (steps f 0 (b ∷ [])) (steps own.frame 0 (b ∷ [])) (leaves_refl f (f.pc + 1) 0 (b ∷ [])) (ap (λ (z : Frame). steps z 0 (b ∷ [])) k.fits.frame) at new);
         }
 
-    to_tally : lives (task_at w u) ≡ true → (x : ℕ) (kind : Kind) (s : ℕ) → slot f x ≡ slots.Own s → is_joined (scope_at w s).phase ≡ true → StepsTo p interrupts t rows w u own (Tally x kind) (steps f 0 (pos (tally w s kind) ∷ []))
+    to_tally : lives (task_at w u) ≡ true → (x : ℕ) (kind : Kind) (s : ℕ) → slot f x ≡ slots.Own s → is_joined (scope_at w s).phase ≡ true → StepsTo p outside t rows w u own (Tally x kind) (steps f 0 (pos (tally w s kind) ∷ []))
     to_tally alive x kind s mine joined =
         let o = own_scope rows w f own x s k.fits mine in
         let pick = pick_fits rows w h.right s o.seen o.fits in
@@ -495,7 +506,7 @@ module _ (p : Program) (interrupts : ℕ) (t : Table) (root : Row) (is : IsTable
         (seen_counted kind n s o.seen o.fits joined (counted_answers kind o.seen (states_in w s) pick.asked))
         (tally_step o.place o.seen (states_in w s) o.owns pick)
 
-    to_total : lives (task_at w u) ≡ true → (x s : ℕ) → slot f x ≡ slots.Own s → is_joined (scope_at w s).phase ≡ true → StepsTo p interrupts t rows w u own (Total x) (steps f 0 (total w s ∷ []))
+    to_total : lives (task_at w u) ≡ true → (x s : ℕ) → slot f x ≡ slots.Own s → is_joined (scope_at w s).phase ≡ true → StepsTo p outside t rows w u own (Total x) (steps f 0 (total w s ∷ []))
     to_total alive x s mine joined =
         let o = own_scope rows w f own x s k.fits mine in
         let pick = pick_fits rows w h.right s o.seen o.fits in
@@ -506,17 +517,17 @@ module _ (p : Program) (interrupts : ℕ) (t : Table) (root : Row) (is : IsTable
 
   -- ---- all of them
 
-  module _ (c : Covers p interrupts t root w) (u : ℕ) where
+  module _ (c : Covers p outside t root w) (u : ℕ) where
     abbrev frame : Frame
     frame = (task_at w u).frame
 
     -- an instruction whose effect is another frame
-    with_next : (i : Instr) (g : Frame) → Next w (with_frame w u g) → FlagsHaveCause interrupts w (with_frame w u g) → Does p w u i
-        → (Watched w u → (own : Own) → TaskFits interrupts c.rows w u own → StepsTo p interrupts t c.rows w u own i g) → Covers p interrupts t root (with_frame w u g)
+    with_next : (i : Instr) (g : Frame) → Next w (with_frame w u g) → FlagsHaveCause outside w (with_frame w u g) → Does p w u i
+        → (IsCovered outside w u → (own : Own) → TaskFits outside c.rows w u own → StepsTo p outside t c.rows w u own i g) → Covers p outside t root (with_frame w u g)
     with_next i g n flags d moves = covers_alone c (with_frame w u g) u i g n flags (turned_frame w u g (born_alive w u d.alive)) (λ s. refl) d moves
 
     abbrev pub Gives : Instr → Type 0
-    Gives i = Next w (effect p w u frame i) → FlagsHaveCause interrupts w (effect p w u frame i) → Does p w u i → Covers p interrupts t root (effect p w u frame i)
+    Gives i = Next w (effect p w u frame i) → FlagsHaveCause outside w (effect p w u frame i) → Does p w u i → Covers p outside t root (effect p w u frame i)
 
     -- the slot of a subtask
     named_sub : (i : Instr) (x : ℕ) (b : Bool) → (not (is_sub (slot frame x)) || b) ≡ false → slot frame x ≡ slots.Sub (named (slot frame x))
@@ -525,50 +536,50 @@ module _ (p : Program) (interrupts : ℕ) (t : Table) (root : Row) (is : IsTable
     give_local : (i : Instr) → is_local i ≡ true → (locals.local (code p frame) i frame ≡ moved p w u frame i) → effect p w u frame i ≡ with_frame w u (moved p w u frame i) → Gives i
     give_local i local same is2 n flags d =
         let e : effect p w u frame i ≡ with_frame w u (locals.local (code p frame) i frame) = is2 ∙ ap (λ (g : Frame). with_frame w u g) (sym same) in
-        subst (λ (v : World). Covers p interrupts t root v) (sym e)
-        (with_next i (locals.local (code p frame) i frame) (subst (λ (v : World). Next w v) e n) (subst (λ (v : World). FlagsHaveCause interrupts w v) e flags) d
-        (λ watched own k. to_local c.rows u own k i local))
+        subst (λ (v : World). Covers p outside t root v) (sym e)
+        (with_next i (locals.local (code p frame) i frame) (subst (λ (v : World). Next w v) e n) (subst (λ (v : World). FlagsHaveCause outside w v) e flags) d
+        (λ owed own k. to_local c.rows u own k i local))
 
     pub give : (i : Instr) → changes_frame_alone i ≡ true → Gives i
-    give (Cancelled x) a n flags d = with_next (Cancelled x) (moved p w u frame (Cancelled x)) n flags d (λ watched own k. to_cancelled c.rows u own k c.timely d.alive watched x d.fine.slots)
+    give (Cancelled x) a n flags d = with_next (Cancelled x) (moved p w u frame (Cancelled x)) n flags d (λ owed own k. to_cancelled c.rows u own k c.timely d.alive owed x d.fine.slots)
     give (Case x success failed) a n flags d =
         let mine = named_sub (Case x success failed) x false d.fine.slots in
         with_next (Case x success failed) (moved p w u frame (Case x success failed)) n flags d
-        (λ watched own k.
+        (λ owed own k.
         let o = own_sub c.rows w frame own x (named (slot frame x)) k.fits mine in
-        subst (λ q. StepsTo p interrupts t c.rows w u own (Case x success failed) (goes frame (case_target q success failed (frame.pc + 1)) 0 [])) (sym (state_of c.rows u own k x o)) (to_case c.rows u own k d.alive x o success failed))
+        subst (λ q. StepsTo p outside t c.rows w u own (Case x success failed) (goes frame (case_target q success failed (frame.pc + 1)) 0 [])) (sym (state_of c.rows u own k x o)) (to_case c.rows u own k d.alive x o success failed))
     give (Get x) a n flags d =
         let mine = named_sub (Get x) x false d.fine.slots in
         let legal = readable_success p w frame x mine d.fine.legal in
         with_next (Get x) (moved p w u frame (Get x)) n flags d
-        (λ watched own k.
+        (λ owed own k.
         let o = own_sub c.rows w frame own x (named (slot frame x)) k.fits mine in
         let e = state_of c.rows u own k x o in
-        subst (λ q. StepsTo p interrupts t c.rows w u own (Get x) (steps frame 0 (value_or_zero q ∷ []))) (sym e) (to_get c.rows u own k d.alive x o (subst (λ q. has_succeeded q ≡ true) e legal)))
+        subst (λ q. StepsTo p outside t c.rows w u own (Get x) (steps frame 0 (value_or_zero q ∷ []))) (sym e) (to_get c.rows u own k d.alive x o (subst (λ q. has_succeeded q ≡ true) e legal)))
     give (Except x) a n flags d =
         let mine = named_sub (Except x) x false d.fine.slots in
         let legal = readable_failure p w frame x mine d.fine.legal in
         with_next (Except x) (moved p w u frame (Except x)) n flags d
-        (λ watched own k.
+        (λ owed own k.
         let o = own_sub c.rows w frame own x (named (slot frame x)) k.fits mine in
         let e = state_of c.rows u own k x o in
-        subst (λ q. StepsTo p interrupts t c.rows w u own (Except x) (steps frame 0 (value_or_zero q ∷ []))) (sym e) (to_except c.rows u own k d.alive x o (subst (λ q. has_failed q ≡ true) e legal)))
+        subst (λ q. StepsTo p outside t c.rows w u own (Except x) (steps frame 0 (value_or_zero q ∷ []))) (sym e) (to_except c.rows u own k d.alive x o (subst (λ q. has_failed q ≡ true) e legal)))
     give (Tally x kind) a n flags d =
         let mine : slot frame x ≡ slots.Own (named (slot frame x)) = own_slot (slot frame x) (first_no _ _ (first_no _ _ d.fine.slots)) d.fine.own in
-        with_next (Tally x kind) (moved p w u frame (Tally x kind)) n flags d (λ watched own k. to_tally c.rows u own k d.alive x kind (named (slot frame x)) mine (joined_scope p w frame x mine d.fine.legal))
+        with_next (Tally x kind) (moved p w u frame (Tally x kind)) n flags d (λ owed own k. to_tally c.rows u own k d.alive x kind (named (slot frame x)) mine (joined_scope p w frame x mine d.fine.legal))
     give (Total x) a n flags d =
         let mine : slot frame x ≡ slots.Own (named (slot frame x)) = own_slot (slot frame x) (first_no _ _ (first_no _ _ d.fine.slots)) d.fine.own in
-        with_next (Total x) (moved p w u frame (Total x)) n flags d (λ watched own k. to_total c.rows u own k d.alive x (named (slot frame x)) mine (joined_scope p w frame x mine d.fine.legal))
-    give (Read x) a n flags d = with_next (Read x) (moved p w u frame (Read x)) n flags d (λ watched own k. to_read c.rows u own k x)
-    give (Bound x) a n flags d = with_next (Bound x) (moved p w u frame (Bound x)) n flags d (λ watched own k. to_bound c.rows u own k x)
-    give (OrElse x) a n flags d = with_next (OrElse x) (moved p w u frame (OrElse x)) n flags d (λ watched own k. to_or_else c.rows u own k x)
-    give (Bind x) a n flags d = with_next (Bind x) (record (steps frame 1 []) { entries = entry.Binding x (operand frame 0) ∷ frame.entries }) n flags d (λ watched own k. to_bind c.rows u own k x)
-    give Unbind a n flags d = with_next Unbind (record (steps frame 0 []) { entries = drop 1 frame.entries }) n flags d (λ watched own k. to_unbind c.rows u own k d.fine.structure)
-    give (Forget x) a n flags d = with_next (Forget x) (record (steps frame 0 []) { slots = set frame.slots x slots.Empty }) n flags d (λ watched own k. to_forget c.rows u own k x)
+        with_next (Total x) (moved p w u frame (Total x)) n flags d (λ owed own k. to_total c.rows u own k d.alive x (named (slot frame x)) mine (joined_scope p w frame x mine d.fine.legal))
+    give (Read x) a n flags d = with_next (Read x) (moved p w u frame (Read x)) n flags d (λ owed own k. to_read c.rows u own k x)
+    give (Bound x) a n flags d = with_next (Bound x) (moved p w u frame (Bound x)) n flags d (λ owed own k. to_bound c.rows u own k x)
+    give (OrElse x) a n flags d = with_next (OrElse x) (moved p w u frame (OrElse x)) n flags d (λ owed own k. to_or_else c.rows u own k x)
+    give (Bind x) a n flags d = with_next (Bind x) (record (steps frame 1 []) { entries = entry.Binding x (operand frame 0) ∷ frame.entries }) n flags d (λ owed own k. to_bind c.rows u own k x)
+    give Unbind a n flags d = with_next Unbind (record (steps frame 0 []) { entries = drop 1 frame.entries }) n flags d (λ owed own k. to_unbind c.rows u own k d.fine.structure)
+    give (Forget x) a n flags d = with_next (Forget x) (record (steps frame 0 []) { slots = set frame.slots x slots.Empty }) n flags d (λ owed own k. to_forget c.rows u own k x)
     give Interrupted a n flags d =
         covers_alone c (effect p w u frame Interrupted) u Interrupted (steps frame 0 (truth (task_at w u).flag ∷ [])) n flags
         (turned_flag w u (steps frame 0 (truth (task_at w u).flag ∷ [])) false (born_alive w u d.alive)) (λ s. refl) d
-        (λ watched own k. to_interrupted c.rows u own k)
+        (λ owed own k. to_interrupted c.rows u own k)
     give (Open x joiner timed) a n flags d = cc
     give (Fork x g q) a n flags d = cc
     give (Join x failed timeout interrupted) a n flags d = cc

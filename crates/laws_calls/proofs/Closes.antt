@@ -28,6 +28,7 @@ use Rattle.laws_runs.proofs.SoundLemmas.{alive_before}
 use Rattle.laws_runs.proofs.EventLemmas.{Next}
 use Rattle.laws_runs.proofs.FrameLemmas.{own_slot, at_own-is}
 use Rattle.laws_runs.proofs.BirthLemmas.{born_alive}
+use Rattle.laws_calls.specs.Outside.{Outside}
 use Rattle.laws_calls.specs.Held.{Held}
 use Rattle.laws_calls.specs.Held as held
 use Rattle.laws_calls.specs.Tasks.{Among, AllTwo, Seen, Own, Knowledge, Unseen, ByJoiner, Heard, bare, births_in, Late}
@@ -53,7 +54,7 @@ entries_first (entry.Scope r ∷ es) s e = by (r == s) refl e
     by true d k = let same : r ≡ s = grind (arith, nat_tests) in ap (λ i. entry.Scope i ∷ es) same
     by false d k = cc
 
-module _ (p : Program) (interrupts : ℕ) (t : Table) (root : Row) (is : IsTable p interrupts t root) (w : World) (h : Facts w) (u x : ℕ) (d : Does p w u (Close x)) where
+module _ (p : Program) (outside : Outside) (t : Table) (root : Row) (is : IsTable p outside t root) (w : World) (h : Facts w) (u x : ℕ) (d : Does p w u (Close x)) where
   abbrev f : Frame
   f = (task_at w u).frame
 
@@ -128,7 +129,7 @@ module _ (p : Program) (interrupts : ℕ) (t : Table) (root : Row) (is : IsTable
             (λ i part at e. record { may = e.may; whole = λ alive free. absurd (no free) }) k.parts;
       }))
 
-  waits_on : any_lives (cancel w s) s ≡ true → Next w waits → (rows : ℕ → Row) (own : Own) → TaskFits interrupts rows w u own → GoesOn rows waits u f
+  waits_on : any_lives (cancel w s) s ≡ true → Next w waits → (rows : ℕ → Row) (own : Own) → TaskFits outside rows w u own → GoesOn rows waits u f
   waits_on some nx rows own k =
       record {
         own = own;
@@ -183,7 +184,7 @@ module _ (p : Program) (interrupts : ℕ) (t : Table) (root : Row) (is : IsTable
       (λ other. (r, (k.later (sym scope ∙ other), subst (λ us. slice_get us i ≡ Some c) (sym (same_subs r)) e.1.1)))
   clears m long a b e = absurd e
 
-  shuts : Next w shut → (c : Covers p interrupts t root w) (own : Own) → TaskFits interrupts c.rows w u own → GoesOn c.rows shut u g
+  shuts : Next w shut → (c : Covers p outside t root w) (own : Own) → TaskFits outside c.rows w u own → GoesOn c.rows shut u g
   shuts nx c own k =
       let scopes : AllTwo (SeenFits c.rows w) (s ∷ rest) own.scopes = subst (λ bs. AllTwo (SeenFits c.rows w) bs own.scopes) opened k.fits.scopes in
       let tail : AllTwo (SeenFits c.rows w) rest (drop 1 own.scopes) = all_tail (SeenFits c.rows w) s rest own.scopes scopes in
@@ -206,10 +207,10 @@ module _ (p : Program) (interrupts : ℕ) (t : Table) (root : Row) (is : IsTable
 
   -- ---- either
 
-  pub close_covered : (c : Covers p interrupts t root w) → Next w (close_scope w u f s) → FlagsHaveCause interrupts w (close_scope w u f s) → Covers p interrupts t root (close_scope w u f s)
+  pub close_covered : (c : Covers p outside t root w) → Next w (close_scope w u f s) → FlagsHaveCause outside w (close_scope w u f s) → Covers p outside t root (close_scope w u f s)
   unfolding close_scope
   close_covered c nx flags = by (any_lives (cancel w s) s) refl nx flags
     where
-      by : (b : Bool) → any_lives (cancel w s) s ≡ b → Next w (cond b waits shut) → FlagsHaveCause interrupts w (cond b waits shut) → Covers p interrupts t root (cond b waits shut)
-      by true some n2 flags2 = covers_turned p interrupts t root w waits h n2 flags2 c u f waiting.turned d.alive (λ watched own k. waits_on some n2 c.rows own k)
-      by false none n2 flags2 = covers_turned p interrupts t root w shut h n2 flags2 c u g shutting.turned d.alive (λ watched own k. shuts n2 c own k)
+      by : (b : Bool) → any_lives (cancel w s) s ≡ b → Next w (cond b waits shut) → FlagsHaveCause outside w (cond b waits shut) → Covers p outside t root (cond b waits shut)
+      by true some n2 flags2 = covers_turned p outside t root w waits h n2 flags2 c u f waiting.turned d.alive (λ owed own k. waits_on some n2 c.rows own k)
+      by false none n2 flags2 = covers_turned p outside t root w shut h n2 flags2 c u g shutting.turned d.alive (λ owed own k. shuts n2 c own k)

@@ -28,12 +28,13 @@ use Rattle.laws_runs.proofs.StayLemmas.{ended_is_dead}
 use Rattle.laws_runs.proofs.CompletionLemmas.{completion-front, completion-new, completion-either}
 use Rattle.laws_runs.proofs.EventLemmas.{Next}
 use Rattle.laws_runs.proofs.BirthLemmas.{born_alive}
+use Rattle.laws_calls.specs.Outside.{Outside}
 use Rattle.laws_calls.specs.Tasks.{HasWay, May, Part, Seen, Own, Knowledge, Unseen, ByJoiner, Heard, bare, nothing, Late}
 use Rattle.laws_calls.specs.Steps.{Row, Table, IsTable, end_by}
 use Rattle.laws_calls.specs.Covers.{subs, PartFits, ScopeFits, SeenFits, TaskFits, IsRight}
-use Rattle.laws_calls.specs.Covers.{IsTimely, Watched, watched_root, watched_sub, Covers, alive_in}
+use Rattle.laws_calls.specs.Covers.{IsTimely, IsCovered, Watched, watched_root, watched_sub, Covers, alive_in}
 use Rattle.laws_calls.proofs.Lists.{all_map, no}
-use Rattle.laws_calls.proofs.Turns.{Facts, FlagsHaveCause, alive_later, watched_before, seen_same, task_same, sub_born}
+use Rattle.laws_calls.proofs.Turns.{Facts, FlagsHaveCause, alive_later, covered_before, seen_same, task_same, sub_born}
 use Rattle.laws_calls.proofs.Moves.{subs_same}
 use Rattle.laws_calls.proofs.Phases.{at_cancelled, cancel_other}
 use Rattle.laws_calls.specs.Triggers.{triggers}
@@ -172,7 +173,7 @@ ends_more (x ∷ cs) c = ap (λ (es : List End). x.end ∷ es) (ends_more cs c)
 
 -- ---- the table
 
-module _ (p : Program) (interrupts : ℕ) (t : Table) (root : Row) (is : IsTable p interrupts t root) (w v : World) (h : Facts w) (n : Next w v) (flags : FlagsHaveCause interrupts w v) (u : ℕ) (end : End) (alive : lives (task_at w u) ≡ true) (o : Ended w v u end) where
+module _ (p : Program) (outside : Outside) (t : Table) (root : Row) (is : IsTable p outside t root) (w v : World) (h : Facts w) (n : Next w v) (flags : FlagsHaveCause outside w v) (u : ℕ) (end : End) (alive : lives (task_at w u) ≡ true) (o : Ended w v u end) where
   same_subs : (s : ℕ) → subs v s ≡ subs w s
   same_subs s = subs_same w v s o.count o.scope
 
@@ -251,44 +252,48 @@ module _ (p : Program) (interrupts : ℕ) (t : Table) (root : Row) (is : IsTable
       known ByJoiner r = let gone : (scope_at w s).cancelled ≡ true = r in absurd (no (sym gone ∙ told.free))
       known Heard r = let dead = h.settled s u r.1 told.free told.inside in absurd (no (sym alive ∙ dead))
 
-  module _ (i : Instr) (d : Does p w u i) (is_end : end_by i (bare (task_at w u).frame) ≡ Some end) (c : Covers p interrupts t root w) where
-    -- the end of a watched task is a way of its row
-    way : Watched w u → HasWay (c.rows u).ways end
-    way watched =
-        let old : (own : Own) × TaskFits interrupts c.rows w u own = c.tasks u alive watched in
+  module _ (i : Instr) (d : Does p w u i) (is_end : end_by i (bare (task_at w u).frame) ≡ Some end) (c : Covers p outside t root w) where
+    -- the end of a task that is covered is a way of its row
+    way : IsCovered outside w u → HasWay (c.rows u).ways end
+    way owed =
+        let old : (own : Own) × TaskFits outside c.rows w u own = c.tasks u alive owed in
         is.ends (c.rows u) old.0 i end (c.listed u) old.1.there (instr_of p (task_at w u).frame old.0 i old.1.fits.frame d.at)
         (subst (λ (z : Frame). end_by i z ≡ Some end) old.1.fits.frame is_end)
 
-    other_covered : (k : ℕ) → lives (task_at v k) ≡ true → Watched v k → (k ≡ u → ⊥) → (own : Own) × TaskFits interrupts c.rows v k own
-    other_covered k lives_k watched other =
+    other_covered : (k : ℕ) → lives (task_at v k) ≡ true → IsCovered outside v k → (k ≡ u → ⊥) → (own : Own) × TaskFits outside c.rows v k own
+    other_covered k lives_k owed other =
         let born : k < length w.tasks = (let b = born_alive v k lives_k in let m = o.count in omega (arith, b, m)) in
         let before : lives (task_at w k) ≡ true = alive_later (task_at w k) (task_at v k) (n.later.task k born) lives_k in
-        let seen : Watched w k = watched_before w v h n k born watched in
-        let old : (own : Own) × TaskFits interrupts c.rows w k own = c.tasks k before seen in (
+        let seen : IsCovered outside w k = covered_before w v h n outside k born owed in
+        let old : (own : Own) × TaskFits outside c.rows w k own = c.tasks k before seen in (
           old.0,
-          task_same w v h n interrupts flags c.rows c.rows k old.0 before watched (o.frame k other) (λ j less. refl)
-              (λ s y less owner e. keeps k s y less owner seen e (o.scopes s))
+          task_same w v h n outside flags c.rows c.rows k old.0 before owed (o.frame k other) (λ j less. refl)
+              (λ s y less owner e. keeps s y less owner seen e (o.scopes s))
               (λ s j z less owner e. subst (λ us. slice_get us j ≡ Some z) (sym (same_subs s)) e)
               old.1,
         )
       where
-        keeps : (k s : ℕ) (y : Seen) → s < length w.scopes → (scope_at w s).owner ≡ k → Watched w k → SeenFits c.rows w s y → (scope_at v s ≡ scope_at w s) ⊎ IsTold w v u end s → SeenFits c.rows v s y
-        keeps k s y less owner seen e (inl same) = seen_same w v h n c.rows c.rows s y same (same_subs s) (λ j less2. refl) e
-        keeps k s y less owner seen e (inr told) = seen_told c.rows (way (watched_sub s told.inside told.free (subst (λ j. Watched w j) (sym owner) seen))) s y less told e
+        inside_covered : (s : ℕ) → (scope_at w s).owner ≡ k → IsTold w v u end s → IsCovered outside w k → IsCovered outside w u
+        inside_covered s owner told (inl wide) = inl wide
+        inside_covered s owner told (inr watched) = inr (watched_sub s told.inside told.free (subst (λ j. Watched w j) (sym owner) watched))
 
-    covered : (k : ℕ) → lives (task_at v k) ≡ true → Watched v k → (own : Own) × TaskFits interrupts c.rows v k own
-    covered k lives_k watched = other_covered k lives_k watched (λ same. no (sym lives_k ∙ subst (λ j. lives (task_at v j) ≡ false) (sym same) (ended_is_dead (task_at v u) end o.here)))
+        keeps : (s : ℕ) (y : Seen) → s < length w.scopes → (scope_at w s).owner ≡ k → IsCovered outside w k → SeenFits c.rows w s y → (scope_at v s ≡ scope_at w s) ⊎ IsTold w v u end s → SeenFits c.rows v s y
+        keeps s y less owner seen e (inl same) = seen_same w v h n c.rows c.rows s y same (same_subs s) (λ j less2. refl) e
+        keeps s y less owner seen e (inr told) = seen_told c.rows (way (inside_covered s owner told seen)) s y less told e
+
+    covered : (k : ℕ) → lives (task_at v k) ≡ true → IsCovered outside v k → (own : Own) × TaskFits outside c.rows v k own
+    covered k lives_k owed = other_covered k lives_k owed (λ same. no (sym lives_k ∙ subst (λ j. lives (task_at v j) ≡ false) (sym same) (ended_is_dead (task_at v u) end o.here)))
 
     root_ended : (e : End) → (task_at v 0).outcome ≡ Some e → (b : Bool) → nat_eq 0 u ≡ b → HasWay root.ways e
     root_ended e is2 true q =
         let same : 0 ≡ u = grind (arith, nat_tests) in
         let one : Some end ≡ Some e = sym o.here ∙ ap (λ j. (task_at v j).outcome) (sym same) ∙ is2 in
         let at : end ≡ e = cc in
-        let mine : HasWay (c.rows 0).ways end = subst (λ j. HasWay (c.rows j).ways end) (sym same) (way (subst (λ j. Watched w j) same watched_root)) in
+        let mine : HasWay (c.rows 0).ways end = subst (λ j. HasWay (c.rows j).ways end) (sym same) (way (subst (λ j. IsCovered outside w j) same (inr watched_root))) in
         subst (λ z. HasWay root.ways z) at (subst (λ (row : Row). HasWay row.ways end) c.first mine)
     root_ended e is2 false q = let other : 0 ≡ u → ⊥ = grind (arith, nat_tests) in c.ended e (sym (o.outcome 0 other) ∙ is2)
 
-    pub covers_ended : Covers p interrupts t root v
+    pub covers_ended : Covers p outside t root v
     covers_ended =
         record {
           rows = c.rows;
@@ -299,7 +304,7 @@ module _ (p : Program) (interrupts : ℕ) (t : Table) (root : Row) (is : IsTable
           ended = λ e is2. root_ended e is2 (nat_eq 0 u) refl;
         }
 
-pub end_covered : (p : Program) (interrupts : ℕ) (t : Table) (root : Row) → IsTable p interrupts t root → (w : World) (h : Facts w) (u : ℕ) (i : Instr) (end : End) → Does p w u i → end_by i (bare (task_at w u).frame) ≡ Some end → Covers p interrupts t root w
-    → Next w (end_task w u (task_at w u).frame end) → FlagsHaveCause interrupts w (end_task w u (task_at w u).frame end) → Covers p interrupts t root (end_task w u (task_at w u).frame end)
-end_covered p interrupts t root is w h u i end d is_end c n flags =
-    covers_ended p interrupts t root is w (end_task w u (task_at w u).frame end) h n flags u end d.alive (has_ended w u end (born_alive w u d.alive) (λ s e. (h.right.sound.born u s e).0)) i d is_end c
+pub end_covered : (p : Program) (outside : Outside) (t : Table) (root : Row) → IsTable p outside t root → (w : World) (h : Facts w) (u : ℕ) (i : Instr) (end : End) → Does p w u i → end_by i (bare (task_at w u).frame) ≡ Some end → Covers p outside t root w
+    → Next w (end_task w u (task_at w u).frame end) → FlagsHaveCause outside w (end_task w u (task_at w u).frame end) → Covers p outside t root (end_task w u (task_at w u).frame end)
+end_covered p outside t root is w h u i end d is_end c n flags =
+    covers_ended p outside t root is w (end_task w u (task_at w u).frame end) h n flags u end d.alive (has_ended w u end (born_alive w u d.alive) (λ s e. (h.right.sound.born u s e).0)) i d is_end c

@@ -18,11 +18,12 @@ use Rattle.laws_runs.proofs.EffectLemmas.{frame-cancel, still-expire}
 use Rattle.laws_runs.proofs.StillLemmas.{Still}
 use Rattle.laws_runs.proofs.EventLemmas.{Next}
 use Rattle.laws_runs.proofs.BirthLemmas.{born_alive}
+use Rattle.laws_calls.specs.Outside.{Outside}
 use Rattle.laws_calls.specs.Tasks.{Seen, Own, Knowledge, Unseen, ByJoiner, Late, Heard}
 use Rattle.laws_calls.specs.Steps.{Row, Table}
-use Rattle.laws_calls.specs.Covers.{subs, PartFits, ScopeFits, SeenFits, TaskFits, IsRight, IsTimely, Watched, Covers, alive_in}
+use Rattle.laws_calls.specs.Covers.{subs, PartFits, ScopeFits, SeenFits, TaskFits, IsRight, IsTimely, IsCovered, Covers, alive_in}
 use Rattle.laws_calls.proofs.Lists.{all_map, no}
-use Rattle.laws_calls.proofs.Turns.{Facts, FlagsHaveCause, alive_later, watched_before, seen_same, task_same}
+use Rattle.laws_calls.proofs.Turns.{Facts, FlagsHaveCause, alive_later, covered_before, seen_same, task_same}
 use Rattle.laws_calls.proofs.Moves.{subs_same}
 use Rattle.laws_calls.proofs.Early.{order_same}
 use Rattle.laws_calls.proofs.Phases.{cancel_here, cancel_other}
@@ -31,7 +32,7 @@ joined_stays : (phase : Phase) → is_joined phase ≡ true → can_join phase �
 joined_stays Joined e k = cc
 joined_stays _ e k = cc
 
-module _ (p : Program) (interrupts : ℕ) (t : Table) (root : Row) (w : World) (h : Facts w) (s : ℕ) (can : can_expire (scope_at w s) ≡ true) (born : s < length w.scopes) where
+module _ (p : Program) (outside : Outside) (t : Table) (root : Row) (w : World) (h : Facts w) (s : ℕ) (can : can_expire (scope_at w s) ≡ true) (born : s < length w.scopes) where
   abbrev scope : Scope
   scope = scope_at w s
 
@@ -61,7 +62,7 @@ module _ (p : Program) (interrupts : ℕ) (t : Table) (root : Row) (w : World) (
   joins : can_join scope.phase ≡ true
   joins = (and_parts (scope.timed && not scope.expired) (can_join scope.phase) can).1
 
-  module _ (still : Still w v) (n : Next w v) (flags : FlagsHaveCause interrupts w v) where
+  module _ (still : Still w v) (n : Next w v) (flags : FlagsHaveCause outside w v) where
     same_subs : (r : ℕ) → subs v r ≡ subs w r
     same_subs r = subs_same w v r still.kept.tasks (λ k. (still.kept.task k).same.scope)
 
@@ -89,7 +90,7 @@ module _ (p : Program) (interrupts : ℕ) (t : Table) (root : Row) (w : World) (
               (λ i part at e. record { may = e.may; whole = λ alive free. absurd (no free) }) k.parts;
         }))
 
-    covers_expired : Covers p interrupts t root w → Covers p interrupts t root v
+    covers_expired : Covers p outside t root w → Covers p outside t root v
     covers_expired c =
         record {
           rows = c.rows;
@@ -108,27 +109,27 @@ module _ (p : Program) (interrupts : ℕ) (t : Table) (root : Row) (w : World) (
         keeps r z k true e = let same : r ≡ s = grind (arith, nat_tests) in subst (λ i. SeenFits c.rows v i z) (sym same) (seen_expired c.rows z (subst (λ i. SeenFits c.rows w i z) same k))
         keeps r z k false e = let other : r ≡ s → ⊥ = grind (arith, nat_tests) in seen_same w v h n c.rows c.rows r z (others r other) (same_subs r) (λ i less. refl) k
 
-        covered : (k : ℕ) → lives (task_at v k) ≡ true → Watched v k → (own : Own) × TaskFits interrupts c.rows v k own
-        covered k alive watched =
+        covered : (k : ℕ) → lives (task_at v k) ≡ true → IsCovered outside v k → (own : Own) × TaskFits outside c.rows v k own
+        covered k alive owed =
             let less = born_alive v k alive in
             let count = still.kept.tasks in
             let born_k : k < length w.tasks = omega (arith, less, count) in
             let before : lives (task_at w k) ≡ true = alive_later (task_at w k) (task_at v k) (n.later.task k born_k) alive in
-            let old : (own : Own) × TaskFits interrupts c.rows w k own = c.tasks k before (watched_before w v h n k born_k watched) in (
+            let old : (own : Own) × TaskFits outside c.rows w k own = c.tasks k before (covered_before w v h n outside k born_k owed) in (
               old.0,
-              task_same w v h n interrupts flags c.rows c.rows k old.0 before watched (frame-cancel w1 s k) (λ i less2. refl)
+              task_same w v h n outside flags c.rows c.rows k old.0 before owed (frame-cancel w1 s k) (λ i less2. refl)
                   (λ r z less2 owner f. keeps r z f (nat_eq r s) refl)
                   (λ r i z less2 owner e. subst (λ us. slice_get us i ≡ Some z) (sym (same_subs r)) e)
                   old.1,
             )
 
-pub expiry_covered : (p : Program) (interrupts : ℕ) (t : Table) (root : Row) (w : World) → Facts w → (s : ℕ) → Covers p interrupts t root w → Next w (expire w s) → FlagsHaveCause interrupts w (expire w s) → Covers p interrupts t root (expire w s)
-expiry_covered p interrupts t root w h s c n flags = by (can_expire (scope_at w s)) refl (still-expire w s) n flags
+pub expiry_covered : (p : Program) (outside : Outside) (t : Table) (root : Row) (w : World) → Facts w → (s : ℕ) → Covers p outside t root w → Next w (expire w s) → FlagsHaveCause outside w (expire w s) → Covers p outside t root (expire w s)
+expiry_covered p outside t root w h s c n flags = by (can_expire (scope_at w s)) refl (still-expire w s) n flags
   where
     by : (b : Bool) → can_expire (scope_at w s) ≡ b
         → Still w (cond b (cancel (with_scope w s (record (scope_at w s) { expired = true })) s) w)
         → Next w (cond b (cancel (with_scope w s (record (scope_at w s) { expired = true })) s) w)
-        → FlagsHaveCause interrupts w (cond b (cancel (with_scope w s (record (scope_at w s) { expired = true })) s) w)
-        → Covers p interrupts t root (cond b (cancel (with_scope w s (record (scope_at w s) { expired = true })) s) w)
-    by true can still n2 flags2 = covers_expired p interrupts t root w h s can (within can_expire w.scopes s no_scope refl can) still n2 flags2 c
+        → FlagsHaveCause outside w (cond b (cancel (with_scope w s (record (scope_at w s) { expired = true })) s) w)
+        → Covers p outside t root (cond b (cancel (with_scope w s (record (scope_at w s) { expired = true })) s) w)
+    by true can still n2 flags2 = covers_expired p outside t root w h s can (within can_expire w.scopes s no_scope refl can) still n2 flags2 c
     by false can still n2 flags2 = c

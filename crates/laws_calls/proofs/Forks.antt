@@ -1,7 +1,7 @@
 -- A subtask is forked.
 use Rattle.std.proofs.Common.{◌≡◌, ℕ, zero, suc, ◌<◌, ◌⊎◌, inl, inr, List, [], ◌∷◌, ◌++◌}
 use Rattle.std.proofs.Common.{Bool, true, false, Option, Some, None, refl, sym, ◌∙◌, ap, subst, length}
-use Rattle.std.proofs.Common.{arith, get_or, set, cond, nat_eq, length-set, length-append, get_or-set_same, get_or-set_other, not}
+use Rattle.std.proofs.Common.{arith, get_or, set, cond, nat_eq, length-set, length-append, get_or-set_same, get_or-set_other, not, ◌&&◌}
 use Rattle.std.proofs.Common.{replicate, take, append-nil}
 use Rattle.std.specs.Prelude.{◌==◌, slice_get, reverse}
 use Rattle.std.specs.List.{filter, range_with_len}
@@ -31,15 +31,16 @@ use Rattle.laws_runs.proofs.EffectLemmas.{first_no}
 use Rattle.laws_runs.proofs.EventLemmas.{Right, Next}
 use Rattle.laws_runs.proofs.FrameLemmas.{own_slot, at_own-is}
 use Rattle.laws_runs.proofs.BirthLemmas.{born_alive}
+use Rattle.laws_calls.specs.Outside.{Outside}
 use Rattle.laws_calls.specs.Held as held
 use Rattle.laws_calls.specs.Tasks.{Among, AllTwo, Call, HasWay, Part, May, Seen, Own, bare, begin, births_in, Way, Knowledge, Unseen, ByJoiner, Heard, nothing, Late}
 use Rattle.laws_calls.specs.Steps.{Row, Table, IsTable, IsRowOf, Leads, Forks, call_of, with_handle, forked, is_cancelled, unstarted_step, new_part}
 use Rattle.laws_calls.specs.Covers.{subs, PartFits, ScopeFits, SeenFits, HeldFits, FrameFits, TaskFits}
-use Rattle.laws_calls.specs.Covers.{Watched, Covers, alive_in, IsRight, IsTimely}
+use Rattle.laws_calls.specs.Covers.{IsCovered, Covers, alive_in, IsRight, IsTimely}
 use Rattle.laws_calls.proofs.Lists.{all_map, all_set, all_length, all_append, all_put_place, Apart, filter_agree, range_last}
 use Rattle.laws_calls.proofs.Lists.{range_among, get_front, get_last, no}
-use Rattle.laws_calls.proofs.Turns.{Facts, FlagsHaveCause, alive_later, watched_before, flag_stays, environment_stays}
-use Rattle.laws_calls.proofs.Turns.{part_same, seen_same, held_same, task_same, apart_births, sub_born, owner_watched, watched_or_not, free_around}
+use Rattle.laws_calls.proofs.Turns.{Facts, FlagsHaveCause, alive_later, covered_before, flag_stays, environment_stays}
+use Rattle.laws_calls.proofs.Turns.{part_same, seen_same, held_same, task_same, apart_births, sub_born, owner_covered, covered_or_not}
 use Rattle.laws_calls.proofs.Moves.{OwnScope, own_scope}
 use Rattle.laws_calls.proofs.Early.{order_more}
 use Rattle.laws_calls.proofs.Possible.{are_possible}
@@ -62,10 +63,10 @@ unborn w s o = by (completion_of (scope_at w s).completions (length w.tasks)) re
         let both : None ≡ Some end = sym b ∙ a in
         cc
 
--- what is known of a forker that is watched
-record Forker (p : Program) (interrupts : ℕ) (t : Table) (w : World) (u x g : ℕ) (q : Option ℕ) (rows : ℕ → Row) (row : Row) : Type 0 where
+-- what is known of a forker that is covered
+record Forker (p : Program) (outside : Outside) (t : Table) (w : World) (u x g : ℕ) (q : Option ℕ) (rows : ℕ → Row) (row : Row) : Type 0 where
   pub own : Own
-  pub old : TaskFits interrupts rows w u own
+  pub old : TaskFits outside rows w u own
   pub scope : OwnScope rows w (task_at w u).frame own x (named (slot (task_at w u).frame x))
   pub ways : List Way
   pub leads : Leads (rows u).states (forked p own scope.place scope.seen ways g q)
@@ -163,14 +164,14 @@ module _ (p : Program) (w : World) (h : Facts w) (u x g : ℕ) (q : Option ℕ) 
 
   -- ---- the new task and the forker
 
-  module _ (nx : Next w after) (born : u < n) (alive : lives (task_at w u) ≡ true) (interrupts : ℕ) (t : Table) (rows later : ℕ → Row) (row : Row) (agree : (k : ℕ) → k < n → later k ≡ rows k) (new : later n ≡ row) (k : Forker p interrupts t w u x g q rows row) where
+  module _ (nx : Next w after) (born : u < n) (alive : lives (task_at w u) ≡ true) (outside : Outside) (t : Table) (rows later : ℕ → Row) (row : Row) (agree : (k : ℕ) → k < n → later k ≡ rows k) (new : later n ≡ row) (k : Forker p outside t w u x g q rows row) where
     abbrev opened : List ℕ
     opened = births_in f.entries
 
     abbrev call : Call
     call = call_of p k.own k.scope.seen g
 
-    child_fits : (scope_at w s).cancelled ≡ false → TaskFits interrupts later after n (begin held.Lent call)
+    child_fits : (scope_at w s).cancelled ≡ false → TaskFits outside later after n (begin held.Lent call)
     child_fits free =
         record {
           there = subst (λ (r : Row). Among r.states (begin held.Lent call)) (sym new) (k.is_row free).begins;
@@ -260,6 +261,11 @@ known_gone Late scope e r = r.0
 known_gone Unseen scope e r = cc
 known_gone Heard scope e r = cc
 
+-- a subtask that starts is in a scope that is not cancelled
+starts : (cancelled : Bool) → (not cancelled && true) ≡ true → cancelled ≡ false
+starts false e = refl
+starts true e = cc
+
 -- ---- a row for the new task
 
 abbrev with_row : (ℕ → Row) → ℕ → Row → ℕ → Row
@@ -278,13 +284,13 @@ row_listed t rows n row old new k = by (k == n)
     by true = new
     by false = old k
 
--- the row, and what it is if the forker is watched
-record Chosen (p : Program) (interrupts : ℕ) (t : Table) (w : World) (u x g : ℕ) (q : Option ℕ) (rows : ℕ → Row) : Type 0 where
+-- the row, and what it is if the forker is covered
+record Chosen (p : Program) (outside : Outside) (t : Table) (w : World) (u x g : ℕ) (q : Option ℕ) (rows : ℕ → Row) : Type 0 where
   pub row : Row
   pub listed : Among t row
-  pub forker : Watched w u → Forker p interrupts t w u x g q rows row
+  pub forker : IsCovered outside w u → Forker p outside t w u x g q rows row
 
-module _ (p : Program) (interrupts : ℕ) (t : Table) (root : Row) (is : IsTable p interrupts t root) (w : World) (h : Facts w) (u x g : ℕ) (q : Option ℕ) (d : Does p w u (Fork x g q)) where
+module _ (p : Program) (outside : Outside) (t : Table) (root : Row) (is : IsTable p outside t root) (w : World) (h : Facts w) (u x g : ℕ) (q : Option ℕ) (d : Does p w u (Fork x g q)) where
   mine : slot (f p w h u x g q) x ≡ slots.Own (s p w h u x g q)
   mine = own_slot (slot (task_at w u).frame x) (first_no _ _ (first_no _ _ d.fine.slots)) d.fine.own
 
@@ -296,8 +302,8 @@ module _ (p : Program) (interrupts : ℕ) (t : Table) (root : Row) (is : IsTable
   unasked rows own o = not_asked (scope_at w (s p w h u x g q)).phase o.seen.phase legal o.fits.phase o.fits.asked
 
   -- whether the owner has seen that the scope is cancelled
-  by_knowledge : (c : Covers p interrupts t root w) → Watched w u → (own : Own) → TaskFits interrupts c.rows w u own → (o : OwnScope c.rows w (task_at w u).frame own x (s p w h u x g q)) → (b : Bool) → is_cancelled o.seen.knowledge ≡ b → Chosen p interrupts t w u x g q c.rows
-  by_knowledge c watched own k o false e =
+  by_knowledge : (c : Covers p outside t root w) → IsCovered outside w u → (own : Own) → TaskFits outside c.rows w u own → (o : OwnScope c.rows w (task_at w u).frame own x (s p w h u x g q)) → (b : Bool) → is_cancelled o.seen.knowledge ≡ b → Chosen p outside t w u x g q c.rows
+  by_knowledge c owed own k o false e =
       let r : Forks p t (c.rows u).states own x g q o.place o.seen =
       is.forks (c.rows u) own x g o.place q o.seen (c.listed u) k.there (instr_of p (task_at w u).frame own (Fork x g q) k.fits.frame d.at) o.owns e
       in
@@ -306,7 +312,7 @@ module _ (p : Program) (interrupts : ℕ) (t : Table) (root : Row) (is : IsTable
         listed = r.is_row.there;
         forker = λ seen. record { own = own; old = k; scope = o; ways = r.row.ways; leads = r.leads; unasked = unasked c.rows own o; is_row = λ free. r.is_row; told = λ free end way. way };
       }
-  by_knowledge c watched own k o true e =
+  by_knowledge c owed own k o true e =
       let gone : (scope_at w (s p w h u x g q)).cancelled ≡ true = known_gone o.seen.knowledge (scope_at w (s p w h u x g q)) e o.fits.known in
       record {
         row = root;
@@ -323,14 +329,14 @@ module _ (p : Program) (interrupts : ℕ) (t : Table) (root : Row) (is : IsTable
         };
       }
 
-  choose : (c : Covers p interrupts t root w) → Watched w u ⊎ (Watched w u → ⊥) → Chosen p interrupts t w u x g q c.rows
-  choose c (inl watched) =
-      let old : (own : Own) × TaskFits interrupts c.rows w u own = c.tasks u d.alive watched in
+  choose : (c : Covers p outside t root w) → IsCovered outside w u ⊎ (IsCovered outside w u → ⊥) → Chosen p outside t w u x g q c.rows
+  choose c (inl owed) =
+      let old : (own : Own) × TaskFits outside c.rows w u own = c.tasks u d.alive owed in
       let o : OwnScope c.rows w (task_at w u).frame old.0 x (s p w h u x g q) = own_scope c.rows w (task_at w u).frame old.0 x (s p w h u x g q) old.1.fits mine in
-      by_knowledge c watched old.0 old.1 o (is_cancelled o.seen.knowledge) refl
-  choose c (inr never) = record { row = root; listed = is.listed; forker = λ watched. absurd (never watched) }
+      by_knowledge c owed old.0 old.1 o (is_cancelled o.seen.knowledge) refl
+  choose c (inr never) = record { row = root; listed = is.listed; forker = λ owed. absurd (never owed) }
 
-  module _ (c : Covers p interrupts t root w) (nx : Next w (after p w h u x g q)) (flags : FlagsHaveCause interrupts w (after p w h u x g q)) (o : Chosen p interrupts t w u x g q c.rows) where
+  module _ (c : Covers p outside t root w) (nx : Next w (after p w h u x g q)) (flags : FlagsHaveCause outside w (after p w h u x g q)) (o : Chosen p outside t w u x g q c.rows) where
     abbrev v : World
     v = after p w h u x g q
 
@@ -349,62 +355,62 @@ module _ (p : Program) (interrupts : ℕ) (t : Table) (root : Row) (is : IsTable
     owner : (scope_at w (s p w h u x g q)).owner ≡ u
     owner = (h.right.sound.own u x (s p w h u x g q) mine).owner
 
-    forker_covered : Watched v u → (own : Own) × TaskFits interrupts later v u own
-    forker_covered watched =
-        let k = o.forker (watched_before w v h nx u born watched) in
+    forker_covered : IsCovered outside v u → (own : Own) × TaskFits outside later v u own
+    forker_covered owed =
+        let k = o.forker (covered_before w v h nx outside u born owed) in
         let next_own : Own = forked p k.own k.scope.place k.scope.seen k.ways g q in
-        let fits : FrameFits later v (next p w h u x g q) next_own = forker_fits p w h u x g q nx born d.alive interrupts t c.rows later o.row agree (row_new c.rows m o.row) k in
+        let fits : FrameFits later v (next p w h u x g q) next_own = forker_fits p w h u x g q nx born d.alive outside t c.rows later o.row agree (row_new c.rows m o.row) k in
         let there : Among (c.rows u).states next_own = k.leads (are_possible later v nx.right (births_in (task_at w u).frame.entries) next_own.scopes fits.scopes)
         in (
           next_own,
           record {
             there = subst (λ (r : Row). Among r.states next_own) (sym (agree u born)) there;
             fits = subst (λ (y : Task). FrameFits later v y.frame next_own) (sym (task_forker p w h u x g q born)) fits;
-            flag = flag_stays w v h nx interrupts flags u born watched k.old.flag;
+            flag = flag_stays w v h nx outside flags u born owed k.old.flag;
             environment = environment_stays w v h nx u born ∙ k.old.environment ∙ ap (λ (r : Row). r.call.environment) (sym (agree u born));
           },
         )
 
-    child_covered : Watched v m → (own : Own) × TaskFits interrupts later v m own
-    child_covered watched =
+    child_covered : lives (task_at v m) ≡ true → IsCovered outside v m → (own : Own) × TaskFits outside later v m own
+    child_covered alive owed =
         let inside : (task_at v m).scope ≡ Some (s p w h u x g q) = ap (λ (y : Task). y.scope) (task_new p w h u x g q born) in
-        let by_owner = owner_watched v nx.right m (s p w h u x g q) inside watched in
+        let by_owner = owner_covered outside v nx.right m (s p w h u x g q) inside owed in
         let same : (scope_at v (s p w h u x g q)).owner ≡ u = ap (λ (z : Scope). z.owner) (scope_same p w h u x g q (s p w h u x g q)) ∙ owner in
-        let before : Watched w u = watched_before w v h nx u born (subst (λ k. Watched v k) same by_owner) in
+        let before : IsCovered outside w u = covered_before w v h nx outside u born (subst (λ k. IsCovered outside v k) same by_owner) in
         let k = o.forker before in
-        let free : (scope_at w (s p w h u x g q)).cancelled ≡ false = ap (λ (z : Scope). z.cancelled) (sym (scope_same p w h u x g q (s p w h u x g q))) ∙ free_around v nx.right m (s p w h u x g q) inside watched in
-        (begin held.Lent (call_of p k.own k.scope.seen g), child_fits p w h u x g q nx born d.alive interrupts t c.rows later o.row agree (row_new c.rows m o.row) k free)
+        let free : (scope_at w (s p w h u x g q)).cancelled ≡ false = starts (scope_at w (s p w h u x g q)).cancelled (subst (λ (y : Task). lives y ≡ true) (task_new p w h u x g q born) alive) in
+        (begin held.Lent (call_of p k.own k.scope.seen g), child_fits p w h u x g q nx born d.alive outside t c.rows later o.row agree (row_new c.rows m o.row) k free)
 
-    other_covered : (k : ℕ) → k < m → (k ≡ u → ⊥) → lives (task_at v k) ≡ true → Watched v k → (own : Own) × TaskFits interrupts later v k own
-    other_covered k less other alive watched =
+    other_covered : (k : ℕ) → k < m → (k ≡ u → ⊥) → lives (task_at v k) ≡ true → IsCovered outside v k → (own : Own) × TaskFits outside later v k own
+    other_covered k less other alive owed =
         let before : lives (task_at w k) ≡ true = alive_later (task_at w k) (task_at v k) (nx.later.task k less) alive in
-        let old : (own : Own) × TaskFits interrupts c.rows w k own = c.tasks k before (watched_before w v h nx k less watched) in
+        let old : (own : Own) × TaskFits outside c.rows w k own = c.tasks k before (covered_before w v h nx outside k less owed) in
         let apart : (r : ℕ) → (scope_at w r).owner ≡ k → r ≡ s p w h u x g q → ⊥ = λ r by_k e. other (sym by_k ∙ ap (λ i. (scope_at w i).owner) e ∙ owner) in (
           old.0,
-          task_same w v h nx interrupts flags c.rows later k old.0 before watched (ap (λ (y : Task). y.frame) (task_old p w h u x g q k less other)) agree
+          task_same w v h nx outside flags c.rows later k old.0 before owed (ap (λ (y : Task). y.frame) (task_old p w h u x g q k less other)) agree
               (λ r y less2 by_k e. seen_same w v h nx c.rows later r y (scope_same p w h u x g q r) (subs_other p w h u x g q born r (apart r by_k)) agree e)
               (λ r i z less2 by_k e. subst (λ us. slice_get us i ≡ Some z) (sym (subs_other p w h u x g q born r (apart r by_k))) e)
               old.1,
         )
 
-    covered : (k : ℕ) → lives (task_at v k) ≡ true → Watched v k → (own : Own) × TaskFits interrupts later v k own
-    covered k alive watched = by (nat_eq k u) refl (nat_eq k m) refl
+    covered : (k : ℕ) → lives (task_at v k) ≡ true → IsCovered outside v k → (own : Own) × TaskFits outside later v k own
+    covered k alive owed = by (nat_eq k u) refl (nat_eq k m) refl
       where
-        by : (a : Bool) → nat_eq k u ≡ a → (b : Bool) → nat_eq k m ≡ b → (own : Own) × TaskFits interrupts later v k own
+        by : (a : Bool) → nat_eq k u ≡ a → (b : Bool) → nat_eq k m ≡ b → (own : Own) × TaskFits outside later v k own
         by true e b e2 =
             let same : k ≡ u = grind (arith, nat_tests) in
-            subst (λ i. (own : Own) × TaskFits interrupts later v i own) (sym same) (forker_covered (subst (λ i. Watched v i) same watched))
+            subst (λ i. (own : Own) × TaskFits outside later v i own) (sym same) (forker_covered (subst (λ i. IsCovered outside v i) same owed))
         by false e true e2 =
             let same : k ≡ m = grind (arith, nat_tests) in
-            subst (λ i. (own : Own) × TaskFits interrupts later v i own) (sym same) (child_covered (subst (λ i. Watched v i) same watched))
+            subst (λ i. (own : Own) × TaskFits outside later v i own) (sym same) (child_covered (subst (λ i. lives (task_at v i) ≡ true) same alive) (subst (λ i. IsCovered outside v i) same owed))
         by false e false e2 =
             let other : k ≡ u → ⊥ = grind (arith, nat_tests) in
             let old : k ≡ m → ⊥ = grind (arith, nat_tests) in
             let less = born_alive v k alive in
             let n1 = count p w h u x g q in
-            other_covered k (omega (arith, less, n1, old)) other alive watched
+            other_covered k (omega (arith, less, n1, old)) other alive owed
 
-    covers_chosen : Covers p interrupts t root v
+    covers_chosen : Covers p outside t root v
     covers_chosen =
         record {
           rows = later;
@@ -416,5 +422,5 @@ module _ (p : Program) (interrupts : ℕ) (t : Table) (root : Row) (is : IsTable
               c.ended e (sym (of_old p w h u x g q (λ (y : Task). y.outcome ≡ (task_at w 0).outcome) 0 (omega (arith, born)) born refl refl) ∙ is2);
         }
 
-  pub fork_covered : (c : Covers p interrupts t root w) → Next w (after p w h u x g q) → FlagsHaveCause interrupts w (after p w h u x g q) → Covers p interrupts t root (after p w h u x g q)
-  fork_covered c nx flags = covers_chosen c nx flags (choose c (watched_or_not w h.right (length w.tasks) u (born_alive w u d.alive)))
+  pub fork_covered : (c : Covers p outside t root w) → Next w (after p w h u x g q) → FlagsHaveCause outside w (after p w h u x g q) → Covers p outside t root (after p w h u x g q)
+  fork_covered c nx flags = covers_chosen c nx flags (choose c (covered_or_not outside w h.right u (born_alive w u d.alive)))

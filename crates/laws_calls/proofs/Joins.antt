@@ -39,6 +39,7 @@ use Rattle.laws_runs.proofs.EventLemmas.{Next}
 use Rattle.laws_runs.proofs.FrameLemmas.{own_slot, at_own-is, Leaves}
 use Rattle.laws_runs.proofs.StayLemmas.{ended_is_dead}
 use Rattle.laws_runs.proofs.BirthLemmas.{born_alive}
+use Rattle.laws_calls.specs.Outside.{Outside}
 use Rattle.laws_calls.specs.Tasks.{Among, AllTwo, May, Part, Seen, Own, bare, births_in, Knowledge, Unseen, ByJoiner, Late, Heard, nothing}
 use Rattle.laws_calls.specs.Steps.{Row, Table, IsTable, Steps, MayEnd, with_seen, answered, joined, decided, only, ended, after_cancel, after_all, timed_out, after_expiry, timeout_step}
 use Rattle.laws_calls.specs.Steps.{attempted, attempted_step, is_unseen, by_one_step, by_count_step, heard_step, none_step, is_by_one, is_until, is_any}
@@ -89,7 +90,7 @@ verdict_frame (verdict.Ok None) w t s f failed = refl
 verdict_frame (verdict.Ok (Some v)) w t s f failed = refl
 verdict_frame (verdict.Failed c) w t s f failed = refl
 
-module _ (p : Program) (interrupts : ℕ) (t : Table) (root : Row) (is : IsTable p interrupts t root) (w : World) (h : Facts w) (u x : ℕ) (failed timeout : Option ℕ) (to_i : ℕ) (d : Does p w u (Join x failed timeout to_i)) where
+module _ (p : Program) (outside : Outside) (t : Table) (root : Row) (is : IsTable p outside t root) (w : World) (h : Facts w) (u x : ℕ) (failed timeout : Option ℕ) (to_i : ℕ) (d : Does p w u (Join x failed timeout to_i)) where
   abbrev f : Frame
   f = (task_at w u).frame
 
@@ -133,7 +134,7 @@ module _ (p : Program) (interrupts : ℕ) (t : Table) (root : Row) (is : IsTable
     pub answer : Verdict
     pub seen : Seen
     pub same : told ≡ answer
-    pub step : Steps p interrupts (rows u).call own (Join x failed timeout to_i) (joined own o.place seen answer (unwrap_or failed 0))
+    pub step : Steps p outside (rows u).call own (Join x failed timeout to_i) (joined own o.place seen answer (unwrap_or failed 0))
     pub fits : ScopeFits rows (alive_in w) after_join (subs w s) (record seen { phase = Joined })
 
   -- the scope has become z, and the task has the frame g
@@ -158,7 +159,7 @@ module _ (p : Program) (interrupts : ℕ) (t : Table) (root : Row) (is : IsTable
               (λ i part at e. part_same w v h nx rows rows z i part (sub_born w s i at) refl e) k.parts;
         }))
 
-    fits_rescoped : (rows : ℕ → Row) (own : Own) → TaskFits interrupts rows w u own → (o : OwnScope rows w f own x s) (y : Seen) (next : Frame) → Leaves f g → bare g ≡ next
+    fits_rescoped : (rows : ℕ → Row) (own : Own) → TaskFits outside rows w u own → (o : OwnScope rows w f own x s) (y : Seen) (next : Frame) → Leaves f g → bare g ≡ next
         → ScopeFits rows (alive_in w) z (subs w s) y → FrameFits rows v g (record (with_seen own o.place y) { frame = next })
     fits_rescoped rows own k o y next same e new =
         record {
@@ -175,7 +176,7 @@ module _ (p : Program) (interrupts : ℕ) (t : Table) (root : Row) (is : IsTable
   abbrev g : Frame
   g = answered told f (unwrap_or failed 0)
 
-  goes_on : (c : Covers p interrupts t root w) (v : World) → Next w v → Rescoped w v u s g after_join → (own : Own) → TaskFits interrupts c.rows w u own → (o : OwnScope c.rows w f own x s) → Outcome c.rows own o → GoesOn c.rows v u g
+  goes_on : (c : Covers p outside t root w) (v : World) → Next w v → Rescoped w v u s g after_join → (own : Own) → TaskFits outside c.rows w u own → (o : OwnScope c.rows w f own x s) → Outcome c.rows own o → GoesOn c.rows v u g
   goes_on c v nx re own k o a =
       let next : Own = joined own o.place a.seen a.answer (unwrap_or failed 0) in
       let frame : bare g ≡ answered a.answer own.frame (unwrap_or failed 0) =
@@ -498,14 +499,14 @@ module _ (p : Program) (interrupts : ℕ) (t : Table) (root : Row) (is : IsTable
   waiting false false e = cc
   waiting false true e = (refl, refl)
 
-  covers_attempted : (c : Covers p interrupts t root w) → scope.expired ≡ false → Next w attempt → FlagsHaveCause interrupts w attempt → (scope.cancelled || not (any_lives w s)) ≡ false → Covers p interrupts t root attempt
+  covers_attempted : (c : Covers p outside t root w) → scope.expired ≡ false → Next w attempt → FlagsHaveCause outside w attempt → (scope.cancelled || not (any_lives w s)) ≡ false → Covers p outside t root attempt
   covers_attempted c on_time nx flags waits =
       let to : Frame = goes f to_i 0 [] in
       let re : Rescoped w attempt u s to after_attempt = rescoped_flag w (with_phase w s Attempted) u s f to after_attempt false born (rescoped_phase w u s born_s owner Attempted) in
       let set : (task_at w u).flag ≡ true = flagged scope.expired scope.cancelled (any_lives w s) (task_at w u).flag can_join_now on_time waits in
       let free = waiting scope.cancelled (any_lives w s) waits in
-      covers_turned p interrupts t root w attempt h nx flags c u to re.turned d.alive
-      (λ watched own k.
+      covers_turned p outside t root w attempt h nx flags c u to re.turned d.alive
+      (λ owed own k.
       let o = own_scope c.rows w f own x s k.fits mine in
       let next : Own = attempted own o.place o.seen to_i in
       let fits : FrameFits c.rows attempt to next =
@@ -523,32 +524,32 @@ module _ (p : Program) (interrupts : ℕ) (t : Table) (root : Row) (is : IsTable
   abbrev outcome : World
   outcome = effects.joined w u s g
 
-  covers_outcome : (c : Covers p interrupts t root w) → scope.expired ≡ false → Next w outcome → FlagsHaveCause interrupts w outcome → (scope.cancelled || not (any_lives w s)) ≡ true → Covers p interrupts t root outcome
+  covers_outcome : (c : Covers p outside t root w) → scope.expired ≡ false → Next w outcome → FlagsHaveCause outside w outcome → (scope.cancelled || not (any_lives w s)) ≡ true → Covers p outside t root outcome
   covers_outcome c on_time nx flags done =
       let re : Rescoped w outcome u s g after_join = rescoped_frame w (with_phase w s Joined) u s f g after_join born (rescoped_phase w u s born_s owner Joined) in
-      covers_turned p interrupts t root w outcome h nx flags c u g re.turned d.alive
-      (λ watched own k.
+      covers_turned p outside t root w outcome h nx flags c u g re.turned d.alive
+      (λ owed own k.
       let o = own_scope c.rows w f own x s k.fits mine in
       goes_on c outcome nx re own k o (answers c.rows own o on_time done))
 
   abbrev verdict_world : World
   verdict_world = join_verdict told w u s f (unwrap_or failed 0)
 
-  covers_verdict : (c : Covers p interrupts t root w) → scope.expired ≡ false → Next w verdict_world → FlagsHaveCause interrupts w verdict_world → (scope.cancelled || not (any_lives w s)) ≡ true → Covers p interrupts t root verdict_world
+  covers_verdict : (c : Covers p outside t root w) → scope.expired ≡ false → Next w verdict_world → FlagsHaveCause outside w verdict_world → (scope.cancelled || not (any_lives w s)) ≡ true → Covers p outside t root verdict_world
   covers_verdict c on_time nx flags done =
       let same : verdict_world ≡ outcome = verdict_frame told w u s f (unwrap_or failed 0) in
-      subst (λ (v : World). Covers p interrupts t root v) (sym same) (covers_outcome c on_time (subst (λ (v : World). Next w v) same nx) (subst (λ (v : World). FlagsHaveCause interrupts w v) same flags) done)
+      subst (λ (v : World). Covers p outside t root v) (sym same) (covers_outcome c on_time (subst (λ (v : World). Next w v) same nx) (subst (λ (v : World). FlagsHaveCause outside w v) same flags) done)
 
   abbrev late : World
   late = effects.joined w u s (goes f (unwrap_or timeout 0) 0 [])
 
-  covers_late : (c : Covers p interrupts t root w) → scope.expired ≡ true → Next w late → FlagsHaveCause interrupts w late → Covers p interrupts t root late
+  covers_late : (c : Covers p outside t root w) → scope.expired ≡ true → Next w late → FlagsHaveCause outside w late → Covers p outside t root late
   covers_late c expired nx flags =
       let to_pc : ℕ = unwrap_or timeout 0 in
       let re : Rescoped w late u s (goes f to_pc 0 []) after_join = rescoped_frame w (with_phase w s Joined) u s f (goes f to_pc 0 []) after_join born (rescoped_phase w u s born_s owner Joined) in
       let gone : scope.cancelled ≡ true = (h.caused s born_s).expired expired in
-      covers_turned p interrupts t root w late h nx flags c u (goes f to_pc 0 []) re.turned d.alive
-      (λ watched own k.
+      covers_turned p outside t root w late h nx flags c u (goes f to_pc 0 []) re.turned d.alive
+      (λ owed own k.
       let o = own_scope c.rows w f own x s k.fits mine in
       let next : Own = timed_out own o.place o.seen to_pc in
       let seen_late : ScopeFits c.rows (alive_in w) after_join (subs w s) (record (after_expiry o.seen) { phase = Joined }) =
@@ -569,11 +570,11 @@ module _ (p : Program) (interrupts : ℕ) (t : Table) (root : Row) (is : IsTable
   abbrev after : World
   after = join_scope w u f s (unwrap_or failed 0) (unwrap_or timeout 0) to_i
 
-  pub join_covered : (c : Covers p interrupts t root w) → Next w after → FlagsHaveCause interrupts w after → Covers p interrupts t root after
+  pub join_covered : (c : Covers p outside t root w) → Next w after → FlagsHaveCause outside w after → Covers p outside t root after
   unfolding join_scope
   join_covered c nx flags = by scope.expired refl (scope.cancelled || not (any_lives w s)) refl nx flags
     where
-      by : (a : Bool) → scope.expired ≡ a → (b : Bool) → (scope.cancelled || not (any_lives w s)) ≡ b → Next w (cond a late (cond b verdict_world attempt)) → FlagsHaveCause interrupts w (cond a late (cond b verdict_world attempt)) → Covers p interrupts t root (cond a late (cond b verdict_world attempt))
+      by : (a : Bool) → scope.expired ≡ a → (b : Bool) → (scope.cancelled || not (any_lives w s)) ≡ b → Next w (cond a late (cond b verdict_world attempt)) → FlagsHaveCause outside w (cond a late (cond b verdict_world attempt)) → Covers p outside t root (cond a late (cond b verdict_world attempt))
       by true e b e2 n2 flags2 = covers_late c e n2 flags2
       by false e true e2 n2 flags2 = covers_verdict c e n2 flags2 e2
       by false e false e2 n2 flags2 = covers_attempted c e n2 flags2 e2

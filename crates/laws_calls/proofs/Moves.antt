@@ -17,15 +17,16 @@ use Rattle.laws_runs.specs.Tallies.{births}
 use Rattle.laws_runs.proofs.ListLemmas.{at_set}
 use Rattle.laws_runs.proofs.EventLemmas.{Next}
 use Rattle.laws_runs.proofs.BirthLemmas.{born_alive}
+use Rattle.laws_calls.specs.Outside.{Outside}
 use Rattle.laws_calls.specs.Held.{Held}
 use Rattle.laws_calls.specs.Held as held
 use Rattle.laws_calls.specs.Tasks.{Among, AllTwo, at_place, put_place, Part, Seen, Own, births_in, held_at}
 use Rattle.laws_calls.specs.Steps.{Row, Table, Owns, Knows}
 use Rattle.laws_calls.specs.Covers.{subs, PartFits, SeenFits, HeldFits, FrameFits, TaskFits, IsTimely, InOrder}
-use Rattle.laws_calls.specs.Covers.{Watched, Covers, alive_in}
+use Rattle.laws_calls.specs.Covers.{IsCovered, Covers, alive_in}
 use Rattle.laws_calls.proofs.Lists.{all_map, all_get, all_at, all_put, all_place, all_put_place}
 use Rattle.laws_calls.proofs.Lists.{filter_same, Apart, get_among}
-use Rattle.laws_calls.proofs.Turns.{Facts, FlagsHaveCause, alive_later, watched_before, flag_stays}
+use Rattle.laws_calls.proofs.Turns.{Facts, FlagsHaveCause, alive_later, covered_before, flag_stays}
 use Rattle.laws_calls.proofs.Turns.{environment_stays, seen_same, held_same, task_same, listed_inside}
 
 pub record Turned (w v : World) (t : ℕ) (g : Frame) : Type 0 where
@@ -48,17 +49,17 @@ pub record GoesOn (rows : ℕ → Row) (v : World) (t : ℕ) (g : Frame) : Type 
   pub there : Among (rows t).states own
   pub fits : FrameFits rows v g own
 
-module _ (p : Program) (interrupts : ℕ) (t : Table) (root : Row) (w v : World) (h : Facts w) (n : Next w v) (flags : FlagsHaveCause interrupts w v) where
+module _ (p : Program) (outside : Outside) (t : Table) (root : Row) (w v : World) (h : Facts w) (n : Next w v) (flags : FlagsHaveCause outside w v) where
   -- the task u goes on with the frame g
-  pub covers_turned : (c : Covers p interrupts t root w) (u : ℕ) (g : Frame) → Turned w v u g → lives (task_at w u) ≡ true
-      → (Watched w u → (own : Own) → TaskFits interrupts c.rows w u own → GoesOn c.rows v u g) → Covers p interrupts t root v
+  pub covers_turned : (c : Covers p outside t root w) (u : ℕ) (g : Frame) → Turned w v u g → lives (task_at w u) ≡ true
+      → (IsCovered outside w u → (own : Own) → TaskFits outside c.rows w u own → GoesOn c.rows v u g) → Covers p outside t root v
   covers_turned c u g turned alive moves =
       record {
         rows = c.rows;
         listed = c.listed;
         first = c.first;
         timely = turned.timely c.timely;
-        tasks = λ q lives_v watched. each q lives_v watched (nat_eq q u) refl;
+        tasks = λ q lives_v owed. each q lives_v owed (nat_eq q u) refl;
         ended = λ e is. c.ended e (sym (turned.outcome 0) ∙ is);
       }
     where
@@ -71,29 +72,29 @@ module _ (p : Program) (interrupts : ℕ) (t : Table) (root : Row) (w v : World)
       keeps : (q s : ℕ) (x : Seen) → (q ≡ u → ⊥) → s < length w.scopes → (scope_at w s).owner ≡ q → SeenFits c.rows w s x → SeenFits c.rows v s x
       keeps q s x other born_s owner f = seen_same w v h n c.rows c.rows s x (turned.scopes s born_s (λ e. other (sym owner ∙ e))) (subs_same w v s turned.count turned.scope) (λ k less. refl) f
 
-      each : (q : ℕ) → lives (task_at v q) ≡ true → Watched v q → (b : Bool) → nat_eq q u ≡ b → (own : Own) × TaskFits interrupts c.rows v q own
-      each q e watched true is =
+      each : (q : ℕ) → lives (task_at v q) ≡ true → IsCovered outside v q → (b : Bool) → nat_eq q u ≡ b → (own : Own) × TaskFits outside c.rows v q own
+      each q e owed true is =
           let same : q ≡ u = grind (arith, nat_tests) in
-          let by_owner : Watched w u = subst (λ k. Watched w k) same (watched_before w v h n q (born q e) watched) in
-          let old : (own : Own) × TaskFits interrupts c.rows w u own = c.tasks u alive by_owner in
+          let by_owner : IsCovered outside w u = subst (λ k. IsCovered outside w k) same (covered_before w v h n outside q (born q e) owed) in
+          let old : (own : Own) × TaskFits outside c.rows w u own = c.tasks u alive by_owner in
           let m : GoesOn c.rows v u g = moves by_owner old.0 old.1 in
           let less : u < length w.tasks = subst (λ k. k < length w.tasks) same (born q e) in
-          let seen : Watched v u = subst (λ k. Watched v k) same watched in
-          subst (λ k. (own : Own) × TaskFits interrupts c.rows v k own) (sym same)
+          let seen : IsCovered outside v u = subst (λ k. IsCovered outside v k) same owed in
+          subst (λ k. (own : Own) × TaskFits outside c.rows v k own) (sym same)
           ((
             m.own,
             record {
               there = m.there;
               fits = subst (λ (f : Frame). FrameFits c.rows v f m.own) (sym turned.here) m.fits;
-              flag = flag_stays w v h n interrupts flags u less seen old.1.flag;
+              flag = flag_stays w v h n outside flags u less seen old.1.flag;
               environment = environment_stays w v h n u less ∙ old.1.environment;
             },
           ))
-      each q e watched false is =
+      each q e owed false is =
           let other : q ≡ u → ⊥ = grind (arith, nat_tests) in
-          let old : (own : Own) × TaskFits interrupts c.rows w q own = c.tasks q (before q e) (watched_before w v h n q (born q e) watched) in (
+          let old : (own : Own) × TaskFits outside c.rows w q own = c.tasks q (before q e) (covered_before w v h n outside q (born q e) owed) in (
             old.0,
-            task_same w v h n interrupts flags c.rows c.rows q old.0 (before q e) watched (turned.there q other) (λ k less. refl)
+            task_same w v h n outside flags c.rows c.rows q old.0 (before q e) owed (turned.there q other) (λ k less. refl)
                 (λ s x less owner f. keeps q s x other less owner f)
                 (λ s i k less owner is2. subst (λ us. slice_get us i ≡ Some k) (sym (subs_same w v s turned.count turned.scope)) is2)
                 old.1,

@@ -26,6 +26,7 @@ use Rattle.laws_runs.proofs.ListLemmas.{at_set, at_more}
 use Rattle.laws_runs.proofs.EffectLemmas.{some-is_in}
 use Rattle.laws_runs.proofs.EventLemmas.{Next}
 use Rattle.laws_runs.proofs.BirthLemmas.{born_alive, new_scope, opener}
+use Rattle.laws_calls.specs.Outside.{Outside}
 use Rattle.laws_calls.specs.Held.{Held}
 use Rattle.laws_calls.specs.Held as held
 use Rattle.laws_calls.specs.Tasks.{AllTwo, at_place, Seen, Own, births_in, bindings, Unseen, nothing}
@@ -43,7 +44,7 @@ filter_none : (test : ℕ → Bool) (us : List ℕ) → ((u : ℕ) → test u �
 filter_none test [] none = refl
 filter_none test (u ∷ us) none = ap (λ b. cond b (u ∷ filter test us) (filter test us)) (none u) ∙ filter_none test us none
 
-module _ (p : Program) (interrupts : ℕ) (t : Table) (root : Row) (is : IsTable p interrupts t root) (w : World) (h : Facts w) (u x : ℕ) (joiner : Joiner) (timed : Bool) where
+module _ (p : Program) (outside : Outside) (t : Table) (root : Row) (is : IsTable p outside t root) (w : World) (h : Facts w) (u x : ℕ) (joiner : Joiner) (timed : Bool) where
   abbrev f : Frame
   f = (task_at w u).frame
 
@@ -112,7 +113,7 @@ module _ (p : Program) (interrupts : ℕ) (t : Table) (root : Row) (is : IsTable
   held_more born (slots.Sub q) (held.Sub place i) e = (e.0, (lists.at_more n old place e.0 e.1.0, subst (λ us. slice_get us i ≡ Some q) (sym (same_subs born e.0)) e.1.1))
   held_more born a b e = absurd e
 
-  fresh : (rows : ℕ → Row) (own : Own) → u < length w.tasks → TaskFits interrupts rows w u own → SeenFits rows after n (record { joiner = joiner; timed = timed; environment = bindings (rows u).call own; phase = Opened; knowledge = Unseen; asked = nothing; has_failure = false; parts = [] })
+  fresh : (rows : ℕ → Row) (own : Own) → u < length w.tasks → TaskFits outside rows w u own → SeenFits rows after n (record { joiner = joiner; timed = timed; environment = bindings (rows u).call own; phase = Opened; knowledge = Unseen; asked = nothing; has_failure = false; parts = [] })
   fresh rows own born k =
       let y : Seen = record { joiner = joiner; timed = timed; environment = bindings (rows u).call own; phase = Opened; knowledge = Unseen; asked = nothing; has_failure = false; parts = [] } in
       subst (λ (scope : Scope). ScopeFits rows (alive_in after) scope (subs after n) y) (sym scope_new)
@@ -120,7 +121,7 @@ module _ (p : Program) (interrupts : ℕ) (t : Table) (root : Row) (is : IsTable
       (record {
         joiner = refl;
         timed = refl;
-        environment = sym (bindings_same p interrupts t root is w h rows u own k);
+        environment = sym (bindings_same p outside t root is w h rows u own k);
         phase = inl refl;
         known = tt;
         counts = no_trigger joiner;
@@ -129,13 +130,13 @@ module _ (p : Program) (interrupts : ℕ) (t : Table) (root : Row) (is : IsTable
         parts = tt;
       }))
 
-  scopes : (c : Covers p interrupts t root w) → Next w after → Does p w u (Open x joiner timed) → u < length w.tasks → (own : Own) → TaskFits interrupts c.rows w u own → AllTwo (SeenFits c.rows after) (n ∷ old) (opened (c.rows u).call own x joiner timed).scopes
+  scopes : (c : Covers p outside t root w) → Next w after → Does p w u (Open x joiner timed) → u < length w.tasks → (own : Own) → TaskFits outside c.rows w u own → AllTwo (SeenFits c.rows after) (n ∷ old) (opened (c.rows u).call own x joiner timed).scopes
   scopes c next d born own k = (
     fresh c.rows own born k,
     all_map (SeenFits c.rows w) (SeenFits c.rows after) old own.scopes (λ s y at e. seen_same w after h next c.rows c.rows s y (scope_old s (h.entered u s d.alive (births_has f.entries s at)).born) (same_subs born s) (λ q less. refl) e) k.fits.scopes,
   )
 
-  goes_on : (c : Covers p interrupts t root w) → Next w after → Does p w u (Open x joiner timed) → u < length w.tasks → (own : Own) → TaskFits interrupts c.rows w u own → GoesOn c.rows after u g
+  goes_on : (c : Covers p outside t root w) → Next w after → Does p w u (Open x joiner timed) → u < length w.tasks → (own : Own) → TaskFits outside c.rows w u own → GoesOn c.rows after u g
   goes_on c next d born own k =
       record {
         own = opened (c.rows u).call own x joiner timed;
@@ -150,7 +151,7 @@ module _ (p : Program) (interrupts : ℕ) (t : Table) (root : Row) (is : IsTable
         };
       }
 
-  pub open_covered : (c : Covers p interrupts t root w) → Next w after → FlagsHaveCause interrupts w after → Does p w u (Open x joiner timed) → Covers p interrupts t root after
+  pub open_covered : (c : Covers p outside t root w) → Next w after → FlagsHaveCause outside w after → Does p w u (Open x joiner timed) → Covers p outside t root after
   open_covered c next flags d =
       let born : u < length w.tasks = born_alive w u d.alive in
-      covers_turned p interrupts t root w after h next flags c u g (turned born) d.alive (λ watched own k. goes_on c next d born own k)
+      covers_turned p outside t root w after h next flags c u g (turned born) d.alive (λ owed own k. goes_on c next d born own k)

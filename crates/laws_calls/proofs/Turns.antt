@@ -2,7 +2,7 @@
 use Rattle.std.proofs.Common.{◌≡◌, ℕ, zero, suc, ◌+◌, ◌<◌, ◌≤◌, ◌⊎◌, inl, inr, List, [], ◌∷◌}
 use Rattle.std.proofs.Common.{Bool, true, false, Option, Some, None, refl, sym, ◌∙◌, ap, subst, length}
 use Rattle.std.proofs.Common.{arith, cond, nat_eq, ◌||◌}
-use Rattle.std.specs.Prelude.{◌==◌, slice_get, count_by}
+use Rattle.std.specs.Prelude.{◌==◌, slice_get, count_by, nat_lt}
 use Rattle.std.specs.List.{list_any}
 use Rattle.std.proofs.lemmas.Bool.Decides.{nat_tests}
 use Rattle.std.proofs.lemmas.List.Sums.{sum_by-cons}
@@ -27,12 +27,13 @@ use Rattle.laws_runs.proofs.ListLemmas.{within}
 use Rattle.laws_runs.proofs.KeptLemmas.{dead_later}
 use Rattle.laws_runs.proofs.BirthLemmas.{born_alive}
 use Rattle.sts_model.specs.Misuse.{is_joined}
+use Rattle.laws_calls.specs.Outside.{Outside, may_flag}
 use Rattle.laws_calls.specs.Held.{Held}
 use Rattle.laws_calls.specs.Held as held
 use Rattle.laws_calls.specs.Tasks.{Among, HasWay, Part, Seen, Own, births_in}
 use Rattle.laws_calls.specs.Steps.{Row}
 use Rattle.laws_calls.specs.Covers.{subs, PartFits, ScopeFits, SeenFits, HeldFits, FrameFits, TaskFits}
-use Rattle.laws_calls.specs.Covers.{IsByInterrupt, Watched, watched_root, watched_sub, alive_in}
+use Rattle.laws_calls.specs.Covers.{FlagMayBe, IsCovered, Watched, watched_root, watched_sub, alive_in}
 use Rattle.laws_calls.proofs.Lists.{all_map, among_filter, filter_among, among_range, range_among, Apart, at_among, no}
 
 -- what is known of every state of a run
@@ -45,9 +46,9 @@ pub record Facts (w : World) : Type 0 where
   pub names : (t x : ℕ) → lives (task_at w t) ≡ true → NamesStanding w t x
   pub tallied : (s : ℕ) → IsTallied w s
 
--- a flag is set only by the cancel of the task's scope, or by an interrupt if one may come
-abbrev pub FlagsHaveCause : ℕ → World → World → Type 0
-FlagsHaveCause interrupts w v = (u : ℕ) → (task_at w u).flag ≡ false → (task_at v u).flag ≡ true → (0 < interrupts) ⊎ ((s : ℕ) × ((task_at w u).scope ≡ Some s) × IsCancelled w v s)
+-- a flag is set only by the cancel of the task's scope, or if it may be
+abbrev pub FlagsHaveCause : Outside → World → World → Type 0
+FlagsHaveCause outside w v = (u : ℕ) → (task_at w u).flag ≡ false → (task_at v u).flag ≡ true → (may_flag outside ≡ true) ⊎ ((s : ℕ) × ((task_at w u).scope ≡ Some s) × IsCancelled w v s)
 
 -- ---- entries
 
@@ -165,6 +166,36 @@ module _ (w : World) (o : Right w) where
       by true e rest = let same : u ≡ 0 = grind (arith, nat_tests) in inl (subst (λ k. Watched w k) (sym same) watched_root)
       by false e rest = let other : u ≡ 0 → ⊥ = grind (arith, nat_tests) in around (task_at w u).scope refl other rest
 
+-- ---- tasks that a table has to cover
+
+-- if a cancel may come, any flag may be set
+pub any_flag : (outside : Outside) → outside.cancels ≡ true → may_flag outside ≡ true
+any_flag outside wide = ap (λ b. b || nat_lt 0 outside.interrupts) wide
+
+-- and also if an interrupt may come
+pub some_flag : (outside : Outside) → 0 < outside.interrupts → may_flag outside ≡ true
+some_flag outside some = or_true outside.cancels (nat_lt 0 outside.interrupts) (grind (arith, nat_tests))
+
+module _ (outside : Outside) (w : World) (o : Right w) where
+  pub owner_covered : (u s : ℕ) → (task_at w u).scope ≡ Some s → IsCovered outside w u → IsCovered outside w (scope_at w s).owner
+  owner_covered u s inside (inl wide) = inl wide
+  owner_covered u s inside (inr watched) = inr (owner_watched w o u s inside watched)
+
+  pub covered_or_not : (u : ℕ) → u < length w.tasks → IsCovered outside w u ⊎ (IsCovered outside w u → ⊥)
+  covered_or_not u born = by outside.cancels refl
+    where
+      narrow : outside.cancels ≡ false → Watched w u ⊎ (Watched w u → ⊥) → IsCovered outside w u ⊎ (IsCovered outside w u → ⊥)
+      narrow e (inl watched) = inl (inr watched)
+      narrow e (inr never) = inr never_covered
+        where
+          never_covered : IsCovered outside w u → ⊥
+          never_covered (inl wide) = no (sym wide ∙ e)
+          never_covered (inr watched) = never watched
+
+      by : (b : Bool) → outside.cancels ≡ b → IsCovered outside w u ⊎ (IsCovered outside w u → ⊥)
+      by true e = inl (inl e)
+      by false e = narrow e (watched_or_not w o (length w.tasks) u born)
+
 -- ---- one step, from w to v
 
 pub alive_later : (x y : Task) → LaterTask x y → lives y ≡ true → lives x ≡ true
@@ -185,7 +216,7 @@ module _ (w v : World) (h : Facts w) (n : Next w v) where
       by false d = refl
       by true d = let k = (n.later.scope s born).marks.cancelled d in cc
 
-  pub watched_before : (u : ℕ) → u < length w.tasks → Watched v u → Watched w u
+  watched_before : (u : ℕ) → u < length w.tasks → Watched v u → Watched w u
   watched_before u born watched_root = watched_root
   watched_before u born (watched_sub s inside free owner) =
       let inside_w : (task_at w u).scope ≡ Some s = sym (same_scope u born) ∙ inside in
@@ -195,6 +226,10 @@ module _ (w v : World) (h : Facts w) (n : Next w v) where
       let before : Watched w (scope_at v s).owner = watched_before (scope_at v s).owner (omega (arith, same, less, born)) owner in
       watched_sub s inside_w (going s b.0 free) (subst (λ o. Watched w o) same before)
 
+  pub covered_before : (outside : Outside) (u : ℕ) → u < length w.tasks → IsCovered outside v u → IsCovered outside w u
+  covered_before outside u born (inl wide) = inl wide
+  covered_before outside u born (inr watched) = inr (watched_before u born watched)
+
   never : (u s : ℕ) → u < length w.tasks → (task_at w u).scope ≡ Some s → (scope_at v s).cancelled ≡ true → Watched v u → ⊥
   never u s born inside gone watched_root = let b = h.right.sound.born u s inside in let less = b.1 in omega (arith, less)
   never u s born inside gone (watched_sub r inside_v free owner) =
@@ -202,14 +237,15 @@ module _ (w v : World) (h : Facts w) (n : Next w v) where
       let one : r ≡ s = cc in
       no (sym gone ∙ ap (λ q. (scope_at v q).cancelled) (sym one) ∙ free)
 
-  pub flag_stays : (interrupts : ℕ) → FlagsHaveCause interrupts w v → (u : ℕ) → u < length w.tasks → Watched v u → IsByInterrupt interrupts (task_at w u).flag → IsByInterrupt interrupts (task_at v u).flag
-  flag_stays interrupts flags u born watched before set = by (task_at w u).flag refl
+  pub flag_stays : (outside : Outside) → FlagsHaveCause outside w v → (u : ℕ) → u < length w.tasks → IsCovered outside v u → FlagMayBe outside (task_at w u).flag → FlagMayBe outside (task_at v u).flag
+  flag_stays outside flags u born (inl wide) before set = any_flag outside wide
+  flag_stays outside flags u born (inr watched) before set = by (task_at w u).flag refl
     where
-      caused : (0 < interrupts) ⊎ ((s : ℕ) × ((task_at w u).scope ≡ Some s) × IsCancelled w v s) → 0 < interrupts
+      caused : (may_flag outside ≡ true) ⊎ ((s : ℕ) × ((task_at w u).scope ≡ Some s) × IsCancelled w v s) → may_flag outside ≡ true
       caused (inl may) = may
       caused (inr c) = absurd (never u c.0 born c.1 c.2.after watched)
 
-      by : (b : Bool) → (task_at w u).flag ≡ b → 0 < interrupts
+      by : (b : Bool) → (task_at w u).flag ≡ b → may_flag outside ≡ true
       by true e = before e
       by false e = caused (flags u e set)
 
@@ -257,13 +293,13 @@ module _ (w v : World) (h : Facts w) (n : Next w v) where
   held_same opened keeps x y f = absurd f
 
   -- a task whose frame the step doesn't change
-  pub task_same : (interrupts : ℕ) → FlagsHaveCause interrupts w v → (rows later : ℕ → Row) (u : ℕ) (own : Own)
-      → lives (task_at w u) ≡ true → Watched v u → (task_at v u).frame ≡ (task_at w u).frame
+  pub task_same : (outside : Outside) → FlagsHaveCause outside w v → (rows later : ℕ → Row) (u : ℕ) (own : Own)
+      → lives (task_at w u) ≡ true → IsCovered outside v u → (task_at v u).frame ≡ (task_at w u).frame
       → ((q : ℕ) → q < length w.tasks → later q ≡ rows q)
       → ((s : ℕ) (x : Seen) → s < length w.scopes → (scope_at w s).owner ≡ u → SeenFits rows w s x → SeenFits later v s x)
       → ((s i q : ℕ) → s < length w.scopes → (scope_at w s).owner ≡ u → slice_get (subs w s) i ≡ Some q → slice_get (subs v s) i ≡ Some q)
-      → TaskFits interrupts rows w u own → TaskFits interrupts later v u own
-  task_same interrupts flags rows later u own alive watched same agree keeps stays k =
+      → TaskFits outside rows w u own → TaskFits outside later v u own
+  task_same outside flags rows later u own alive owed same agree keeps stays k =
       let born : u < length w.tasks = born_alive w u alive in
       let row : later u ≡ rows u = agree u born in
       record {
@@ -273,7 +309,7 @@ module _ (w v : World) (h : Facts w) (n : Next w v) where
           held = all_map (HeldFits w (births_in (task_at w u).frame.entries)) (HeldFits v (births_in (task_at w u).frame.entries)) (task_at w u).frame.slots own.held (λ x y at f. held_same (births_in (task_at w u).frame.entries) (λ s i q at2 e. let m = mine s at2 in stays s i q m.born m.owner e) x y f) k.fits.held;
           scopes = all_map (SeenFits rows w) (SeenFits later v) (births_in (task_at w u).frame.entries) own.scopes (λ s x at f. let m = mine s at in keeps s x m.born m.owner f) k.fits.scopes;
         });
-        flag = flag_stays interrupts flags u born watched k.flag;
+        flag = flag_stays outside flags u born owed k.flag;
         environment = environment_stays u born ∙ k.environment ∙ ap (λ (r : Row). r.call.environment) (sym row);
       }
     where

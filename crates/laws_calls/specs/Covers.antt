@@ -1,6 +1,6 @@
--- What a table covers of a run: the tasks that its owner still looks at, each by a state of its
+-- What a table covers of a run: each living task, or only those that are watched, by a state of its
 -- call (this project's own).
-use Rattle.std.specs.Prelude.{◌≡◌, ℕ, ◌<◌, ◌≤◌, ◌⊎◌, List, [], ◌∷◌, Bool, true, false, Option, Some}
+use Rattle.std.specs.Prelude.{◌≡◌, ℕ, ◌≤◌, ◌⊎◌, List, [], ◌∷◌, Bool, true, false, Option, Some}
 use Rattle.std.specs.Prelude.{slice_get, map, find, option_map, count_by}
 use Rattle.std.specs.List.{filter}
 use Rattle.sts_code.specs.Program.{Program}
@@ -20,6 +20,7 @@ use Rattle.sts_model.specs.Misuse.{is_joined}
 use Rattle.laws_runs.specs.Tallies.{births}
 use Rattle.laws_calls.specs.Held.{Held}
 use Rattle.laws_calls.specs.Held as held
+use Rattle.laws_calls.specs.Outside.{Outside, may_flag}
 use Rattle.laws_calls.specs.Tasks.{Among, AllTwo, at_place, HasWay, Part, Knowledge, Unseen}
 use Rattle.laws_calls.specs.Tasks.{ByJoiner, Late, nothing}
 use Rattle.laws_calls.specs.Tasks.{Heard, Seen, May, Own, bare, births_in}
@@ -114,15 +115,16 @@ pub record FrameFits (rows : ℕ → Row) (w : World) (f : Frame) (own : Own) : 
   pub held : AllTwo (HeldFits w (births_in f.entries)) f.slots own.held
   pub scopes : AllTwo (SeenFits rows w) (births_in f.entries) own.scopes
 
--- a flag that is set only if an interrupt may come
-abbrev pub IsByInterrupt : ℕ → Bool → Type 0
-IsByInterrupt interrupts flag = flag ≡ true → 0 < interrupts
+-- a flag of a task may be so
+abbrev pub FlagMayBe : Outside → Bool → Type 0
+FlagMayBe outside flag = flag ≡ true → may_flag outside ≡ true
 
 -- the task u is in this state of its row
-pub record TaskFits (interrupts : ℕ) (rows : ℕ → Row) (w : World) (u : ℕ) (own : Own) : Type 0 where
+pub record TaskFits (outside : Outside) (rows : ℕ → Row) (w : World) (u : ℕ) (own : Own)
+    : Type 0 where
   pub there : Among (rows u).states own
   pub fits : FrameFits rows w (task_at w u).frame own
-  pub flag : IsByInterrupt interrupts (task_at w u).flag
+  pub flag : FlagMayBe outside (task_at w u).flag
   pub environment : (scope_of w u).environment ≡ (rows u).call.environment
 
 -- ---- runs
@@ -133,18 +135,23 @@ pub data Watched (w : World) : ℕ → Type 0 where
   watched_sub : {u : ℕ} (s : ℕ) → (task_at w u).scope ≡ Some s → (scope_at w s).cancelled ≡ false
       → Watched w (scope_at w s).owner → Watched w u
 
+-- a task that a table has to cover: any, if a cancel may come, or else one that is watched
+abbrev pub IsCovered : Outside → World → ℕ → Type 0
+IsCovered outside w u = (outside.cancels ≡ true) ⊎ Watched w u
+
 -- only a timed scope expires
 abbrev pub IsTimely : Scope → Type 0
 IsTimely scope = scope.expired ≡ true → scope.timed ≡ true
 
-pub record Covers (p : Program) (interrupts : ℕ) (t : Table) (root : Row) (w : World) : Type 0 where
+pub record Covers (p : Program) (outside : Outside) (t : Table) (root : Row) (w : World)
+    : Type 0 where
   pub rows : ℕ → Row
   pub listed : (u : ℕ) → Among t (rows u)
   pub first : rows 0 ≡ root
   pub timely : (s : ℕ) → IsTimely (scope_at w s)
-  -- each living task that is watched is in a state of its row
-  pub tasks : (u : ℕ) → lives (task_at w u) ≡ true → Watched w u
-      → (own : Own) × TaskFits interrupts rows w u own
+  -- each living task that the table has to cover is in a state of its row
+  pub tasks : (u : ℕ) → lives (task_at w u) ≡ true → IsCovered outside w u
+      → (own : Own) × TaskFits outside rows w u own
   -- the root has ended by a way of its call
   pub ended : (e : End) → (task_at w 0).outcome ≡ Some e → HasWay root.ways e
 
@@ -152,6 +159,8 @@ abbrev pub is_interrupt : Event → Bool
 is_interrupt (event.Interrupt t) = true
 is_interrupt _ = false
 
--- any steps and expiries, and interrupts up to a limit
-abbrev pub AreWithin : ℕ → List Event → Type 0
-AreWithin interrupts events = count_by is_interrupt events ≤ interrupts
+-- Any steps and expiries, and interrupts up to a limit. If a cancel may come, which sets flags too,
+-- there is no limit.
+abbrev pub AreWithin : Outside → List Event → Type 0
+AreWithin outside events =
+    (outside.cancels ≡ true) ⊎ (count_by is_interrupt events ≤ outside.interrupts)

@@ -1,6 +1,6 @@
 -- The steps of a task by itself, and the tables that are closed under them (this project's own).
 -- A step may lead to more states than a run does: each task may be interrupted again and again, if
--- any interrupt may come.
+-- any interrupt may come. The same is so of a cancel of its scope.
 use Rattle.std.specs.Prelude.{◌≡◌, ℕ, ◌+◌, ◌-◌, ℤ, pos, List, [], ◌∷◌, ◌++◌, length, take, drop}
 use Rattle.std.specs.Prelude.{reverse, nat_le, not, ◌&&◌, ◌<◌}
 use Rattle.std.specs.Prelude.{map, count_by, Bool, true, false, Option, Some, None, is_some}
@@ -32,6 +32,7 @@ use Rattle.sts_model.specs.Joining.{is_success, is_failure, result_of, total_of}
 use Rattle.laws_runs.specs.Tallies.{is_kind}
 use Rattle.laws_calls.specs.Held.{Held, is_at}
 use Rattle.laws_calls.specs.Held as held
+use Rattle.laws_calls.specs.Outside.{Outside, may_flag}
 use Rattle.laws_calls.specs.Tasks.{Among, at_place, put_place, Call, Way, HasWay, Part, Knowledge}
 use Rattle.laws_calls.specs.Tasks.{nothing, Unseen, ByJoiner, Late, Heard, Seen, Own, begin}
 use Rattle.laws_calls.specs.Tasks.{bindings, held_at}
@@ -288,123 +289,126 @@ pub record IsRowOf (t : Table) (row : Row) (c : Call) : Type 0 where
 
 -- ---- steps
 
--- from a state of a call by an instruction to another state, with at most this number of interrupts
-pub data Steps (p : Program) (interrupts : ℕ) (c : Call) (own : Own) : Instr → Own → Type 0 where
+-- from a state of a call by an instruction to another state
+pub data Steps (p : Program) (outside : Outside) (c : Call) (own : Own) : Instr → Own → Type 0 where
   -- the frame alone
   local_step : {i : Instr} → is_local i ≡ true
-      → Steps p interrupts c own i (to own (local.local (code p own.frame) i own.frame))
+      → Steps p outside c own i (to own (local.local (code p own.frame) i own.frame))
   read_step : {k : ℕ}
-      → Steps p interrupts c own (Read k)
+      → Steps p outside c own (Read k)
       (pushes own 0 (unwrap_or (read (bindings c own) k) (pos 0)))
   bound_step : {k : ℕ}
-      → Steps p interrupts c own (Bound k)
+      → Steps p outside c own (Bound k)
       (pushes own 0 (truth (is_some (read (bindings c own) k))))
-  or_else_step : {k : ℕ} → Steps p interrupts c own (OrElse k)
+  or_else_step : {k : ℕ} → Steps p outside c own (OrElse k)
       (pushes own 1 (unwrap_or (read (bindings c own) k) (operand own.frame 0)))
-  bind_step : {k : ℕ} → Steps p interrupts c own (Bind k) (to own (record (steps own.frame 1 []) {
+  bind_step : {k : ℕ} → Steps p outside c own (Bind k) (to own (record (steps own.frame 1 []) {
     entries = entry.Binding k (operand own.frame 0) ∷ own.frame.entries;
   }))
-  unbind_step : Steps p interrupts c own Unbind
+  unbind_step : Steps p outside c own Unbind
       (to own (record (steps own.frame 0 []) { entries = drop 1 own.frame.entries }))
-  forget_step : {h : ℕ} → Steps p interrupts c own (Forget h)
+  forget_step : {h : ℕ} → Steps p outside c own (Forget h)
       (record own { frame = steps own.frame 0 []; held = slice_set own.held h held.Empty })
   -- whether the task was interrupted
-  calm_step : Steps p interrupts c own Interrupted (pushes own 0 (truth false))
-  interrupted_step : 0 < interrupts
-      → Steps p interrupts c own Interrupted (pushes own 0 (truth true))
-  -- the task's own scope: if it was cancelled, nobody sees what the task does
+  calm_step : Steps p outside c own Interrupted (pushes own 0 (truth false))
+  interrupted_step : may_flag outside ≡ true
+      → Steps p outside c own Interrupted (pushes own 0 (truth true))
+  -- the scope that the task is in: a table that allows no cancel leaves out what the task does
+  -- after it, since nobody sees that
   lent_step : {x : ℕ} → held_at own x ≡ held.Lent
-      → Steps p interrupts c own (Cancelled x) (pushes own 0 (truth false))
+      → Steps p outside c own (Cancelled x) (pushes own 0 (truth false))
+  lent_cancelled_step : {x : ℕ} → held_at own x ≡ held.Lent → outside.cancels ≡ true
+      → Steps p outside c own (Cancelled x) (pushes own 0 (truth true))
   going_step : {x : ℕ} (place : ℕ) (seen : Seen) (pick : List (Option End))
       → Owns own x place seen → is_cancelled seen.knowledge ≡ false → Fits seen pick
       → triggers seen.joiner (heard_in pick) < most seen.joiner
-      → Steps p interrupts c own (Cancelled x) (pushes own 0 (truth false))
+      → Steps p outside c own (Cancelled x) (pushes own 0 (truth false))
   cancelled_step : {x : ℕ} (place : ℕ) (seen : Seen) → Owns own x place seen
       → may_decide seen.knowledge ≡ true
-      → Steps p interrupts c own (Cancelled x)
+      → Steps p outside c own (Cancelled x)
       (pushes (with_seen own place (after_cancel seen)) 0 (truth true))
   expired_step : {x : ℕ} (place : ℕ) (seen : Seen) → Owns own x place seen
       → may_be_late seen.knowledge ≡ true → seen.timed ≡ true
-      → Steps p interrupts c own (Cancelled x)
+      → Steps p outside c own (Cancelled x)
       (pushes (with_seen own place (after_expiry seen)) 0 (truth true))
   -- scopes
   open_step : {x : ℕ} {joiner : Joiner} {timed : Bool}
-      → Steps p interrupts c own (Open x joiner timed) (opened c own x joiner timed)
+      → Steps p outside c own (Open x joiner timed) (opened c own x joiner timed)
   -- no subtask runs in a scope that is known to be cancelled; in another one, see `IsTable`
   unstarted_step : {x g : ℕ} {h : Option ℕ} (place : ℕ) (seen : Seen)
       → Owns own x place seen → is_cancelled seen.knowledge ≡ true
-      → Steps p interrupts c own (Fork x g h) (forked p own place seen [] g h)
-  close_step : {x : ℕ} → Steps p interrupts c own (Close x) (closed own)
+      → Steps p outside c own (Fork x g h) (forked p own place seen [] g h)
+  close_step : {x : ℕ} → Steps p outside c own (Close x) (closed own)
   -- `join` that is interrupted while a subtask lives and the scope is not cancelled
   attempted_step : {x to_i : ℕ} {failed timeout : Option ℕ} (place : ℕ) (seen : Seen)
-      → 0 < interrupts → Owns own x place seen → is_unseen seen.knowledge ≡ true
+      → may_flag outside ≡ true → Owns own x place seen → is_unseen seen.knowledge ≡ true
       → list_any (λ (part : Part). part.is_open) seen.parts ≡ true
-      → Steps p interrupts c own (Join x failed timeout to_i) (attempted own place seen to_i)
+      → Steps p outside c own (Join x failed timeout to_i) (attempted own place seen to_i)
   -- `join` of a scope that has expired
   timeout_step : {x to_i : ℕ} {failed timeout : Option ℕ} (place : ℕ) (seen : Seen)
       → Owns own x place seen → is_heard seen.knowledge ≡ false → seen.timed ≡ true
-      → Steps p interrupts c own (Join x failed timeout to_i)
+      → Steps p outside c own (Join x failed timeout to_i)
       (timed_out own place seen (unwrap_or timeout 0))
   -- `join` of a cancelled scope: one end decided, or as many as the joiner waits for
   by_one_step : {x to_i : ℕ} {failed timeout : Option ℕ} (place : ℕ) (seen : Seen) (i : ℕ)
       (part : Part) (e : End)
       → Owns own x place seen → may_decide seen.knowledge ≡ true → is_by_one seen.joiner ≡ true
       → MayEnd seen i part e → is_trigger seen.joiner e ≡ true
-      → Steps p interrupts c own (Join x failed timeout to_i)
+      → Steps p outside c own (Join x failed timeout to_i)
       (joined own place (decided (after_cancel seen) i e part)
       (result_of seen.joiner (e ∷ []) (length seen.parts)) (unwrap_or failed 0))
   by_count_step : {x to_i : ℕ} {failed timeout : Option ℕ} (place : ℕ) (seen : Seen)
       → Owns own x place seen → may_decide seen.knowledge ≡ true → is_until seen.joiner ≡ true
-      → Steps p interrupts c own (Join x failed timeout to_i)
+      → Steps p outside c own (Join x failed timeout to_i)
       (joined own place (after_cancel seen) (result_of seen.joiner [] (length seen.parts))
       (unwrap_or failed 0))
   -- `join` after all subtasks ended: nothing decided; under `any` one failure is reported
   heard_step : {x to_i : ℕ} {failed timeout : Option ℕ} (place : ℕ) (seen : Seen)
       → Owns own x place seen → is_cancelled seen.knowledge ≡ false
       → (is_any seen.joiner ≡ true → seen.parts ≡ [])
-      → Steps p interrupts c own (Join x failed timeout to_i)
+      → Steps p outside c own (Join x failed timeout to_i)
       (joined own place (after_all seen) (result_of seen.joiner [] (length seen.parts))
       (unwrap_or failed 0))
   none_step : {x to_i : ℕ} {failed timeout : Option ℕ} (place : ℕ) (seen : Seen) (i : ℕ)
       (part : Part) (e : End)
       → Owns own x place seen → is_cancelled seen.knowledge ≡ false → is_any seen.joiner ≡ true
       → MayEnd seen i part e → is_failure e ≡ true → part.is_early ≡ true
-      → Steps p interrupts c own (Join x failed timeout to_i)
+      → Steps p outside c own (Join x failed timeout to_i)
       (joined own place (decided (after_all seen) i e part)
       (result_of seen.joiner (e ∷ []) (length seen.parts)) (unwrap_or failed 0))
   -- a subtask
   success_step : {h succeeded failed : ℕ} (place : ℕ) (seen : Seen) (i : ℕ) (part : Part)
       (counting : Bool) → Knows own h place seen i part
-      → Steps p interrupts c own (Case h succeeded failed)
+      → Steps p outside c own (Case h succeeded failed)
       (to (with_seen own place (told seen i part counting is_success))
       (goes own.frame succeeded 0 []))
   failure_step : {h succeeded failed : ℕ} (place : ℕ) (seen : Seen) (i : ℕ) (part : Part)
       (counting : Bool) → Knows own h place seen i part
-      → Steps p interrupts c own (Case h succeeded failed)
+      → Steps p outside c own (Case h succeeded failed)
       (to (with_seen own place (told (saw_failure seen) i part counting is_failure))
       (goes own.frame failed 0 []))
   missed_step : {h succeeded failed : ℕ} (place : ℕ) (seen : Seen) (i : ℕ) (part : Part)
       → Knows own h place seen i part → part.is_open ≡ true
-      → Steps p interrupts c own (Case h succeeded failed)
+      → Steps p outside c own (Case h succeeded failed)
       (to (with_part own place seen i (missed seen.knowledge seen.has_failure part))
       (goes own.frame (own.frame.pc + 1) 0 []))
   get_step : {h : ℕ} (place : ℕ) (seen : Seen) (i : ℕ) (part : Part) (v : ℤ)
       → Knows own h place seen i part → HasWay part.ways (Success v)
-      → Steps p interrupts c own (Get h)
+      → Steps p outside c own (Get h)
       (pushes (with_part own place seen i (only (Success v) part)) 0 v)
   except_step : {h : ℕ} (place : ℕ) (seen : Seen) (i : ℕ) (part : Part) (v : ℤ)
       → Knows own h place seen i part → HasWay part.ways (Failed v)
-      → Steps p interrupts c own (Except h)
+      → Steps p outside c own (Except h)
       (pushes (with_part own place seen i (only (Failed v) part)) 0 v)
   -- a count, a sum: of some pick
   tally_step : {x : ℕ} {kind : Kind} (place : ℕ) (seen : Seen) (pick : List (Option End))
       → Owns own x place seen → Fits seen pick
-      → Steps p interrupts c own (Tally x kind) (pushes
+      → Steps p outside c own (Tally x kind) (pushes
       (with_seen own place (counted kind (count_by (is_kind kind) pick) seen)) 0
       (pos (count_by (is_kind kind) pick)))
   total_step : {x : ℕ} (place : ℕ) (seen : Seen) (pick : List (Option End))
       → Owns own x place seen → Fits seen pick
-      → Steps p interrupts c own (Total x) (pushes
+      → Steps p outside c own (Total x) (pushes
       (with_seen own place (summed (total_of (heard_in pick)) seen)) 0 (total_of (heard_in pick)))
 
 -- ---- a table that has all steps
@@ -431,7 +435,7 @@ end_by _ f = None
 abbrev pub root_call : Program → Call
 root_call p = record { function = length p.routines - 1; args = []; environment = [] }
 
-pub record IsTable (p : Program) (interrupts : ℕ) (t : Table) (root : Row) : Type 0 where
+pub record IsTable (p : Program) (outside : Outside) (t : Table) (root : Row) : Type 0 where
   -- the root's call begins; its slot 0 is empty
   pub listed : Among t root
   pub call : root.call ≡ root_call p
@@ -442,7 +446,7 @@ pub record IsTable (p : Program) (interrupts : ℕ) (t : Table) (root : Row) : T
       → is_cancelled seen.knowledge ≡ false → Forks p t row.states own x g h place seen
   -- each step to a state that is possible leads to a state of the row
   pub closed : (row : Row) (own next : Own) (i : Instr) → Among t row → Among row.states own
-      → instr_at p own.frame ≡ Some i → Steps p interrupts row.call own i next
+      → instr_at p own.frame ≡ Some i → Steps p outside row.call own i next
       → Leads row.states next
   -- each end is a way of the row
   pub ends : (row : Row) (own : Own) (i : Instr) (e : End) → Among t row → Among row.states own

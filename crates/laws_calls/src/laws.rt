@@ -1,6 +1,7 @@
 //! Laws on the count, and on the states that a table covers.
 
 ghost use Rattle.laws_calls.specs.Covered.{EndsAreWays, EventsAreCovered, RunsAreCovered};
+ghost use Rattle.laws_calls.specs.Covered.{TasksAreCovered};
 ghost use Rattle.laws_calls.specs.Triggers.{CancelsByCount, LastCounts, LastIsFound, StopsAtLimit};
 ghost use Rattle.laws_calls.specs.Watching.{WatchedIsNotCancelled, WatchedWasWatched};
 
@@ -47,4 +48,9 @@ pub fn runs_are_covered()
 /// Each end that the root task comes to in such a run is a way of the root's row.
 pub fn ends_are_ways()
     ensures { EndsAreWays }
+{}
+
+/// If a cancel may come, each living task of any run is in a state of its row.
+pub fn tasks_are_covered()
+    ensures { TasksAreCovered }
 {}

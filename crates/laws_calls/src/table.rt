@@ -1,7 +1,28 @@
 //! Tables of calls: the states that the task of a call may be in, and the ways that it may end.
 
+ghost use Rattle.std.specs.Prelude.{◌≡◌};
+ghost use Rattle.laws_calls.specs.Outside.{may_flag};
+
 use sts_code::Joiner;
 use sts_model::{Bound, End, Frame, Items, Phase};
+
+/// What may come to a task from outside.
+#[derive(Clone, Copy, Debug, PartialEq, Eq)]
+pub struct Outside {
+    /// At most so many interrupts come, to all tasks together.
+    pub interrupts: u32,
+    /// May a cancel of its scope come? If not, a table covers only the tasks that are watched.
+    pub cancels: bool,
+}
+
+impl Outside {
+    /// May the flag of a task be set?
+    pub fn may_flag(self) -> bool
+        ensures { result ≡ may_flag self }
+    {
+        self.cancels || self.interrupts > 0
+    }
+}
 
 /// What a slot of a task holds, under local names. An open scope goes by its place among the open
 /// scopes of the task, the outermost first. A subtask goes by its place among those of its scope,

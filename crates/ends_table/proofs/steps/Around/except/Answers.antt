@@ -4,4 +4,4 @@ use Rattle.ends_table.proofs.steps.Around.except.Goals as goal
 pub returns : goal.returns
 returns c =
     let a = c.args.self.now in
-    except_leads a.program.now a.interrupts a.call.now a.states.now a.own.now c.args.handle _ _ _ _ c.in_ok-place.ensures c.in_ok-reads.ensures
+    except_leads a.program.now a.outside a.call.now a.states.now a.own.now c.args.handle _ _ _ _ c.in_ok-place.ensures c.in_ok-reads.ensures

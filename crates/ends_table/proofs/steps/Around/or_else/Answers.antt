@@ -6,4 +6,4 @@ use Rattle.ends_table.proofs.steps.Around.or_else.Goals as goal
 pub returns : goal.returns
 returns c =
     let a = c.args.self.now in
-    or_else_leads a.program.now a.interrupts a.call.now a.states.now a.own.now c.args.key (subst (λ f. Leads a.states.now (to a.own.now f)) c.in_ok-frame.ensures c.in_ok-leads_by.ensures)
+    or_else_leads a.program.now a.outside a.call.now a.states.now a.own.now c.args.key (subst (λ f. Leads a.states.now (to a.own.now f)) c.in_ok-frame.ensures c.in_ok-leads_by.ensures)
