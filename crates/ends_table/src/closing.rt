@@ -11,7 +11,8 @@ use crate::rows::ends;
 use crate::steps::Around;
 use crate::stop::Stop;
 use ends_search::index::Index;
-use laws_calls::table::{Call, Held, Outside, Own, Row, Way};
+use laws_calls::shared::Shared;
+use laws_calls::table::{Call, Held, Outside, Own, Row, Seen, Way};
 use std::alloc::{AllocError, Global};
 use sts_code::{Instr, Program};
 use sts_frames::instr_at;
@@ -24,14 +25,12 @@ const MOST_OF_ROW: usize = 100_000;
 /// The most memory of all states, in bytes, as `size` guesses it.
 const MOST_MEMORY: usize = 200_000_000;
 
-/// The memory of a state without scopes, of a scope without parts, of a part and of a way, in bytes.
+/// The memory of a state without scopes, of a scope without parts, and of a part, in bytes.
 const OF_STATE: usize = 1_400;
 
 const OF_SCOPE: usize = 150;
 
-const OF_PART: usize = 56;
-
-const OF_WAY: usize = 16;
+const OF_PART: usize = 20;
 
 /// A row whose states are not all done.
 #[derive(Drop)]
@@ -60,15 +59,20 @@ struct Closing {
     memory: usize,
 }
 
+/// About how many bytes a scope takes. Those of parts that another scope shares count only once.
+fn size_of(seen: &Seen) -> usize {
+    if seen.parts.is_shared() {
+        return OF_SCOPE;
+    }
+    let parts = seen.parts.as_slice().len().saturating_mul(OF_PART);
+    parts.saturating_add(OF_SCOPE)
+}
+
 /// About how many bytes a state takes.
 fn size(own: &Own) -> usize {
     let mut size = OF_STATE;
     for seen in own.scopes.as_slice() {
-        size = size.saturating_add(OF_SCOPE);
-        for part in seen.parts.as_slice() {
-            let ways = part.ways.as_slice().len().saturating_mul(OF_WAY);
-            size = size.saturating_add(OF_PART).saturating_add(ways);
-        }
+        size = size.saturating_add(size_of(seen));
     }
     size
 }
@@ -215,7 +219,7 @@ impl Open {
         Ok(Row {
             call: self.call,
             states,
-            ways: self.ways,
+            ways: Shared::new(alloc, self.ways, 0)?,
         })
     }
 }

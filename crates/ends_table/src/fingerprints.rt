@@ -69,7 +69,7 @@ fn with_end(hash: u64, end: End) -> u64 {
 }
 
 /// A part by the number of its ways, and by the first and the last one.
-fn with_part(hash: u64, part: &Part) -> u64 {
+pub fn with_part(hash: u64, part: &Part) -> u64 {
     let ways = part.ways.as_slice();
     let flags = 2 * u64::from(part.is_open) + u64::from(part.is_early);
     let mut hash = mixed(hash, 4 * (ways.len() as u64 & 0xffff) + flags);
@@ -115,7 +115,13 @@ fn with_scope(hash: u64, seen: &Seen) -> u64 {
     let mut hash = mixed(hash, 2 * flags + u64::from(seen.has_failure));
     hash = with_answers(hash, seen);
     hash = with_bounds(hash, seen.environment.as_slice());
-    for part in seen.parts.as_slice() {
+    mixed(hash, seen.parts.print())
+}
+
+/// The number of a list of parts.
+pub fn print_of(parts: &[Part]) -> u64 {
+    let mut hash = SEED;
+    for part in parts {
         hash = with_part(hash, part);
     }
     hash

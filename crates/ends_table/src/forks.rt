@@ -7,12 +7,15 @@ ghost use Rattle.laws_calls.specs.declared.table.Seen.{Seen};
 ghost use Rattle.sts_code.specs.Program.{routine};
 
 use crate::beginning::first_state;
+use crate::fingerprints::with_part;
 use crate::frames::stepped;
 use crate::places::{number, owned, set_held, with_scope};
 use crate::reached::leads;
 use crate::rows::row_of;
 use crate::stop::Stop;
 use ends_picks::joiners::is_cancelled;
+use laws_calls::copies::copy_list;
+use laws_calls::shared::Shared;
 use laws_calls::table::{Call, Held, Own, Part, Row, Seen, Way};
 use std::alloc::{AllocError, Global};
 use sts_code::{Program, args};
@@ -72,17 +75,21 @@ fn with_handle(slots: &[Held; 16], handle: Option<u8>, held: Held) -> [Held; 16]
 }
 
 /// The scope with a new part, which has these ways.
-fn with_new_part(alloc: Global, seen: &Seen, ways: &Items<Way>) -> Result<Seen, AllocError>
+fn with_new_part(alloc: Global, seen: &Seen, ways: &Shared<Way>) -> Result<Seen, AllocError>
     ensures { IfOk result (λ x. x ≡ record seen.now {
       parts = seen.now.parts ++ def.new_part ways.now seen.now ∷ [];
     }) }
 {
-    let mut after = seen.copied(alloc)?;
-    after.parts.push(Part {
-        ways: copy_items(alloc, ways)?,
+    let part = Part {
+        ways: ways.share()?,
         is_open: true,
         is_early: !seen.has_failure,
-    })?;
+    };
+    let print = with_part(seen.parts.print(), &part);
+    let mut parts = copy_list(alloc, seen.parts.as_slice())?;
+    parts.push(part)?;
+    let mut after = seen.copied(alloc)?;
+    after.parts = Shared::new(alloc, parts, print)?;
     Ok(after)
 }
 
@@ -93,7 +100,7 @@ fn forked(
     own: &Own,
     place: u32,
     seen: &Seen,
-    ways: &Items<Way>,
+    ways: &Shared<Way>,
     function: u32,
     handle: Option<u8>,
 ) -> Result<Own, Stop>
@@ -150,7 +157,7 @@ fn unstarted(
     ensures { OnOk result (def.Leads states.now
         (def.forked program.now own.now place seen.now [] function handle)) }
 {
-    let none = Items::new(alloc);
+    let none = Shared::new(alloc, Items::new(alloc), 0)?;
     leads(
         states,
         forked(alloc, program, own, place, seen, &none, function, handle)?,

@@ -14,7 +14,7 @@ use crate::frames::{answered, jumped};
 use crate::looks::with_knowledge;
 use crate::missing::Missing;
 use crate::parts::{all_ended, has_open, only};
-use crate::places::{number, with_part};
+use crate::places::{number, shared, with_part};
 use crate::reached::leads_with;
 use crate::stop::Stop;
 use ends_picks::joiners::{
@@ -48,7 +48,7 @@ fn after_all(alloc: Global, seen: &Seen) -> Result<Seen, AllocError>
         knowledge: Knowledge::Heard,
         asked: seen.asked,
         has_failure: seen.has_failure,
-        parts: all_ended(alloc, seen.parts.as_slice())?,
+        parts: shared(alloc, all_ended(alloc, seen.parts.as_slice())?)?,
     })
 }
 

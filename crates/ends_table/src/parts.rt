@@ -10,11 +10,12 @@ ghost use Rattle.laws_calls.specs.declared.table.Way.{Way};
 use crate::places::with_part;
 use ends_picks::counts::sure_count;
 use ends_picks::joiners::{is_failure, is_success, is_trigger, is_unseen, most};
+use laws_calls::shared::Shared;
 use laws_calls::table::{Knowledge, Part, Seen, Way};
 use std::alloc::{AllocError, Global};
 use sts_code::Joiner;
 use sts_model::{End, Items};
-use sts_same::copied::{Copied, copy_items};
+use sts_same::copied::Copied;
 
 /// The part has ended by this end.
 pub fn only(alloc: Global, end: End, part: &Part) -> Result<Part, AllocError>
@@ -23,18 +24,18 @@ pub fn only(alloc: Global, end: End, part: &Part) -> Result<Part, AllocError>
     let mut ways = Items::new(alloc);
     ways.push(Way { end })?;
     Ok(Part {
-        ways,
+        ways: Shared::new(alloc, ways, 0)?,
         is_open: false,
         is_early: part.is_early,
     })
 }
 
 /// The part has ended.
-fn ended(alloc: Global, part: &Part) -> Result<Part, AllocError>
+fn ended(part: &Part) -> Result<Part, AllocError>
     ensures { IfOk result (λ x. x ≡ def.ended part.now) }
 {
     Ok(Part {
-        ways: copy_items(alloc, &part.ways)?,
+        ways: part.ways.share()?,
         is_open: false,
         is_early: part.is_early,
     })
@@ -46,7 +47,7 @@ pub fn all_ended(alloc: Global, parts: &[Part]) -> Result<Items<Part>, AllocErro
 {
     let mut after = Items::new(alloc);
     for part in parts {
-        after.push(ended(alloc, part)?)?;
+        after.push(ended(part)?)?;
     }
     Ok(after)
 }
@@ -132,8 +133,15 @@ pub fn told(
     ensures { IfOk result (λ x. x ≡ def.told (led.noted succeeds seen.now) i part.now counting
         (led.of_kind succeeds)) }
 {
+    let ways = split(
+        alloc,
+        seen.joiner,
+        counting,
+        succeeds,
+        part.ways.as_slice(),
+    )?;
     let part = Part {
-        ways: split(alloc, seen.joiner, counting, succeeds, part.ways.as_slice())?,
+        ways: Shared::new(alloc, ways, 0)?,
         is_open: false,
         is_early: part.is_early,
     };
@@ -155,7 +163,7 @@ pub fn missed(
         (Knowledge::Unseen, false) => {}
         (Knowledge::Unseen, true) => after.is_early = false,
         _ => {
-            after.ways = Items::new(alloc);
+            after.ways = Shared::new(alloc, Items::new(alloc), 0)?;
             after.is_open = true;
         }
     }

@@ -4,12 +4,14 @@ ghost use Rattle.std.specs.Prelude.{◌≡◌, ◌+◌, ◌<◌, Some, IfOk, len
 ghost use Rattle.laws_calls.specs.Steps as def;
 ghost use Rattle.laws_calls.specs.Tasks as tasks;
 
+use crate::fingerprints::print_of;
 use crate::stop::Stop;
 use laws_calls::copies::{copy_list, copy_with};
+use laws_calls::shared::Shared;
 use laws_calls::table::{Held, Own, Part, Seen};
 use std::alloc::{AllocError, Global};
 use sts_code::LAST_SLOT;
-use sts_model::Frame;
+use sts_model::{Frame, Items};
 use sts_same::copied::copy_items;
 
 /// A number of 32 bits.
@@ -103,7 +105,7 @@ pub fn with_frame(alloc: Global, own: &Own, frame: Frame) -> Result<Own, AllocEr
     Ok(Own {
         frame,
         held: own.held,
-        scopes: copy_list(alloc, &own.scopes)?,
+        scopes: copy_list(alloc, own.scopes.as_slice())?,
     })
 }
 
@@ -117,13 +119,35 @@ pub fn with_scope(
 ) -> Result<Own, Stop>
     ensures { IfOk result (λ o. o ≡ def.to (def.with_seen own.now place seen) frame) }
 {
-    let i = index_of(own.scopes.as_slice(), place)?;
-    let scopes = copy_with(alloc, &own.scopes, i, seen)?;
+    let before = own.scopes.as_slice();
+    let i = index_of(before, place)?;
+    let scopes = copy_with(alloc, before, i, seen)?;
     Ok(Own {
         frame,
         held: own.held,
         scopes,
     })
+}
+
+/// Parts as a list that copies share.
+pub fn shared(alloc: Global, parts: Items<Part>) -> Result<Shared<Part>, AllocError>
+    ensures { IfOk result (λ xs. xs ≡ parts) }
+{
+    let print = print_of(parts.as_slice());
+    Shared::new(alloc, parts, print)
+}
+
+/// The parts with another one at an index.
+fn parts_with(
+    alloc: Global,
+    parts: &[Part],
+    i: usize,
+    part: Part,
+) -> Result<Shared<Part>, AllocError>
+    requires { i < length parts.now }
+    ensures { IfOk result (λ xs. xs ≡ slice_set parts.now i part) }
+{
+    shared(alloc, copy_with(alloc, parts, i, part)?)
 }
 
 /// The scope with another part.
@@ -139,6 +163,6 @@ pub fn with_part(alloc: Global, seen: &Seen, i: u32, part: Part) -> Result<Seen,
         knowledge: seen.knowledge,
         asked: seen.asked,
         has_failure: seen.has_failure,
-        parts: copy_with(alloc, &seen.parts, i as usize, part)?,
+        parts: parts_with(alloc, seen.parts.as_slice(), i as usize, part)?,
     })
 }

@@ -8,7 +8,7 @@ ghost use Rattle.sts_model.specs.declared.record.Entry.TheVariants as entry;
 
 use crate::bindings::bindings;
 use crate::frames::{left, stepped};
-use crate::places::{number, set_held};
+use crate::places::{number, set_held, shared};
 use crate::stop::Stop;
 use laws_calls::copies::{copy_behind, push_copies};
 use laws_calls::table::{Asked, Call, Held, Knowledge, Own, Seen};
@@ -40,7 +40,7 @@ fn fresh(
             total: None,
         },
         has_failure: false,
-        parts: Items::new(alloc),
+        parts: shared(alloc, Items::new(alloc))?,
     })
 }
 

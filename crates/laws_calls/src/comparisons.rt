@@ -22,7 +22,7 @@ impl Same for Part {
     fn same(&self, other: &Part) -> bool {
         self.is_open == other.is_open
             && self.is_early == other.is_early
-            && same_items(&self.ways, &other.ways)
+            && same_slices(self.ways.as_slice(), other.ways.as_slice())
     }
 }
 
@@ -95,7 +95,8 @@ impl Same for Seen {
             && same_looks(self, other)
             && same_asked(self.asked, other.asked)
             && same_bounds(self.environment.as_slice(), other.environment.as_slice())
-            && same_items(&self.parts, &other.parts)
+            && self.parts.print() == other.parts.print()
+            && same_slices(self.parts.as_slice(), other.parts.as_slice())
     }
 }
 

@@ -19,11 +19,11 @@ pub fn push_copies<T: Copied>(alloc: Global, ys: &mut Items<T>, xs: &[T]) -> Res
 }
 
 /// A copy of a list.
-pub fn copy_list<T: Copied>(alloc: Global, xs: &Items<T>) -> Result<Items<T>, AllocError>
+pub fn copy_list<T: Copied>(alloc: Global, xs: &[T]) -> Result<Items<T>, AllocError>
     ensures { IfOk result (λ ys. ys ≡ xs.now) }
 {
     let mut ys = Items::new(alloc);
-    push_copies(alloc, &mut ys, xs.as_slice())?;
+    push_copies(alloc, &mut ys, xs)?;
     Ok(ys)
 }
 
@@ -40,25 +40,24 @@ pub fn copy_behind<T: Copied>(alloc: Global, first: T, xs: &[T]) -> Result<Items
 /// A copy of a list, with another value at an index.
 pub fn copy_with<T: Copied>(
     alloc: Global,
-    xs: &Items<T>,
+    xs: &[T],
     at: usize,
     x: T,
 ) -> Result<Items<T>, AllocError>
     requires { at < length xs.now }
     ensures { IfOk result (λ ys. ys ≡ slice_set xs.now at x) }
 {
-    let values = xs.as_slice();
     let mut ys = Items::new(alloc);
-    push_copies(alloc, &mut ys, &values[..at])?;
+    push_copies(alloc, &mut ys, &xs[..at])?;
     ys.push(x)?;
-    push_copies(alloc, &mut ys, &values[at + 1..])?;
+    push_copies(alloc, &mut ys, &xs[at + 1..])?;
     Ok(ys)
 }
 
 impl Copied for Part {
     fn copied(&self, alloc: Global) -> Result<Part, AllocError> {
         Ok(Part {
-            ways: copy_items(alloc, &self.ways)?,
+            ways: self.ways.share()?,
             is_open: self.is_open,
             is_early: self.is_early,
         })
@@ -75,7 +74,7 @@ impl Copied for Seen {
             knowledge: self.knowledge,
             asked: self.asked,
             has_failure: self.has_failure,
-            parts: copy_list(alloc, &self.parts)?,
+            parts: self.parts.share()?,
         })
     }
 }
@@ -85,7 +84,7 @@ impl Copied for Own {
         Ok(Own {
             frame: copy_frame(&self.frame),
             held: self.held,
-            scopes: copy_list(alloc, &self.scopes)?,
+            scopes: copy_list(alloc, self.scopes.as_slice())?,
         })
     }
 }

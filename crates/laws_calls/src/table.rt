@@ -3,6 +3,7 @@
 ghost use Rattle.std.specs.Prelude.{◌≡◌};
 ghost use Rattle.laws_calls.specs.Outside.{may_flag};
 
+use crate::shared::Shared;
 use sts_code::Joiner;
 use sts_model::{Bound, End, Frame, Items, Phase};
 
@@ -54,7 +55,7 @@ pub struct Way {
 #[derive(Drop)]
 pub struct Part {
     /// The ways that are still possible.
-    pub ways: Items<Way>,
+    pub ways: Shared<Way>,
     /// May it be unavailable?
     pub is_open: bool,
     /// May it have failed before all others?
@@ -96,7 +97,7 @@ pub struct Seen {
     /// Has its owner seen a failure?
     pub has_failure: bool,
     /// Its subtasks, in fork order.
-    pub parts: Items<Part>,
+    pub parts: Shared<Part>,
 }
 
 /// A state of one task. Its frame has empty slots, and no births. Its open scopes are in the order
@@ -113,5 +114,5 @@ pub struct Own {
 pub struct Row {
     pub call: Call,
     pub states: Items<Own>,
-    pub ways: Items<Way>,
+    pub ways: Shared<Way>,
 }

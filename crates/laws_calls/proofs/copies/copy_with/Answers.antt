@@ -1,5 +1,4 @@
 use Rattle.std.proofs.Common.{◌≡◌, ◌<◌, ◌+◌, ℕ, List, [], ◌∷◌, ◌++◌, length, set, take, drop, ◌∙◌, ap, append_assoc, add-one, rules, arith}
-use Rattle.std.specs.List.{between}
 use Rattle.std.proofs.lemmas.List.{set_split}
 use Rattle.std.proofs.lemmas.Slice.{between_to_end}
 use Rattle.laws_calls.proofs.copies.copy_with.Goals as goal
@@ -9,14 +8,11 @@ with_set xs a b d i x less e f g =
     let split : set xs i x ≡ take i xs ++ x ∷ drop (i + 1) xs = rw add-one (set_split xs i x less) in
     rw (g, f, e, split) (append_assoc (take i xs) (x ∷ []) (drop (i + 1) xs))
 
--- the values from an index on
-to_end : {X : Type 0} (vals xs : List X) (i : ℕ) → vals ≡ xs → between i (length vals) vals ≡ drop i xs
-to_end vals xs i same = between_to_end vals i (length vals) (omega arith) ∙ ap (λ l. drop i l) same
-
 pub returns : goal.returns
 returns g c =
-    let front : c.push_copies.new.ys ≡ take c.args.at c.args.xs.now = search rules in
-    let behind : c.push_copies-2.new.ys ≡ c.push.new.self ++ drop (c.args.at + 1) c.args.xs.now =
-    c.in_ok-push_copies-2.ensures ∙ ap (λ l. c.push.new.self ++ l) (to_end c.as_slice-values.result.now c.args.xs.now (c.args.at + 1) c.as_slice-values.ensures)
+    let xs = c.args.xs.now in
+    let front : c.push_copies.new.ys ≡ take c.args.at xs = search rules in
+    let behind : c.push_copies-2.new.ys ≡ c.push.new.self ++ drop (c.args.at + 1) xs =
+    c.in_ok-push_copies-2.ensures ∙ ap (λ l. c.push.new.self ++ l) (between_to_end xs (c.args.at + 1) (length xs) (omega arith))
     in
-    with_set c.args.xs.now c.push_copies.new.ys c.push.new.self c.push_copies-2.new.ys c.args.at c.args.x c.requires front c.in_ok-push.ensures.ok behind
+    with_set xs c.push_copies.new.ys c.push.new.self c.push_copies-2.new.ys c.args.at c.args.x c.requires front c.in_ok-push.ensures.ok behind
