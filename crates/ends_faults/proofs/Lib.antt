@@ -1,0 +1,6 @@
+pub mod ClosingLemmas
+pub mod EntryLemmas
+pub mod FaultLemmas
+pub mod HeldLemmas
+pub mod PickLemmas
+pub mod TableLemmas
