@@ -10,6 +10,7 @@ use ends_picks::joiners::{is_failure, is_success};
 use ends_picks::possible::has_pick;
 use ends_table::places::with_part;
 use ends_table::stop::Stop;
+use laws_calls::shared::Shared;
 use laws_calls::table::{Part, Seen, Way};
 use std::alloc::{AllocError, Global};
 use sts_code::Kind;
@@ -44,8 +45,9 @@ fn other_ways(alloc: Global, kind: Kind, ways: &[Way]) -> Result<Items<Way>, All
 fn without(alloc: Global, kind: Kind, part: &Part) -> Result<Part, AllocError>
     ensures { IfOk result (λ x. x ≡ def.without (is_kind kind) part.now) }
 {
+    let ways = other_ways(alloc, kind, part.ways.as_slice())?;
     Ok(Part {
-        ways: other_ways(alloc, kind, part.ways.as_slice())?,
+        ways: Shared::new(alloc, ways, 0)?,
         is_open: part.is_open,
         is_early: part.is_early,
     })
