@@ -357,6 +357,49 @@ def groups(count, subtasks):
     return lines(f"{leaf} / func group 0 / {scope_of('leaf', subtasks, 1)} / func main 0 / {scope_of('group', count, 0)}")
 
 
+def ending(joiner, timed):
+    """The lines from `join` on of a function that counts its successes, but gives what `any` gives."""
+    failed = "bad" if joiner in ("all", "any", "awaitok") else "-"
+    gives = "" if joiner.startswith("await") or joiner == "any" else "pop / "
+    tally = "" if joiner == "any" else "tally s1 S / "
+    bad = "bad: / close s1 / fail / " if failed == "bad" else ""
+    late = "late: / close s1 / push 70 / fail / " if timed else ""
+    return (f"join s1 {failed} {'late' if timed else '-'} intr / {gives}{tally}close s1 / ret / {bad}{late}"
+            "intr: / close s1 / push 80 / fail / end")
+
+
+def forks(name, head, joiner, timed, count, called, change="load 5 / push 1 / add / store 5 / "):
+    """A function that forks so many subtasks in a loop, each with another argument unless `change` is empty."""
+    opened = f"open s1 {joiner}{' timed' if timed else ''} / push {count} / times {count} / "
+    return f"func {name} / {head}{opened}{change}load 5 / fork s1 {called} _ / next / {ending(joiner, timed)}"
+
+
+def levels(counts):
+    """Groups under `all timed`: main forks counts[0] of them, each forks counts[1], and so on; the last ones fork flaky subtasks."""
+    text, called = FLAKY, "flaky"
+    for level, count in reversed(list(enumerate(counts))):
+        name, head = (f"group{level} 1", "load 0 / push 100 / mul / store 5 / ") if level else ("main 0", "")
+        text += " / " + forks(name, head, "all", True, count, called)
+        called = f"group{level}"
+    return lines(text)
+
+
+# It succeeds with its argument, or it fails, if its scope expires or an interrupt comes.
+FLAKY = (
+    "func work 1 / load 0 / ret / end / func flaky 1 / open s1 all timed / load 0 / fork s1 work _ / join s1 bad late intr / pop / "
+    "total s1 / close s1 / ret / bad: / close s1 / fail / late: / close s1 / load 0 / push 7 / add / fail / "
+    "intr: / close s1 / load 0 / push 8 / add / fail / end"
+)
+JOINERS = ("all", "awaitok", "any", "awaitall", "until failed 3", "until success 3", "until atleast 40")
+# By the name of a text whose ends are searched: the text, and how many interrupts may come.
+ENDS = {
+    **{f"200 flaky subtasks, {joiner} timed": (lines(f"{FLAKY} / {forks('main 0', '', joiner, True, 200, 'flaky')}"), 1) for joiner in JOINERS},
+    "3000 equal subtasks, all": (lines("func kid 1 / load 0 / ret / end / " + forks("main 0", "", "all", False, 3000, "kid", "")), 0),
+    "8 groups of 8 of 8, all timed": (levels((8, 8, 8)), 2),
+    "50 groups of 50, all timed": (levels((50, 50)), 2),
+}
+
+
 def labels(names):
     """One function of labels, with a jump to each of some of them, spread over all."""
     order = sorted(names, key=lambda name: name[::-1])
@@ -398,7 +441,10 @@ def main():
             write(folder, f"{name}{times}.trace", trace)
     for count, subtasks in ((2, 2), (2, 3), (3, 2), (3, 3)):
         write(folder, f"groups{count}x{subtasks}.sts", groups(count, subtasks))
+    for name, (text, _) in ENDS.items():
+        write(folder, f"{name}.sts", text)
     growing(folder)
 
 
-main()
+if __name__ == "__main__":
+    main()

@@ -2,7 +2,7 @@
 """Prints tables of the throughputs of `sts` and `look`, each the least time of several runs.
 usage: run.py [PATH_OF_sts [PATH_OF_look]]  (RUNS=9)
 
-ONLY=workers prints one of the tables: texts, machines, workers, scopes, work, growth or labels. Rates are of the whole process
+ONLY=workers prints one of the tables: texts, machines, workers, scopes, work, growth, labels or ends. Rates are of the whole process
 less the time that a text of one function takes. `growth` has 1, 2, 4 and 8 times the work, and the exponent: the slope by which
 the logarithm of the time, less that of a text of one function, grows with that of the work. In proportion it is 1. Its times are
 those of the processor, which depend less on what else the machine does.
@@ -19,6 +19,8 @@ import sys
 import tempfile
 import time
 
+import make_texts
+
 HERE = os.path.dirname(os.path.abspath(__file__))
 RUNS = int(os.environ.get("RUNS", "9"))
 # the words of the line, or the launchers in the root folder
@@ -28,12 +30,12 @@ WORK = ("polling_50", "polling_500", "polling_5000", "subtasks_5", "subtasks_50"
 WORK += ("short_then_wide", "short_then_500", "row_of_600", "fans_of_500", "one_long_task", "burst")
 
 
-def once(command):
-    """How long one run takes, and what it prints."""
+def once(command, statuses=(0, 1)):
+    """How long one run takes, which may end with these statuses, and what it prints."""
     start = time.perf_counter()
     done = subprocess.run(command, stdout=subprocess.PIPE, stderr=subprocess.PIPE)
     seconds = time.perf_counter() - start
-    if done.returncode not in (0, 1):
+    if done.returncode not in statuses:
         raise SystemExit(f"{' '.join(command)}: status {done.returncode}: {done.stdout[:200]!r}")
     return seconds, done.stdout
 
@@ -186,7 +188,17 @@ def labels(program, at, base):
             print(f"{f'list {name} labels, {times} times':38}{seconds * 1e3:9.2f}{seconds / first:18.1f}")
 
 
-TABLES = {it.__name__: it for it in (texts, machines, workers, scopes, work, growth, labels)}
+def ends(program, at, base):
+    """Rows of searches for all ends, with the last line that each prints."""
+    print(f"\n{'case':48}{'of proc. s':>11}{'MiB':>7}  said")
+    for name, (_, interrupts) in make_texts.ENDS.items():
+        line = [LOOK, "ends", at(name + ".sts"), "--interrupts", str(interrupts)]
+        _, seconds, _, most = min((counted(line, (0, 5)) for _ in range(RUNS)), key=lambda it: it[1])
+        said = once(line, (0, 5))[1].decode().splitlines()[-1]
+        print(f"{name + f', +{interrupts}':48}{seconds:11.2f}{most:7.0f}  {said}", flush=True)
+
+
+TABLES = {it.__name__: it for it in (texts, machines, workers, scopes, work, growth, labels, ends)}
 
 
 def main():
