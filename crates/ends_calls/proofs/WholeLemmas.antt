@@ -12,7 +12,8 @@ use Rattle.sts_plain.specs.Seen.{shown, ended_or_running}
 use Rattle.sts_plain.specs.declared.misstep.PlainState.{PlainState}
 use Rattle.sts_plain.specs.declared.misstep.PlainState.TheVariants as plain
 use Rattle.laws_runs.specs.Runs.{In, NeverFaults}
-use Rattle.laws_calls.specs.Outside.{Outside, only_interrupts}
+use Rattle.laws_calls.specs.declared.table.Outside.{Outside}
+use Rattle.laws_calls.specs.Outside.{only_interrupts}
 use Rattle.laws_calls.specs.Tasks.{HasWay}
 use Rattle.laws_calls.specs.Steps.{Table, IsTable}
 use Rattle.laws_calls.specs.declared.table.Row.{Row}

@@ -16,7 +16,8 @@ use Rattle.sts_model.specs.World.{code}
 use Rattle.sts_model.specs.Local.{is_local, local, operand, steps, truth}
 use Rattle.sts_model.specs.Environment.{read}
 use Rattle.laws_calls.specs.declared.table.Held.TheVariants as held
-use Rattle.laws_calls.specs.Outside.{Outside, may_flag}
+use Rattle.laws_calls.specs.declared.table.Outside.{Outside}
+use Rattle.laws_calls.specs.Outside.{may_flag}
 use Rattle.laws_calls.specs.Tasks.{at_place, held_at, bindings}
 use Rattle.laws_calls.specs.declared.table.Call.{Call}
 use Rattle.laws_calls.specs.declared.table.Own.{Own}

@@ -2,7 +2,7 @@
 use Rattle.std.proofs.Common.{◌≡◌, ℕ, [], ◌∷◌, get_or, inl, subst, refl}
 use Rattle.std.specs.Prelude.{All}
 use Rattle.sts_code.specs.Program.{Program}
-use Rattle.laws_calls.specs.Outside.{Outside}
+use Rattle.laws_calls.specs.declared.table.Outside.{Outside}
 use Rattle.laws_calls.specs.Tasks.{Among}
 use Rattle.laws_calls.specs.declared.table.Own.{Own}
 use Rattle.laws_calls.specs.Steps.{Table, IsTable}

@@ -12,7 +12,7 @@ use Rattle.sts_model.specs.Joining.{is_success, is_failure, result_of}
 use Rattle.sts_model.specs.Local.{truth, goes}
 use Rattle.sts_model.specs.World.{instr_at}
 use Rattle.laws_calls.specs.declared.table.Held.TheVariants as held
-use Rattle.laws_calls.specs.Outside.{Outside}
+use Rattle.laws_calls.specs.declared.table.Outside.{Outside}
 use Rattle.laws_calls.specs.Tasks.{Among, HasWay, begin}
 use Rattle.laws_calls.specs.declared.table.Part.{Part}
 use Rattle.laws_calls.specs.declared.table.Seen.{Seen}
