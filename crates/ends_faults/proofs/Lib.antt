@@ -1,0 +1,3 @@
+pub mod ClosingLemmas
+pub mod FaultLemmas
+pub mod HeldLemmas
