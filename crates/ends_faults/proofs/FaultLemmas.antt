@@ -46,13 +46,8 @@ use Rattle.laws_calls.specs.Fitting.{MayCount, Fits}
 use Rattle.laws_calls.specs.Steps.{Owns, Knows}
 use Rattle.laws_calls.specs.Triggers.{triggers}
 use Rattle.laws_calls.specs.Covers.{subs, PartFits, SeenFits, HeldFits, FrameFits, IsRight, alive_in}
-use Rattle.laws_calls.proofs.Lists.{all_place, all_length, at_among, get_among, no}
-use Rattle.laws_calls.proofs.Turns.{Facts, births_has, listed_inside}
-use Rattle.laws_calls.proofs.Moves.{held_slot}
-use Rattle.laws_calls.proofs.Counts.{states_in, subs_count}
-use Rattle.laws_calls.proofs.Possible.{pick_fits}
-use Rattle.laws_calls.proofs.Frames.{blank_bounds}
-use Rattle.laws_calls.proofs.CoverLemmas.{facts_after}
+use Rattle.laws_calls.proofs.FittingLemmas.{Facts, all_place, all_length, at_among, get_among, births_has, listed_inside, held_slot}
+use Rattle.laws_calls.proofs.FittingLemmas.{states_in, subs_count, pick_fits, blank_bounds, facts_after, no}
 use Rattle.ends_faults.specs.Closing.{IsAtClose, ClosesAreWaitedFor}
 use Rattle.ends_faults.specs.Safe as safe
 use Rattle.ends_faults.specs.Safe.{OwnsOne, KnowsOne, CanFork, CanJoin, CanClose, CanRead, IsAllowed, IsSafe}

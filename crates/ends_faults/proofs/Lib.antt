@@ -1,3 +1,5 @@
 pub mod ClosingLemmas
+pub mod EntryLemmas
 pub mod FaultLemmas
 pub mod HeldLemmas
+pub mod PickLemmas

@@ -2,6 +2,13 @@
 //! something.
 #![tactic(auto)]
 
+pub mod entries;
 pub mod laws;
+pub mod picks;
+pub mod safe;
+pub mod scopes;
+pub mod tables;
 
 pub use laws::{closing_is_at_close, safe_is_fine};
+pub use safe::is_safe;
+pub use tables::are_safe;

@@ -9,7 +9,7 @@ use crate::tallies::tallies_fit;
 use laws_calls::table::{Own, Seen};
 
 /// May the scope have a pick that fits? No if the answer is false.
-fn has_pick(seen: &Seen) -> bool
+pub fn has_pick(seen: &Seen) -> bool
     ensures { (pick : List (Option End)) → Fits seen.now pick → result ≡ true }
 {
     may_fit(seen) && tallies_fit(seen)

@@ -1,0 +1,43 @@
+-- The structure list, entry by entry.
+use Rattle.std.proofs.Common.{◌≡◌, ℕ, suc, ◌+◌, ◌<◌, List, [], ◌∷◌, Bool, true, false, Some, refl, sym, ◌∙◌, ap, subst, arith, length, get_or, drop, cond, is_some, drop-cons, add-one}
+use Rattle.std.specs.Prelude.{◌==◌}
+use Rattle.sts_model.specs.declared.record.Entry.{Entry}
+use Rattle.sts_model.specs.declared.record.Entry.TheVariants as entry
+use Rattle.laws_calls.specs.Tasks.{births_in, scope_of_entry}
+use Rattle.ends_faults.specs.Safe.{binds_after}
+
+-- is it a scope?
+abbrev pub is_scope_entry : Entry → Bool
+is_scope_entry e = is_some (scope_of_entry e)
+
+split : (es : List Entry) (i : ℕ) (d : Entry) → i < length es → drop i es ≡ get_or es i d ∷ drop (i + 1) es
+split es i d less = let next : suc i ≡ i + 1 = omega arith in drop-cons es i d less ∙ ap (λ n. get_or es i d ∷ drop n es) next
+
+pub one_scope : (es : List Entry) (i : ℕ) (d : Entry) → i < length es → is_scope_entry (get_or es i d) ≡ true → length (births_in (drop i es)) ≡ length (births_in (drop (i + 1) es)) + 1
+one_scope es i d less is = ap (λ xs. length (births_in xs)) (split es i d less) ∙ by (get_or es i d) is
+  where
+    by : (x : Entry) → is_scope_entry x ≡ true → length (births_in (x ∷ drop (i + 1) es)) ≡ length (births_in (drop (i + 1) es)) + 1
+    by (entry.Scope s) e = omega arith
+    by (entry.Binding k v) e = cc
+
+pub no_scope : (es : List Entry) (i : ℕ) (d : Entry) → i < length es → is_scope_entry (get_or es i d) ≡ false → length (births_in (drop i es)) ≡ length (births_in (drop (i + 1) es))
+no_scope es i d less is = ap (λ xs. length (births_in xs)) (split es i d less) ∙ by (get_or es i d) is
+  where
+    by : (x : Entry) → is_scope_entry x ≡ false → length (births_in (x ∷ drop (i + 1) es)) ≡ length (births_in (drop (i + 1) es))
+    by (entry.Scope s) e = cc
+    by (entry.Binding k v) e = refl
+
+pub binds_yes : (es : List Entry) (place i : ℕ) (d : Entry) → i < length es → is_scope_entry (get_or es i d) ≡ false → binds_after place (drop i es) ≡ true
+binds_yes es place i d less is = ap (binds_after place) (split es i d less) ∙ by (get_or es i d) is
+  where
+    by : (x : Entry) → is_scope_entry x ≡ false → binds_after place (x ∷ drop (i + 1) es) ≡ true
+    by (entry.Scope s) e = cc
+    by (entry.Binding k v) e = refl
+
+-- the scope at the place, or another one
+pub binds_scope : (es : List Entry) (place i : ℕ) (d : Entry) → i < length es → is_scope_entry (get_or es i d) ≡ true → binds_after place (drop i es) ≡ cond (place == length (births_in (drop (i + 1) es))) false (binds_after place (drop (i + 1) es))
+binds_scope es place i d less is = ap (binds_after place) (split es i d less) ∙ by (get_or es i d) is
+  where
+    by : (x : Entry) → is_scope_entry x ≡ true → binds_after place (x ∷ drop (i + 1) es) ≡ cond (place == length (births_in (drop (i + 1) es))) false (binds_after place (drop (i + 1) es))
+    by (entry.Scope s) e = refl
+    by (entry.Binding k v) e = cc
