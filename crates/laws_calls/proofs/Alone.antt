@@ -53,7 +53,7 @@ use Rattle.laws_calls.proofs.Moves.{OwnScope, own_scope, OwnSub, own_sub, held_l
 use Rattle.laws_calls.proofs.Counts.{states_in, tally_states}
 use Rattle.laws_calls.proofs.Totals.{total_states, count_states}
 use Rattle.laws_calls.proofs.Early.{order_saw, order_put, order_missed}
-use Rattle.laws_calls.proofs.Possible.{are_possible, counts_cancelled, pick_fits, unknown, unheard, few_free, settled_fits, counts_most, undecided}
+use Rattle.laws_calls.proofs.Possible.{decided_on_time, are_possible, counts_cancelled, pick_fits, unknown, unheard, few_free, settled_fits, counts_most, undecided}
 use Rattle.laws_calls.specs.Triggers.{is_trigger, triggers}
 use Rattle.laws_calls.proofs.Frames.{bare_local, blank_bounds, blank_drop}
 
@@ -273,16 +273,16 @@ module _ (p : Program) (outside : Outside) (t : Table) (root : Row) (is : IsTabl
                   (ap (λ (z : Frame). steps z 0 (truth true ∷ [])) k.fits.frame) o.at new;
             }
 
-        known_as : (s : ℕ) (y : Seen) (q : Knowledge) → SeenFits rows w s y → IsRight q (scope_at w s) → MayCount q y.phase y.joiner (triggers y.joiner (ends (scope_at w s))) → SeenFits rows w s (record y { knowledge = q })
-        known_as s y q k2 right counts =
-            record { joiner = k2.joiner; timed = k2.timed; environment = k2.environment; phase = k2.phase; known = right; parts = k2.parts; counts = counts; asked = k2.asked; order = k2.order }
+        known_as : (s : ℕ) (y : Seen) (q : Knowledge) → SeenFits rows w s y → IsRight q (scope_at w s) → (q ≡ ByJoiner → is_joined y.phase ≡ true → (scope_at w s).expired ≡ false) → MayCount q y.phase y.joiner (triggers y.joiner (ends (scope_at w s))) → SeenFits rows w s (record y { knowledge = q })
+        known_as s y q k2 right timely counts =
+            record { joiner = k2.joiner; timed = k2.timed; environment = k2.environment; phase = k2.phase; known = right; on_time = timely; parts = k2.parts; counts = counts; asked = k2.asked; order = k2.order }
 
         by_joiner : (s : ℕ) (o : OwnScope rows w f own x s) → (scope_at w s).cancelled ≡ true → may_decide o.seen.knowledge ≡ true → StepsTo p outside t rows w u own (Cancelled x) (steps f 0 (truth true ∷ []))
-        by_joiner s o e may = pushed s o (after_cancel o.seen) (known_as s o.seen ByJoiner o.fits e (counts_cancelled o.seen.knowledge o.seen.phase o.seen.joiner _ may o.fits.counts)) (cancelled_step o.place o.seen o.owns may)
+        by_joiner s o e may = pushed s o (after_cancel o.seen) (known_as s o.seen ByJoiner o.fits e (λ is joined. decided_on_time rows w s o.seen o.fits may joined) (counts_cancelled o.seen.knowledge o.seen.phase o.seen.joiner _ may o.fits.counts)) (cancelled_step o.place o.seen o.owns may)
 
         by_expiry : (s : ℕ) (o : OwnScope rows w f own x s) → (scope_at w s).cancelled ≡ true → (scope_at w s).expired ≡ true → may_be_late o.seen.knowledge ≡ true → StepsTo p outside t rows w u own (Cancelled x) (steps f 0 (truth true ∷ []))
         by_expiry s o e late may =
-            pushed s o (after_expiry o.seen) (known_as s o.seen Late o.fits (e, late) (counts_most o.seen.knowledge o.seen.phase o.seen.joiner _ o.fits.counts))
+            pushed s o (after_expiry o.seen) (known_as s o.seen Late o.fits (e, late) (λ is joined. cc) (counts_most o.seen.knowledge o.seen.phase o.seen.joiner _ o.fits.counts))
             (expired_step o.place o.seen o.owns may (o.fits.timed ∙ timely s late))
 
         -- what was known of a scope that has expired
@@ -417,6 +417,7 @@ module _ (p : Program) (outside : Outside) (t : Table) (root : Row) (is : IsTabl
                 environment = o.fits.environment;
                 phase = o.fits.phase;
                 known = o.fits.known;
+                on_time = o.fits.on_time;
                 parts = o.fits.parts;
                 counts = o.fits.counts;
                 asked = o.fits.asked;
@@ -467,6 +468,7 @@ module _ (p : Program) (outside : Outside) (t : Table) (root : Row) (is : IsTabl
           environment = k2.environment;
           phase = k2.phase;
           known = k2.known;
+          on_time = k2.on_time;
           parts = k2.parts;
           counts = k2.counts;
           asked = inr (now k2.phase, answers);

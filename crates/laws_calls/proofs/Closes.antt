@@ -122,6 +122,7 @@ module _ (p : Program) (outside : Outside) (t : Table) (root : Row) (is : IsTabl
         environment = k.environment;
         phase = inr refl;
         known = still_right some y.knowledge k.known;
+        on_time = k.on_time;
         counts = k.counts;
         asked = k.asked;
         order = λ e. order_same y.has_failure (scope_at w s) leaving (subs w s) y.parts refl (k.order e);

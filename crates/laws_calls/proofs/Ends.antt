@@ -40,7 +40,7 @@ use Rattle.laws_calls.proofs.Phases.{at_cancelled, cancel_other}
 use Rattle.laws_calls.specs.Triggers.{triggers}
 use Rattle.laws_calls.specs.Fitting.{most, MayCount, Answers}
 use Rattle.laws_calls.proofs.Early.{order_told}
-use Rattle.laws_calls.proofs.Possible.{counts_told, few_told}
+use Rattle.laws_calls.proofs.Possible.{joined_on, counts_told, few_told}
 use Rattle.laws_calls.proofs.Alone.{instr_of}
 
 -- ---- what the end changes
@@ -219,6 +219,7 @@ module _ (p : Program) (outside : Outside) (t : Table) (root : Row) (is : IsTabl
         environment = k.environment ∙ sym (n.later.scope s born).same.environment;
         phase = phase k.phase;
         known = known x.knowledge k.known;
+        on_time = λ is joined. (n.later.scope s born).moves.timely (joined_on (scope_at w s).phase x.phase k.phase joined) ∙ k.on_time is joined;
         counts = counts x.knowledge k.known k.counts;
         asked = inl (unasked k.phase k.asked);
         order = λ e. order_told x.has_failure (scope_at w s) (scope_at v s) (subs w s) x.parts (record { task = u; end = end } ∷ []) told.completions (k.order e);

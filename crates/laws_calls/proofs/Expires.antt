@@ -23,6 +23,7 @@ use Rattle.laws_calls.specs.Tasks.{Seen, Own, Knowledge, Unseen, ByJoiner, Late,
 use Rattle.laws_calls.specs.Steps.{Row, Table}
 use Rattle.laws_calls.specs.Covers.{subs, PartFits, ScopeFits, SeenFits, TaskFits, IsRight, IsTimely, IsCovered, Covers, alive_in}
 use Rattle.laws_calls.proofs.Lists.{all_map, no}
+use Rattle.laws_calls.proofs.Possible.{joined_on}
 use Rattle.laws_calls.proofs.Turns.{Facts, FlagsHaveCause, alive_later, covered_before, seen_same, task_same}
 use Rattle.laws_calls.proofs.Moves.{subs_same}
 use Rattle.laws_calls.proofs.Early.{order_same}
@@ -83,6 +84,7 @@ module _ (p : Program) (outside : Outside) (t : Table) (root : Row) (w : World) 
           environment = k.environment;
           phase = k.phase;
           known = right z.knowledge k.known;
+          on_time = λ is joined. absurd (no (sym joins ∙ joined_on scope.phase z.phase k.phase joined));
           counts = k.counts;
           asked = k.asked;
           order = λ e. order_same z.has_failure scope y (subs w s) z.parts refl (k.order e);

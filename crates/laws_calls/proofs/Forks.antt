@@ -209,6 +209,7 @@ module _ (p : Program) (w : World) (h : Facts w) (u x g : ℕ) (q : Option ℕ) 
           environment = k.scope.fits.environment;
           phase = k.scope.fits.phase;
           known = k.scope.fits.known;
+          on_time = k.scope.fits.on_time;
           counts = k.scope.fits.counts;
           asked = inl k.unasked;
           order = λ e. order_more k.scope.seen.has_failure (scope_at w s) (subs w s) k.scope.seen.parts n part refl (k.scope.fits.order e);

@@ -152,6 +152,7 @@ module _ (p : Program) (outside : Outside) (t : Table) (root : Row) (is : IsTabl
           environment = k.environment;
           phase = k.phase;
           known = k.known;
+          on_time = k.on_time;
           counts = k.counts;
           asked = k.asked;
           order = k.order;
@@ -239,14 +240,15 @@ module _ (p : Program) (outside : Outside) (t : Table) (root : Row) (is : IsTabl
     asked_joined z same (inr k) = inr (refl, subst (λ a. Answers a (states_in w s)) (sym same) k.1)
 
     -- with other knowledge and other parts
-    fits_with : (z : Seen) → z.joiner ≡ o.seen.joiner → z.timed ≡ o.seen.timed → z.environment ≡ o.seen.environment → z.asked ≡ o.seen.asked → IsRight z.knowledge after_join → MayCount z.knowledge Joined z.joiner (triggers z.joiner (ends scope)) → AllTwo (PartFits rows (alive_in w) scope) (subs w s) z.parts → ScopeFits rows (alive_in w) after_join (subs w s) (record z { phase = Joined })
-    fits_with z joiner timed environment asked known counts k =
+    fits_with : (z : Seen) → z.joiner ≡ o.seen.joiner → z.timed ≡ o.seen.timed → z.environment ≡ o.seen.environment → z.asked ≡ o.seen.asked → IsRight z.knowledge after_join → (z.knowledge ≡ ByJoiner → scope.expired ≡ false) → MayCount z.knowledge Joined z.joiner (triggers z.joiner (ends scope)) → AllTwo (PartFits rows (alive_in w) scope) (subs w s) z.parts → ScopeFits rows (alive_in w) after_join (subs w s) (record z { phase = Joined })
+    fits_with z joiner timed environment asked known timely counts k =
         record {
           joiner = joiner ∙ o.fits.joiner;
           timed = timed ∙ o.fits.timed;
           environment = environment ∙ o.fits.environment;
           phase = inl refl;
           known = known;
+          on_time = λ is joined. timely is;
           counts = counts;
           asked = asked_joined z asked o.fits.asked;
           order = λ e. cc;
@@ -282,7 +284,7 @@ module _ (p : Program) (outside : Outside) (t : Table) (root : Row) (is : IsTabl
           same = ap (λ k. result_of k (ends scope) (subtask_count w s)) is_j ∙ same ∙ ap (λ k. result_of k (e ∷ []) (length parts)) (sym seen_j);
           step = by_one_step o.place o.seen c.i c.part e o.owns (undecided o.seen.knowledge scope o.fits.known gone on_time) (subst (λ k. is_by_one k ≡ true) (sym seen_j) one) c.may
               (subst (λ k. is_trigger k e ≡ true) (sym seen_j) (triggers e b.passes));
-          fits = fits_with (decided (after_cancel o.seen) c.i e c.part) refl refl refl refl gone (gone_counts asked) (parts_decided o.seen e c o.fits.parts);
+          fits = fits_with (decided (after_cancel o.seen) c.i e c.part) refl refl refl refl gone (λ is. on_time) (gone_counts asked) (parts_decided o.seen e c o.fits.parts);
         }
 
     by_count : scope.cancelled ≡ true → scope.expired ≡ false → is_asked scope ≡ true → (j : Joiner) → scope.joiner ≡ j → is_until j ≡ true → ((n : ℕ) (es : List End) → result_of j es n ≡ result_of j [] n) → Outcome rows own o
@@ -293,7 +295,7 @@ module _ (p : Program) (outside : Outside) (t : Table) (root : Row) (is : IsTabl
           seen = after_cancel o.seen;
           same = ap (λ k. result_of k (ends scope) (subtask_count w s)) is_j ∙ none (subtask_count w s) (ends scope) ∙ ap (λ n. result_of j [] n) count ∙ ap (λ k. result_of k [] (length parts)) (sym seen_j);
           step = by_count_step o.place o.seen o.owns (undecided o.seen.knowledge scope o.fits.known gone on_time) (subst (λ k. is_until k ≡ true) (sym seen_j) until);
-          fits = fits_with (after_cancel o.seen) refl refl refl refl gone (gone_counts asked) o.fits.parts;
+          fits = fits_with (after_cancel o.seen) refl refl refl refl gone (λ is. on_time) (gone_counts asked) o.fits.parts;
         }
 
     cancelled_answers : scope.cancelled ≡ true → scope.expired ≡ false → is_asked scope ≡ true → (j : Joiner) → scope.joiner ≡ j → cancels j (ends scope) ≡ true → Outcome rows own o
@@ -354,7 +356,7 @@ module _ (p : Program) (outside : Outside) (t : Table) (root : Row) (is : IsTabl
             seen = after_all o.seen;
             same = ap (λ k. result_of k (ends scope) (subtask_count w s)) is_j ∙ same ∙ ap (λ n. result_of j [] n) count ∙ ap (λ k. result_of k [] (length parts)) (sym seen_j);
             step = heard_step o.place o.seen o.owns (unknown o.seen.knowledge scope o.fits.known free) (λ e. any (ap is_any (sym seen_j) ∙ e));
-            fits = fits_with (after_all o.seen) refl refl refl refl (free, refl) heard_counts heard_parts;
+            fits = fits_with (after_all o.seen) refl refl refl refl (free, refl) (λ is. cc) heard_counts heard_parts;
           }
 
       -- a scope without subtasks
@@ -394,7 +396,7 @@ module _ (p : Program) (outside : Outside) (t : Table) (root : Row) (is : IsTabl
                 ∙ any_verdict e b.passes
                 ∙ ap (λ k. result_of k (e ∷ []) (length parts)) (sym seen_j);
             step = none_step o.place o.seen c.i c.part e o.owns (unknown o.seen.knowledge scope o.fits.known free) (ap is_any seen_j) c.may b.passes r.1;
-            fits = fits_with (decided (after_all o.seen) c.i e c.part) refl refl refl refl (free, refl) heard_counts (parts_decided (after_all o.seen) e c heard_parts);
+            fits = fits_with (decided (after_all o.seen) c.i e c.part) refl refl refl refl (free, refl) (λ is. cc) heard_counts (parts_decided (after_all o.seen) e c heard_parts);
           }
 
       any_answers : scope.joiner ≡ AnySucceeds → list_any is_success (ends scope) ≡ false → (b : Bool) → list_any is_failure (ends scope) ≡ b → Outcome rows own o
@@ -457,6 +459,7 @@ module _ (p : Program) (outside : Outside) (t : Table) (root : Row) (is : IsTabl
           environment = o.fits.environment;
           phase = inl refl;
           known = subst (λ q. IsRight q after_attempt) (sym (unseen_now free)) tt;
+          on_time = λ is joined. cc;
           counts = subst (λ q. MayCount q Attempted o.seen.joiner (triggers o.seen.joiner (ends scope))) (sym (unseen_now free)) (counts_most o.seen.knowledge o.seen.phase o.seen.joiner _ o.fits.counts);
           asked = asked_attempted o.fits.asked;
           order = λ e. order_same o.seen.has_failure scope after_attempt (subs w s) parts refl (o.fits.order unjoined);
@@ -553,7 +556,7 @@ module _ (p : Program) (outside : Outside) (t : Table) (root : Row) (is : IsTabl
       let o = own_scope c.rows w f own x s k.fits mine in
       let next : Own = timed_out own o.place o.seen to_pc in
       let seen_late : ScopeFits c.rows (alive_in w) after_join (subs w s) (record (after_expiry o.seen) { phase = Joined }) =
-      fits_with c.rows own o (after_expiry o.seen) refl refl refl refl (gone, expired) (counts_most o.seen.knowledge o.seen.phase o.seen.joiner _ o.fits.counts) o.fits.parts
+      fits_with c.rows own o (after_expiry o.seen) refl refl refl refl (gone, expired) (λ is. cc) (counts_most o.seen.knowledge o.seen.phase o.seen.joiner _ o.fits.counts) o.fits.parts
       in
       let fits : FrameFits c.rows late (goes f to_pc 0 []) next =
       fits_rescoped after_join (goes f to_pc 0 []) late nx re c.rows own k o (record (after_expiry o.seen) { phase = Joined }) (goes own.frame to_pc 0 []) (record { function = refl; entries = refl; slots = refl })

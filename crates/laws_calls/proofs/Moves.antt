@@ -210,6 +210,7 @@ put_part rows w s x i u part order f at new =
       environment = f.environment;
       phase = f.phase;
       known = f.known;
+      on_time = f.on_time;
       counts = f.counts;
       asked = f.asked;
       order = order;

@@ -124,6 +124,7 @@ module _ (p : Program) (outside : Outside) (t : Table) (root : Row) (is : IsTabl
         environment = sym (bindings_same p outside t root is w h rows u own k);
         phase = inl refl;
         known = tt;
+        on_time = λ is joined. cc;
         counts = no_trigger joiner;
         asked = inl refl;
         order = λ e. tt;

@@ -9,8 +9,9 @@ use Rattle.std.proofs.lemmas.List.Sums.{sum_by-cons}
 use Rattle.sts_code.specs.declared.instr.Joiner.{Joiner}
 use Rattle.sts_model.specs.declared.event.End.{End}
 use Rattle.sts_model.specs.declared.event.Phase.{Phase}
-use Rattle.sts_model.specs.declared.event.Phase.TheVariants.{Joined}
+use Rattle.sts_model.specs.declared.event.Phase.TheVariants.{Joined, Closing}
 use Rattle.sts_model.specs.World.{World, scope_at}
+use Rattle.sts_model.specs.Misuse.{is_joined, can_join}
 use Rattle.sts_model.specs.Living.{completion_of, ends, ends_of}
 use Rattle.sts_model.specs.declared.record.Scope.{Scope}
 use Rattle.sts_model.specs.Joining.{cancels}
@@ -111,6 +112,32 @@ few_free w h s born free j is_j = fewer_heard j (ends (scope_at w s)) (λ e. ap 
 pub enough : (j : Joiner) (es : List End) → cancels j es ≡ true → limit j ≤ triggers j es
 enough j es asked = leb-true (limit j) (triggers j es) (sym (cancels_by_count j es) ∙ asked)
 
+-- ---- a `join`
+
+-- a joined scope is not unseen
+pub never_unseen : (phase : Phase) (j : Joiner) (n : ℕ) → is_joined phase ≡ true → MayCount Unseen phase j n → ⊥
+never_unseen Joined j n e m = m
+never_unseen phase j n e m = cc
+
+-- a joined scope that its joiner may have cancelled had not expired
+pub decided_on_time : (rows : ℕ → Row) (w : World) (s : ℕ) (x : Seen) → SeenFits rows w s x → may_decide x.knowledge ≡ true → is_joined x.phase ≡ true → (scope_at w s).expired ≡ false
+decided_on_time rows w s x k may joined = by x.knowledge refl
+  where
+    by : (q : Knowledge) → x.knowledge ≡ q → (scope_at w s).expired ≡ false
+    by Unseen is = absurd (never_unseen x.phase x.joiner (triggers x.joiner (ends (scope_at w s))) joined (subst (λ (q : Knowledge). MayCount q x.phase x.joiner (triggers x.joiner (ends (scope_at w s)))) is k.counts))
+    by ByJoiner is = k.on_time is joined
+    by Late is = absurd (no (sym may ∙ ap may_decide is))
+    by Heard is = absurd (no (sym may ∙ ap may_decide is))
+
+-- a scope that was seen to be joined can't be joined
+pub joined_on : (a b : Phase) → (a ≡ b) ⊎ (a ≡ Closing) → is_joined b ≡ true → can_join a ≡ false
+joined_on a b (inl same) e = subst (λ (z : Phase). can_join z ≡ false) (sym same) (late b e)
+  where
+    late : (z : Phase) → is_joined z ≡ true → can_join z ≡ false
+    late Joined k = refl
+    late z k = cc
+joined_on a b (inr same) e = ap can_join same
+
 -- ---- picks
 
 pick_of : (rows : ℕ → Row) (w : World) (s : ℕ) (us : List ℕ) (parts : List Part) → AllTwo (PartFits rows (alive_in w) (scope_at w s)) us parts → AllTwo May parts (map (completion_of (scope_at w s).completions) us)
@@ -154,6 +181,7 @@ settled_fits rows w h s born x k = by (is_unseen x.knowledge && nat_le (most x.j
           environment = k.environment;
           phase = k.phase;
           known = cancelled;
+          on_time = λ is joined. decided_on_time rows w s x k (unseen_decides x.knowledge both.0) joined;
           parts = k.parts;
           counts = counts_cancelled x.knowledge x.phase x.joiner _ (unseen_decides x.knowledge both.0) k.counts;
           asked = k.asked;

@@ -277,6 +277,7 @@ module _ (w v : World) (h : Facts w) (n : Next w v) where
         environment = k.environment;
         phase = k.phase;
         known = k.known;
+        on_time = k.on_time;
         counts = k.counts;
         asked = k.asked;
         order = k.order;

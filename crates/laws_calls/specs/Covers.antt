@@ -49,6 +49,11 @@ IsRight ByJoiner scope = scope.cancelled ≡ true
 IsRight Late scope = (scope.cancelled ≡ true) × (scope.expired ≡ true)
 IsRight Heard scope = (scope.cancelled ≡ false) × (is_joined scope.phase ≡ true)
 
+-- a scope that its joiner had cancelled before the `join` had not expired then
+abbrev pub IsOnTime : Seen → Scope → Type 0
+IsOnTime x scope =
+    x.knowledge ≡ ByJoiner → is_joined x.phase ≡ true → scope.expired ≡ false
+
 -- after a `join`: the answers that its owner got to questions on its subtasks
 abbrev pub IsAsked : Seen → List (Option End) → Type 0
 IsAsked x states =
@@ -86,6 +91,7 @@ pub record ScopeFits (rows : ℕ → Row) (alive : ℕ → Bool) (scope : Scope)
   pub environment : x.environment ≡ scope.environment
   pub phase : (scope.phase ≡ x.phase) ⊎ (scope.phase ≡ Closing)
   pub known : IsRight x.knowledge scope
+  pub on_time : IsOnTime x scope
   pub parts : AllTwo (PartFits rows alive scope) subtasks x.parts
   pub counts : MayCount x.knowledge x.phase x.joiner (triggers x.joiner (ends scope))
   pub order : is_joined x.phase ≡ false → InOrder x.has_failure scope subtasks x.parts
