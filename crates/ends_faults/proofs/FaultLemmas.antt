@@ -47,11 +47,11 @@ use Rattle.laws_calls.specs.Steps.{Owns, Knows}
 use Rattle.laws_calls.specs.Triggers.{triggers}
 use Rattle.laws_calls.specs.Covers.{subs, PartFits, SeenFits, HeldFits, FrameFits, IsRight, alive_in}
 use Rattle.laws_calls.proofs.FittingLemmas.{Facts, all_place, all_length, at_among, get_among, births_has, listed_inside, held_slot}
-use Rattle.laws_calls.proofs.FittingLemmas.{states_in, subs_count, pick_fits, blank_bounds, facts_after, no}
+use Rattle.laws_calls.proofs.FittingLemmas.{states_in, subs_count, pick_fits, never_unseen, blank_bounds, facts_after, no}
 use Rattle.ends_faults.specs.Closing.{IsAtClose, ClosesAreWaitedFor}
 use Rattle.ends_faults.specs.Safe as safe
 use Rattle.ends_faults.specs.Safe.{OwnsOne, KnowsOne, CanFork, CanJoin, CanClose, CanRead, IsAllowed, IsSafe}
-use Rattle.ends_faults.specs.Faults.{lacks_births, HasPlace, IsOnTime, IsIn, SafeIsFine}
+use Rattle.ends_faults.specs.Faults.{lacks_births, HasPlace, IsIn, SafeIsFine}
 use Rattle.ends_faults.proofs.HeldLemmas.{empty_slot, scope_slot, sub_slot, own_held, sub_held, get_map}
 use Rattle.ends_faults.proofs.ClosingLemmas.{is_close, closing_is_at_close}
 
@@ -112,14 +112,9 @@ binds_blank (entry.Scope r ∷ es) place s e at = by (place == length (births_in
 
 -- ---- scopes
 
--- a joined scope is not unseen
-never_unseen : (phase : Phase) (j : Joiner) (n : ℕ) → is_joined phase ≡ true → MayCount Unseen phase j n → ⊥
-never_unseen Joined j n e m = m
-never_unseen phase j n e m = cc
-
 -- a scope that its owner may read has not expired in profile one
-on_time : (rows : ℕ → Row) (w : World) (s : ℕ) (x : Seen) → HasCause (scope_at w s) → SeenFits rows w s x → IsOnTime w s x → is_joined x.phase ≡ true → not (safe.is_late x.knowledge) ≡ true → (scope_at w s).expired ≡ false
-on_time rows w s x cause k timely joined e = by x.knowledge refl
+on_time : (rows : ℕ → Row) (w : World) (s : ℕ) (x : Seen) → HasCause (scope_at w s) → SeenFits rows w s x → is_joined x.phase ≡ true → not (safe.is_late x.knowledge) ≡ true → (scope_at w s).expired ≡ false
+on_time rows w s x cause k joined e = by x.knowledge refl
   where
     unexpired : (scope_at w s).cancelled ≡ false → (b : Bool) → (scope_at w s).expired ≡ b → b ≡ false
     unexpired free false is = refl
@@ -127,7 +122,7 @@ on_time rows w s x cause k timely joined e = by x.knowledge refl
 
     by : (q : Knowledge) → x.knowledge ≡ q → (scope_at w s).expired ≡ false
     by Unseen is = absurd (never_unseen x.phase x.joiner (triggers x.joiner (ends (scope_at w s))) joined (subst (λ (q : Knowledge). MayCount q x.phase x.joiner (triggers x.joiner (ends (scope_at w s)))) is k.counts))
-    by ByJoiner is = timely is joined
+    by ByJoiner is = k.on_time is joined
     by Late is = let late : not (safe.is_late x.knowledge) ≡ false = ap (λ q. not (safe.is_late q)) is in absurd (no (sym e ∙ late))
     by Heard is =
         let right = subst (λ (q : Knowledge). IsRight q (scope_at w s)) is k.known in
@@ -143,7 +138,7 @@ on_time_one false late e d = e
 
 -- ---- one state
 
-module _ (p : Program) (rows : ℕ → Row) (w : World) (h : Facts w) (closes : ClosesAreWaitedFor p w) (u : ℕ) (c : Call) (own : Own) (k : IsIn p rows w u c own) where
+module _ (p : Program) (rows : ℕ → Row) (w : World) (h : Facts w) (closes : ClosesAreWaitedFor p w) (u : ℕ) (c : Call) (own : Own) (k : IsIn rows w u c own) where
   abbrev f : Frame
   f = (task_at w u).frame
 
@@ -158,7 +153,6 @@ module _ (p : Program) (rows : ℕ → Row) (w : World) (h : Facts w) (closes : 
     at : at_place opened place ≡ Some s
     fits : SeenFits rows w s seen
     entered : IsEntered w u s
-    timely : is_two p.profile ≡ false → IsOnTime w s seen
 
   scoped : (place s : ℕ) (seen : Seen) → at_place opened place ≡ Some s → at_place own.scopes place ≡ Some seen → Scoped place s seen
   scoped place s seen at there =
@@ -168,9 +162,6 @@ module _ (p : Program) (rows : ℕ → Row) (w : World) (h : Facts w) (closes : 
         at = at;
         fits = subst (λ (z : Seen). SeenFits rows w s z) same r.1.1;
         entered = h.entered u s k.alive (births_has f.entries s (at_among opened place s at));
-        timely = λ one.
-            let q = all_place (IsOnTime w) opened own.scopes place s (k.on_time one) at in
-            subst (λ (z : Seen). IsOnTime w s z) (some_same q.0 seen (sym q.1.0 ∙ there)) q.1.1;
       }
 
   -- the scope that a slot owns
@@ -218,7 +209,7 @@ module _ (p : Program) (rows : ℕ → Row) (w : World) (h : Facts w) (closes : 
         let both = and_parts (is_joined seen.phase) _ e in
         and_from _ _ (ap is_joined (phase_is other place s seen a) ∙ both.0)
         (expired_two (is_two p.profile) (scope_at w s).expired
-        (λ one. on_time rows w s seen (h.caused s a.entered.born) a.fits (a.timely one) both.0 (on_time_one (is_two p.profile) (safe.is_late seen.knowledge) both.1 one)))
+        (λ one. on_time rows w s seen (h.caused s a.entered.born) a.fits both.0 (on_time_one (is_two p.profile) (safe.is_late seen.knowledge) both.1 one)))
 
   -- the state of the subtask passes the test
   state_passes : (test : Option End → Bool) (x place : ℕ) (seen : Seen) (n : ℕ) (a : Known x place seen n) → safe.Always test seen n → test (sub_state w a.child) ≡ true
@@ -409,6 +400,6 @@ module _ (p : Program) (rows : ℕ → Row) (w : World) (h : Facts w) (closes : 
 pub safe_is_fine : SafeIsFine
 safe_is_fine p events = by (after p events) (facts_after p events) (closing_is_at_close p events)
   where
-    by : (state : State) → In Facts state → In (ClosesAreWaitedFor p) state → In (λ w. (rows : ℕ → Row) (u : ℕ) (c : Call) (own : Own) → IsIn p rows w u c own → IsSafe p c own → HasPlace p w u → misuse.misuse p w u ≡ None) state
+    by : (state : State) → In Facts state → In (ClosesAreWaitedFor p) state → In (λ w. (rows : ℕ → Row) (u : ℕ) (c : Call) (own : Own) → IsIn rows w u c own → IsSafe p c own → HasPlace p w u → misuse.misuse p w u ≡ None) state
     by (Running w) h closes = λ rows u c own k s few. misuses_nothing p rows w h closes u c own k s few
     by (Faulted kind t g pc) h closes = tt

@@ -3,3 +3,4 @@ pub mod EntryLemmas
 pub mod FaultLemmas
 pub mod HeldLemmas
 pub mod PickLemmas
+pub mod TableLemmas
