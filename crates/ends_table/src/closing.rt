@@ -25,11 +25,13 @@ const MOST_OF_ROW: usize = 100_000;
 /// The most memory of all states, in bytes, as `size` guesses it.
 const MOST_MEMORY: usize = 200_000_000;
 
-/// The memory of a state without scopes, of a scope without parts, and of a part, in bytes.
+/// A state without scopes takes this number of bytes.
 const OF_STATE: usize = 1_400;
 
+/// A scope without parts takes this number of bytes.
 const OF_SCOPE: usize = 150;
 
+/// A part takes this number of bytes.
 const OF_PART: usize = 20;
 
 /// A row whose states are not all done.

@@ -14,6 +14,7 @@ pub struct Missing {
 }
 
 impl Missing {
+    /// No states.
     pub fn new(alloc: Global) -> Missing
         ensures { result.states.items ≡ [] }
     {

@@ -39,7 +39,7 @@ pub record AllFit (outside : Outside) (t : Table) (w : World) : Type 0 where
   pub listed : (u : ℕ) → Among t (rows u)
   pub tasks : (u : ℕ) → lives (task_at w u) ≡ true → (own : Own) × TaskFits outside rows w u own
 
--- if a cancel may come, it is so in each state of any run
+-- if a cancel may come, each living task fits in each state of any run
 abbrev pub TasksAreCovered : Type 0
 TasksAreCovered =
     (p : Program) (outside : Outside) (t : Table) (root : Row) → IsTable p outside t root

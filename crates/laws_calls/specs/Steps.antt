@@ -1,6 +1,6 @@
 -- The steps of a task by itself, and the tables that are closed under them (this project's own).
 -- A step may lead to more states than a run does: each task may be interrupted again and again, if
--- any interrupt may come. The same is so of a cancel of its scope.
+-- any interrupt may come. If a cancel of its scope may come, it may come again and again, too.
 use Rattle.std.specs.Prelude.{◌≡◌, ℕ, ◌+◌, ◌-◌, ℤ, pos, List, [], ◌∷◌, ◌++◌, length, take, drop}
 use Rattle.std.specs.Prelude.{reverse, nat_le, not, ◌&&◌, ◌<◌}
 use Rattle.std.specs.Prelude.{map, count_by, Bool, true, false, Option, Some, None, is_some}

@@ -11,8 +11,8 @@ use sts_model::Items;
 #[derive(Drop)]
 pub struct Shared<T> {
     items: Rc<Items<T>, Global>,
-    /// A number that equal lists have in common, so that most others are told apart at once. It is
-    /// only a hint, with no contract.
+    /// Equal lists have the same number, and most others have another one. It is only a hint, with
+    /// no contract.
     print: u64,
 }
 

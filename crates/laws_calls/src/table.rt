@@ -10,7 +10,7 @@ use sts_model::{Bound, End, Frame, Items, Phase};
 /// What may come to a task from outside.
 #[derive(Clone, Copy, Debug, PartialEq, Eq)]
 pub struct Outside {
-    /// At most so many interrupts come, to all tasks together.
+    /// All tasks together get at most this number of interrupts.
     pub interrupts: u32,
     /// May a cancel of its scope come? If not, a table covers only the tasks that are watched.
     pub cancels: bool,
