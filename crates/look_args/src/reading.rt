@@ -348,7 +348,8 @@ fn ends_fault(inner: &ArgMatches<'_>) -> &'static str {
     }
 }
 
-/// What `ends` is asked for; nothing if an option has no number, or `--calls` doesn't go with it.
+/// Reads the options of `ends`. Returns nothing if one has no number, or if `--calls` doesn't go
+/// with it.
 fn asked_ends<'a>(inner: &ArgMatches<'a>) -> Option<AskedEnds<'a>>
     ensures { option_map said_ends result ≡ ends_at (rows_of (found_of inner.now)) }
 {

@@ -42,7 +42,8 @@ struct Birth {
 struct Making {
     config: Config,
     events: Vec<Event>,
-    /// Of each task but the root. A task that was forked in a cancelled scope never lives.
+    /// The birth of each task but the root. A task that was forked in a cancelled scope has none,
+    /// since it never lives.
     births: Vec<Option<Birth>>,
     below: Vec<Ended>,
 }

@@ -85,7 +85,8 @@ fn with_ended(
     with_shown(found, one)
 }
 
-/// The ends with those that a run shows: of the task that it is about, and of the tasks below it.
+/// The ends with those that a run shows. It shows the end of its own task, and the ends of tasks
+/// below that one.
 fn with_run(
     alloc: Global,
     setting: &Setting,
@@ -103,7 +104,7 @@ fn with_run(
     Ok(found)
 }
 
-/// No ends, after a search of so many states.
+/// No ends, after a search that found this number of states.
 pub fn no_calls(alloc: Global, states: usize, is_cut_off: bool) -> CallsFound
     ensures none { result.found.items ≡ [] }
     ensures sound { (g : Setting) → AreCallEnds g result.found.items }

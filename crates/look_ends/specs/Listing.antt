@@ -145,8 +145,8 @@ pub record IsSampling (form : EndsForm) (text : List ℕ) (g : Setting) (schedul
   pub sound : AreEnds g found
   pub printed : r ≡ sampled_listing form text g.program schedules seed number found times unfinished
 
--- a listing of the ends of calls: after the trace that comes with it, a task with this call has
--- ended so, heard by the joiner of its scope or not. Nothing says that a call has no other end.
+-- a listing of the ends of calls. After the trace of each line a task with this call has ended so,
+-- heard by the joiner of its scope or not. Nothing says that a call has no other end
 pub record IsCallsListing (form : EndsForm) (text : List ℕ) (g : Setting) (number : Option ℕ)
     (r : Listing) : Type 0 where
   pub found : List CallEnd
