@@ -24,7 +24,7 @@ BEFORE = {
     "planted --fit": door("planted", "--fit"),
     "mistakes --fit": door("mistakes", "--fit"),
 }
-OF_PROGRAMS = ("ends", "launchers", "memory", "rows", "streams", "shown", "looks", "cases", "heaviest", "edges", "outsides", "each_cause",
+OF_PROGRAMS = ("ends", "launchers", "memory", "rows", "streams", "shown", "looks", "cases", "call_ends", "heaviest", "edges", "outsides", "each_cause",
                "look_rows", "workers", "waits")
 
 

@@ -21,10 +21,10 @@ def shown(sts, look):
         found = [it[3] for it in map(LINE.fullmatch, says(look, command, f"{ROOT}/{path}", *more)[1]) if it]
         yield f"docs/BEHAVIOUR.md, {words}", sorted(found) == sorted(re.findall(r"`([^`]+)`", ends))
     page = read("docs/LOOK.md")
-    blocks = re.findall(r"For \[\w+\]\(\.\./(examples/\S+)\) `ends` prints:\n\n((?:    .*\n)+)", page)
+    blocks = re.findall(r"For \[\w+\]\(\.\./(examples/\S+)\) `ends( --\w+)?` prints:\n\n((?:    .*\n)+)", page)
     yield "docs/LOOK.md, how many blocks", len(blocks) > 1
-    for path, block in blocks:
-        printed = says(look, "ends", f"{ROOT}/{path}")[1]
+    for path, option, block in blocks:
+        printed = says(look, "ends", *option.split(), f"{ROOT}/{path}")[1]
         yield f"docs/LOOK.md, {path}", printed == [line[4:] for line in block.splitlines()]
     with tempfile.TemporaryDirectory() as folder:
         path = os.path.join(folder, "text")

@@ -177,6 +177,11 @@ def words_of_look(look):
     yield from mistaken(look, [[], ["view", "text"], ["explain"], ["draw", "text"], ["view", "text", "trace", "--eech"], ["verify", "text"], [""]])
     ends = (["--most"], ["--most", "x"], ["--seconds", "1s"], ["--interrupts", "4294967296"], ["--trace", "1"], ["--trace", "x", "made"], ["trace"])
     yield "explain --lines with a trace", look.names_all(["explain", "text", "trace", "--lines"], ["`explain` takes one of TRACE, `--lines` and `--json`"]), (2, "", [])
+    for more in (["--sample", "3"], ["--seed", "1"], ["--seconds", "1"], ["--seconds", "x"]):
+        said = look.names_all(["ends", "text", "--calls", *more], ["`ends --calls` goes without", f"`{more[0]}`"])
+        yield f"ends --calls {more}", said, (2, "", [])
+    for more in (["--most", "x"], ["--interrupts", "-"], ["--trace", "x", "made"]):
+        yield f"ends --calls {more}", look.names_all(["ends", "text", "--calls", *more], ["N, S and K of `ends` are numbers"]), (2, "", [])
     yield from mistaken(look, [["ends"], ["cases"], *(["ends", "text", *it] for it in ends)])
     yield from windows(look)
     yield from stories(look)

@@ -186,6 +186,13 @@ JSON_OF_SEVEN = (
     '{"after":2,"end":1,"run":{"name":"seven","outcome":"success","value":7},"version":1} / '
     '{"all_schedules":true,"by_calls":null,"no_end":null,"refused":false,"states":3,"version":1}'
 )
+CALLING = "func kid 1 / load 0 / fail / end / func main 0 / open s0 awaitall / push -7 / fork s0 kid _ / join s0 - - intr / close s0 / push 1 / ret / \
+intr: / close s0 / push 2 / fail / end"
+ENDS_OF_CALLS = "1 after 5 events: kid(-7): failed -7 / a search by calls of 6 states; calls may have more ends than these"
+JSON_OF_CALLS = (
+    '{"after":5,"arguments":[-7],"end":1,"function":"kid","heard":true,"task":{"code":-7,"outcome":"failed"},"version":1} / '
+    '{"all_ends":false,"no_end":null,"refused":false,"states":6,"stopped":false,"version":1}'
+)
 CASE = '{"text": "func main 0\\npush 7\\nret\\nend\\n", "trace": "step 0\\nstep 0\\n"}'
 ANSWER = (
     '{"case":1,"run":{"outcome":"success","steps":2,"value":7},"verdict":{"accepted":true,"budgets":'
@@ -254,6 +261,8 @@ way from line 4 / text:3:1: note: one way comes from here / text:4:1: note: one 
         yield Case(" ".join(["ends", *more]), ["ends", "text", *more], lines(SEVEN), None, lines(ENDS_OF_SEVEN), 0)
         of_seven = ["ends", "text", "--json", *more]
         yield Case(" ".join(["ends --json", *more]), of_seven, lines(f"{SEVEN} / ;= 7 seven"), None, lines(JSON_OF_SEVEN), 0)
+        yield Case(" ".join(["ends --calls", *more]), ["ends", "text", "--calls", *more], lines(CALLING), None, lines(ENDS_OF_CALLS), 5)
+    yield Case("ends --calls --json", ["ends", "text", "--calls", "--json"], lines(CALLING), None, lines(JSON_OF_CALLS), 5)
     yield Case("cases", ["cases", "text"], f"{CASE}\n".encode(), None, f"{ANSWER}\n".encode(), 0)
     with open(f"{programs.CHECKS}/help/look.txt", "rb") as stored:
         yield Case("look: help", ["--help"], None, None, stored.read(), 0)

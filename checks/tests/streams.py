@@ -114,7 +114,7 @@ def looks(text, trace):
     """The commands of `look` on a text and a trace."""
     files = [text, trace]
     runs = [["view", *files], ["view", *files, "--each", "--full"], ["explain", *files], ["draw", *files], ["tell", *files]]
-    return [*runs, ["explain", text], ["ends", text], ["ends", text, "--json"]]
+    return [*runs, ["explain", text], ["ends", text], ["ends", text, "--json"], ["ends", text, "--calls"]]
 
 
 def too_long(words):

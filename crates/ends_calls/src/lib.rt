@@ -1,6 +1,7 @@
 //! Ends of an accepted program, found call by call.
 #![tactic(auto)]
 
+pub mod aim;
 pub mod begin;
 pub mod call;
 pub mod ends;

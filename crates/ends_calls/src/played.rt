@@ -1,5 +1,6 @@
 //! A task on its way to an end, as a trace plays it.
 
+use crate::aim::{Aim, Role, restricted};
 use crate::call::{Way, number};
 use crate::joiners::is_trigger;
 use crate::own::Own;
@@ -24,6 +25,8 @@ pub struct PlayedScope {
     pub ways: Vec<Option<u32>>,
     /// The subtask that fails first, if that matters.
     pub first: Option<u32>,
+    /// The subtask that the run is about, if it is one of this scope.
+    pub aim: Option<Aim>,
 }
 
 /// A task that is to be played up to the end of one of its call's ways.
@@ -50,6 +53,8 @@ pub struct Played {
     pub waiting: Vec<Start>,
     /// Is it known which those are?
     pub is_ready: bool,
+    /// The subtask that the run is about, if it is one of this task.
+    pub aim: Option<Aim>,
 }
 
 /// The places of the states that lead to one, the first one first.
@@ -88,15 +93,29 @@ impl Played {
         let Some(way) = explored.ways.get(start.way as usize) else {
             return Ok(None);
         };
-        Ok(Some(Played {
-            call: start.call,
-            birth: start.birth,
-            path: path_to(alloc, explored.nodes.as_slice(), way.place)?,
+        let played = Played::towards(alloc, explored, start.call, start.birth, way.place, None)?;
+        Ok(Some(played))
+    }
+
+    /// A task on its way to the state at a place, before its first step.
+    pub fn towards(
+        alloc: Global,
+        explored: &Explored,
+        call: Option<u32>,
+        birth: u32,
+        place: u32,
+        aim: Option<Aim>,
+    ) -> Result<Played, AllocError> {
+        Ok(Played {
+            call,
+            birth,
+            path: path_to(alloc, explored.nodes.as_slice(), place)?,
             at: 0,
             scopes: Vec::new(alloc),
             waiting: Vec::new(alloc),
             is_ready: false,
-        }))
+            aim,
+        })
     }
 
     /// Were all steps but the last taken?
@@ -131,6 +150,27 @@ impl Played {
         None
     }
 
+    /// The number of steps before the one that closes the scope at a place. The way of a task with
+    /// an aim may be over before that: then it is the number of all its steps.
+    fn closing_or_last(&self, explored: &Explored, place: u32) -> Option<usize> {
+        let close = self.closing(explored, place);
+        if close.is_none() && self.aim.is_some() {
+            return Some(self.path.len().saturating_sub(1));
+        }
+        close
+    }
+
+    /// The subtask that the run is about, if it is one of the scope at a place that is closed by the
+    /// last step, or by none.
+    fn aim_in(&self, place: u32, close: usize) -> Option<Aim> {
+        let aim = self.aim?;
+        if aim.scope == place && close.saturating_add(2) >= self.path.len() {
+            Some(aim)
+        } else {
+            None
+        }
+    }
+
     /// The subtask that fails first in the scope at a place, if the way up to its close shows one.
     fn first_failed(&self, explored: &Explored, place: u32, close: usize) -> Option<u32> {
         for at in self.at..close.saturating_add(1) {
@@ -157,7 +197,7 @@ impl Played {
             return Ok(None);
         };
         let place = number(before.own.scopes.len());
-        let Some(close) = self.closing(explored, place) else {
+        let Some(close) = self.closing_or_last(explored, place) else {
             return Ok(None);
         };
         let Some(last) = self.node(explored, close) else {
@@ -167,7 +207,9 @@ impl Played {
             return Ok(None);
         };
         let left = interrupts.saturating_sub(last.own.used);
-        let Some(ways) = pick(alloc, table, scope, left)? else {
+        let aim = self.aim_in(place, close);
+        let scope = restricted(alloc, scope, aim)?;
+        let Some(ways) = pick(alloc, table, &scope, left)? else {
             return Ok(None);
         };
         Ok(Some(PlayedScope {
@@ -176,6 +218,7 @@ impl Played {
             played: Vec::new(alloc),
             ways,
             first: self.first_failed(explored, place, close),
+            aim,
         }))
     }
 }
@@ -270,6 +313,28 @@ impl PlayedScope {
         self.push_those(table, scope, false, &mut starts)?;
         self.push_those(table, scope, true, &mut starts)?;
         Ok(starts)
+    }
+
+    /// The subtask that the run is about, if it ends heard and wasn't played before the scope is
+    /// closed.
+    pub fn last_starts(&mut self, alloc: Global, scope: &Seen) -> Result<Vec<Start>, AllocError> {
+        let mut starts = Vec::new(alloc);
+        if let Some(aim) = self.aim {
+            if let Role::Heard(_) = aim.role {
+                self.push(scope, aim.part, &mut starts)?;
+            }
+        }
+        Ok(starts)
+    }
+
+    /// The subtask that was forked last and what the run makes of it, if the run is about it.
+    pub fn aimed(&self) -> Option<(u32, Role)> {
+        let aim = self.aim?;
+        if number(self.births.len()) == aim.part.saturating_add(1) {
+            Some((self.births.last().copied()?, aim.role))
+        } else {
+            None
+        }
     }
 
     /// The subtasks that end before the owner sees that this one has.

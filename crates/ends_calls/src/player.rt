@@ -5,6 +5,7 @@
 //! cancelled and its `close` waits for them. Nobody sees what they do, so a scope that they open
 //! expires before they fork, if it can. Its subtasks then never start, and the trace is shorter.
 
+use crate::aim::{FirstSteps, Leg, Role};
 use crate::frames::is_at_once;
 use crate::own::Held;
 use crate::played::{Played, Start, scope_at};
@@ -42,6 +43,14 @@ pub struct Player<'a> {
     coming: Vec<Event>,
     /// Is the run not as it was planned?
     is_wrong: bool,
+    /// The tasks that lead to the one that the run is about, the root's last.
+    legs: Vec<Leg>,
+    /// The birth number of the task that the run is about.
+    target: Option<u32>,
+    /// The first events of this task, before its owner goes on, if its end isn't heard.
+    first: Option<FirstSteps>,
+    /// The number of jobs below it while it takes these, and of events that are left.
+    cut: Option<(usize, usize)>,
 }
 
 /// The next instruction of a task that lives.
@@ -167,14 +176,7 @@ impl<'a> Player<'a> {
         root: &'a Explored,
         way: u32,
     ) -> Result<Player<'a>, AllocError> {
-        let mut player = Player {
-            setting,
-            table,
-            root,
-            jobs: Vec::new(alloc),
-            coming: Vec::new(alloc),
-            is_wrong: false,
-        };
+        let mut player = Player::idle(alloc, setting, table, root);
         let start = Start {
             call: None,
             way,
@@ -182,6 +184,126 @@ impl<'a> Player<'a> {
         };
         player.start(alloc, start)?;
         Ok(player)
+    }
+
+    /// A player with nothing to play.
+    fn idle(
+        alloc: Global,
+        setting: &'a Setting,
+        table: &'a Table,
+        root: &'a Explored,
+    ) -> Player<'a> {
+        Player {
+            setting,
+            table,
+            root,
+            jobs: Vec::new(alloc),
+            coming: Vec::new(alloc),
+            is_wrong: false,
+            legs: Vec::new(alloc),
+            target: None,
+            first: None,
+            cut: None,
+        }
+    }
+
+    /// A run up to the end of a subtask, before its first event. The legs lead to the subtask, the
+    /// root's is the last one.
+    pub fn towards(
+        alloc: Global,
+        setting: &'a Setting,
+        table: &'a Table,
+        root: &'a Explored,
+        legs: Vec<Leg>,
+        first: Option<FirstSteps>,
+    ) -> Result<Player<'a>, AllocError> {
+        let mut player = Player::idle(alloc, setting, table, root);
+        player.legs = legs;
+        player.first = first;
+        player.enter(alloc, Some(0))?;
+        Ok(player)
+    }
+
+    /// The birth number of the task that the run is about, once it is forked.
+    pub fn target(&self) -> Option<u32> {
+        self.target
+    }
+
+    /// Begins to play the task of the next leg, by its birth number.
+    fn enter(&mut self, alloc: Global, birth: Option<u32>) -> Result<(), AllocError> {
+        let (Some(leg), Some(birth)) = (self.legs.pop(), birth) else {
+            self.is_wrong = true;
+            return Ok(());
+        };
+        match self.explored(leg.call) {
+            Some(explored) => {
+                let aim = Some(leg.aim);
+                let played = Played::towards(alloc, explored, leg.call, birth, leg.place, aim)?;
+                self.jobs.push(Job::Task(played))?;
+            }
+            None => self.is_wrong = true,
+        }
+        Ok(())
+    }
+
+    /// Goes on from a task at the end of its way to the subtask that the run is about.
+    fn go_deeper(&mut self, alloc: Global, top: &Played) -> Result<(), AllocError> {
+        let birth = match top.aim {
+            Some(aim) => born_in(top, aim.scope, aim.part),
+            None => None,
+        };
+        self.enter(alloc, birth)
+    }
+
+    /// Notes the task that the run is about. If its end isn't heard, it takes its first steps.
+    fn found(&mut self, alloc: Global, birth: u32, role: Role) -> Result<(), AllocError> {
+        match role {
+            Role::Entered => Ok(()),
+            Role::Heard(_) => {
+                self.target = Some(birth);
+                Ok(())
+            }
+            Role::Unheard => {
+                self.target = Some(birth);
+                self.take_first(alloc, birth)
+            }
+        }
+    }
+
+    /// Lets the task that the run is about take its first steps.
+    fn take_first(&mut self, alloc: Global, birth: u32) -> Result<(), AllocError> {
+        let Some(first) = self.first else {
+            return Ok(());
+        };
+        if first.events == 0 {
+            return Ok(());
+        }
+        // (the fork comes before them)
+        self.cut = Some((self.jobs.len(), first.events.saturating_add(1)));
+        let start = Start {
+            call: Some(first.call),
+            way: first.way,
+            birth,
+        };
+        self.start(alloc, start)
+    }
+
+    /// Counts an event of the first steps. Returns whether it may still come.
+    fn counts(&mut self) -> bool {
+        let Some((jobs, left)) = self.cut else {
+            return true;
+        };
+        self.cut = match left {
+            0 => None,
+            _ => Some((jobs, left.saturating_sub(1))),
+        };
+        left > 0
+    }
+
+    /// Leaves what is played of the task that takes its first steps.
+    fn cut_off(&mut self, alloc: Global, jobs: usize) {
+        self.jobs.truncate(jobs);
+        self.coming = Vec::new(alloc);
     }
 
     /// What is known of the call of a task.
@@ -215,6 +337,9 @@ impl<'a> Player<'a> {
         explored: &Explored,
         instr: Instr,
     ) -> Result<(), AllocError> {
+        if matches!(instr, Instr::Close(_)) {
+            return prepare_close(alloc, top, explored);
+        }
         let Some((place, child)) = look(top, explored, instr) else {
             return Ok(());
         };
@@ -304,6 +429,7 @@ impl<'a> Player<'a> {
         self.coming.push(Event::Step(owner))?;
         self.come_outside(&top, explored, instr)?;
         self.note(alloc, world, &mut top, explored, instr)?;
+        let aimed = aimed_fork(&top, explored, instr);
         let closed = match instr {
             Instr::Close(_) => top.scopes.pop(),
             _ => None,
@@ -318,7 +444,10 @@ impl<'a> Player<'a> {
                 living: None,
             })?;
         }
-        Ok(())
+        match aimed {
+            Some((birth, role)) => self.found(alloc, birth, role),
+            None => Ok(()),
+        }
     }
 
     /// Goes on with a task at its next instruction.
@@ -331,6 +460,9 @@ impl<'a> Player<'a> {
         instr: Instr,
     ) -> Result<(), AllocError> {
         let mut top = top;
+        if top.aim.is_some() && top.is_at_end() {
+            return self.go_deeper(alloc, &top);
+        }
         if is_at_once(instr) {
             self.coming.push(Event::Step(top.birth))?;
         } else if top.is_at_end() {
@@ -447,7 +579,13 @@ impl<'a> Player<'a> {
                 break;
             }
             if let Some(event) = self.coming.pop() {
-                return Ok(Some(event));
+                let below = self.cut;
+                if self.counts() {
+                    return Ok(Some(event));
+                }
+                if let Some((jobs, _)) = below {
+                    self.cut_off(alloc, jobs);
+                }
             }
             if self.jobs.is_empty() {
                 break;
@@ -456,6 +594,38 @@ impl<'a> Player<'a> {
         }
         Ok(None)
     }
+}
+
+/// The birth number of a subtask of a task, by the place of its scope and its place there.
+fn born_in(top: &Played, scope: u32, part: u32) -> Option<u32> {
+    top.scopes
+        .get(scope as usize)?
+        .births
+        .get(part as usize)
+        .copied()
+}
+
+/// The subtask that an instruction has forked and what the run makes of it, if the run is about it.
+fn aimed_fork(top: &Played, explored: &Explored, instr: Instr) -> Option<(u32, Role)> {
+    let slot = forked_slot(instr)?;
+    let place = top.before(explored)?.own.own_scope(slot)?;
+    top.scopes.get(place as usize)?.aimed()
+}
+
+/// Finds the subtask that has to be played before its scope is closed.
+fn prepare_close(alloc: Global, top: &mut Played, explored: &Explored) -> Result<(), AllocError> {
+    let Some(node) = top.before(explored) else {
+        return Ok(());
+    };
+    let Some(seen) = node.own.scopes.last() else {
+        return Ok(());
+    };
+    let Some(scope) = top.scopes.last_mut() else {
+        return Ok(());
+    };
+    let starts = scope.last_starts(alloc, seen)?;
+    top.waiting = starts;
+    Ok(())
 }
 
 /// Notes the subtask that the next step forks.

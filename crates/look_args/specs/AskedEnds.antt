@@ -1,11 +1,11 @@
 -- What `ends` is asked for, read off the words by `clap`'s own definitions (this project's own).
 use Rattle.std.specs.Prelude.{ℕ, Bool, false, not, List, Option, Some, None, option_map, option_and_then}
-use Rattle.std.specs.Prelude.{slice_get, codes, ◌^◌, ◌-◌}
+use Rattle.std.specs.Prelude.{slice_get, codes, if◌then◌else◌, is_some, ◌||◌, ◌^◌, ◌-◌}
 use Rattle.std.specs.Str.{bytes_eq}
 use Rattle.clap.specs.Words.{Text, Row, all_of, first_of}
 use Rattle.sts_text.specs.Number.{digits_up_to}
 use Rattle.look_options.specs.declared.ends.Manner.{Manner}
-use Rattle.look_options.specs.declared.ends.Manner.TheVariants.{All, Sample}
+use Rattle.look_options.specs.declared.ends.Manner.TheVariants.{All, Sample, Calls}
 use Rattle.look_options.specs.declared.ends.EndsOptions.{EndsOptions}
 use Rattle.look_options.specs.declared.ends.Limits.{Limits}
 use Rattle.look_args.specs.declared.asked.AskedEnds.{AskedEnds}
@@ -71,6 +71,22 @@ abbrev pub is_true : Option Text → Bool
 is_true None = false
 is_true (Some text) = bytes_eq text (codes "true")
 
+-- is an option given that `--calls` doesn't go with?
+abbrev pub is_beside_calls : List Row → Bool
+is_beside_calls rows =
+    is_some (first_of (codes "sample") rows)
+    || (is_some (first_of (codes "seed") rows) || is_some (first_of (codes "seconds") rows))
+
+abbrev pub calls_at : List Row → Option Manner
+calls_at rows =
+    if is_beside_calls rows then None
+    else option_map (λ n. Calls n) (maybe_number (first_of (codes "most") rows))
+
+-- the calls if they are asked for, or the schedules
+abbrev pub calls_or_manner_at : List Row → Option Manner
+calls_or_manner_at rows =
+    if is_true (first_of (codes "calls") rows) then calls_at rows else manner_at rows
+
 abbrev pub ends_wanted_by : List Row → ℕ → Manner → EndsOptions
 ends_wanted_by rows n manner = record {
   expiries = not (is_true (first_of (codes "no-expiries") rows));
@@ -80,7 +96,7 @@ ends_wanted_by rows n manner = record {
 
 abbrev pub ends_wanted_at : List Row → Option EndsOptions
 ends_wanted_at rows =
-    option_and_then (λ n. option_map (λ m. ends_wanted_by rows n m) (manner_at rows))
+    option_and_then (λ n. option_map (λ m. ends_wanted_by rows n m) (calls_or_manner_at rows))
     (number_at (codes "interrupts") 0 rows)
 
 -- a number, then a file

@@ -46,8 +46,12 @@ abbrev pub ends_by_limits : App
 ends_by_limits = with_rule (with_rule ends_by_events (option_rule (codes "most")))
     (option_rule (codes "seconds"))
 
+-- the same, and the option that asks for calls
+abbrev pub ends_by_calls : App
+ends_by_calls = with_rule ends_by_limits (flag_rule (codes "calls"))
+
 abbrev pub ends : App
-ends = with_rule (with_rule (with_rule (with_rule ends_by_limits (option_rule (codes "sample")))
+ends = with_rule (with_rule (with_rule (with_rule ends_by_calls (option_rule (codes "sample")))
     (option_rule (codes "seed"))) kept_rule) (flag_rule (codes "json"))
 
 abbrev pub cases : App

@@ -221,12 +221,24 @@ fn ends_by_limits<'a>(alloc: Global) -> Result<Command<'a>, AllocError>
         ))
 }
 
+/// The command `ends` with these options and the one that asks for calls.
+fn ends_by_calls<'a>(alloc: Global) -> Result<Command<'a>, AllocError>
+    ensures app { IfOk result (λ c. app_of c ≡ def.ends_by_calls) }
+    ensures local { IfOk result (λ c. (out-Command c).has_globals ≡ false) }
+{
+    ends_by_limits(alloc)?.arg(flag(
+        alloc,
+        "calls",
+        "what each call can come to, heard by its joiner or not",
+    ))
+}
+
 /// The command `ends`.
 fn ends<'a>(alloc: Global) -> Result<Command<'a>, AllocError>
     ensures app { IfOk result (λ c. app_of c ≡ def.ends) }
     ensures local { IfOk result (λ c. (out-Command c).has_globals ≡ false) }
 {
-    ends_by_limits(alloc)?
+    ends_by_calls(alloc)?
         .arg(option(alloc, "sample", "N", "tries N random schedules, not all"))?
         .arg(option(
             alloc,

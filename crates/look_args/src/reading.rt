@@ -7,6 +7,7 @@ ghost use Rattle.sts_args.specs.Refused.{BlamesUnless};
 ghost use Rattle.look_args.specs.Asked.{Asks, IsGiven, IsLineOf, Refuses, TellsKind, is_set, is_whole};
 ghost use Rattle.look_args.specs.Asked.{form_by, view_at, wanted_at};
 ghost use Rattle.look_args.specs.AskedDraw.{draw_at, window_at};
+ghost use Rattle.look_args.specs.AskedEnds.{calls_at, calls_or_manner_at, is_beside_calls};
 ghost use Rattle.look_args.specs.AskedEnds.{ends_at, ends_wanted_at, kept_of, kept_words, manner_at};
 ghost use Rattle.look_args.specs.AskedEnds.{limits_at, maybe_number, number_at, said_ends};
 ghost use Rattle.look_args.specs.AskedTell.{tell_at, tell_wanted_at};
@@ -26,6 +27,10 @@ use sts_text::digits_up_to;
 /// The error for an option whose value is no number.
 const NO_NUMBER: &str =
     "error: N, S and K of `ends` are numbers from 0 to 4294967295, and K comes first in `--trace K TRACE`\n\nFor more information, try '--help'.\n";
+
+/// The error for an option that `--calls` doesn't go with.
+const BESIDE_CALLS: &str =
+    "error: `ends --calls` goes without `--sample`, `--seed` and `--seconds`\n\nFor more information, try '--help'.\n";
 
 /// The error for a window that isn't written as one.
 const NO_WINDOW: &str =
@@ -127,7 +132,7 @@ fn asked_of<'a>(
             } else if name == "ends" {
                 match asked_ends(inner) {
                     Some(ends) => Ok(Asked::Ends { file, ends }),
-                    None => Err(usage(alloc, NO_NUMBER)),
+                    None => Err(usage(alloc, ends_fault(inner))),
                 }
             } else if name == "cases" {
                 Ok(Asked::Cases { file })
@@ -274,12 +279,42 @@ fn manner_of(inner: &ArgMatches<'_>) -> Option<Manner>
     }
 }
 
+/// Is an option given that `--calls` doesn't go with?
+fn is_beside_calls(inner: &ArgMatches<'_>) -> bool
+    ensures { result ≡ is_beside_calls (rows_of (found_of inner.now)) }
+{
+    text_of(inner, "sample").is_some()
+        || (text_of(inner, "seed").is_some() || text_of(inner, "seconds").is_some())
+}
+
+/// The calls; nothing if an option is given that they don't go with.
+fn calls_of(inner: &ArgMatches<'_>) -> Option<Manner>
+    ensures { result ≡ calls_at (rows_of (found_of inner.now)) }
+{
+    if is_beside_calls(inner) {
+        return None;
+    }
+    let states = maybe_number_of(inner, "most")?;
+    Some(Manner::Calls { states })
+}
+
+/// The calls if they are asked for, or the schedules.
+fn calls_or_manner(inner: &ArgMatches<'_>) -> Option<Manner>
+    ensures { result ≡ calls_or_manner_at (rows_of (found_of inner.now)) }
+{
+    if is_set(inner, "calls") {
+        calls_of(inner)
+    } else {
+        manner_of(inner)
+    }
+}
+
 /// Which events may come, and which schedules are tried.
 fn ends_wanted(inner: &ArgMatches<'_>) -> Option<EndsOptions>
     ensures { result ≡ ends_wanted_at (rows_of (found_of inner.now)) }
 {
     let interrupts = number_of(inner, "interrupts", 0)?;
-    let manner = manner_of(inner)?;
+    let manner = calls_or_manner(inner)?;
     Some(EndsOptions {
         expiries: !is_set(inner, "no-expiries"),
         interrupts,
@@ -304,7 +339,17 @@ fn texts_of<'m, 'a>(inner: &'m ArgMatches<'a>, id: &str) -> Option<&'m [&'a str]
     inner.get_strs(id)
 }
 
-/// What `ends` is asked for; nothing if an option has no number.
+/// The error for options of `ends` that ask for nothing.
+fn ends_fault(inner: &ArgMatches<'_>) -> &'static str {
+    if is_set(inner, "calls") && is_beside_calls(inner) {
+        BESIDE_CALLS
+    } else {
+        NO_NUMBER
+    }
+}
+
+/// Reads the options of `ends`. Returns nothing if one has no number, or if `--calls` doesn't go
+/// with it.
 fn asked_ends<'a>(inner: &ArgMatches<'a>) -> Option<AskedEnds<'a>>
     ensures { option_map said_ends result ≡ ends_at (rows_of (found_of inner.now)) }
 {

@@ -6,6 +6,7 @@ use Rattle.sts_asm.specs.declared.fault.AsmError.{AsmError}
 use Rattle.sts_output.specs.Output.{Output}
 use Rattle.ends_plain.specs.declared.config.Found.{Found}
 use Rattle.ends_plain.specs.declared.config.Setting.{Setting}
+use Rattle.look_calls.specs.declared.found.CallEnd.{CallEnd}
 
 pub record EndsForm : Type 0 where
   -- The bytes for a search: by the text, what was searched, whether the program is refused, and the
@@ -16,6 +17,10 @@ pub record EndsForm : Type 0 where
   -- their seed. Then come the number of the end that is asked for, the ends, and how often each came.
   -- Last comes how many schedules came to none.
   pub of_sample : List ℕ → Program → ℕ → ℕ → Option ℕ → List Found → List ℕ → ℕ → List ℕ
+  -- The bytes for the ends of calls: by the text, the program, whether it is refused, and the number
+  -- of the end that is asked for. Then come the ends, how many states were found, and whether the
+  -- search stopped.
+  pub of_calls : List ℕ → Program → Bool → Option ℕ → List CallEnd → ℕ → Bool → List ℕ
   -- the output for a fault of the text
   pub of_text_fault : AsmError → List ℕ → Output
 

@@ -1,3 +1,4 @@
+pub mod Calls
 pub mod Form
 pub mod Lines
 pub mod Listing

@@ -5,6 +5,7 @@ use Rattle.std.specs.Prelude.{if◌then◌else◌, codes, length, slice_get, Opt
 use Rattle.std.specs.List.{list_any}
 use Rattle.std.specs.Fmt.{decimal}
 use Rattle.sts_code.specs.Program.{Program}
+use Rattle.sts_model.specs.declared.event.Event.{Event}
 use Rattle.sts_plain.specs.declared.misstep.PlainState.{PlainState}
 use Rattle.sts_plain.specs.declared.misstep.PlainState.TheVariants as plain
 use Rattle.ends_plain.specs.declared.config.Found.{Found}
@@ -14,13 +15,13 @@ use Rattle.look_ends.specs.States.{state_line}
 -- ---- an end
 
 -- the number of the end at this place, which is counted from 0, and the length of its trace
-abbrev pub head_words : ℕ → Found → List ℕ
-head_words place f =
-    decimal (place + 1) ++ codes " after " ++ decimal (length f.trace.items) ++ codes " events"
+abbrev pub head_words : ℕ → List Event → List ℕ
+head_words place trace =
+    decimal (place + 1) ++ codes " after " ++ decimal (length trace) ++ codes " events"
 
 -- `1 after 14 events: success 42`
 abbrev pub found_line : List ℕ → Program → ℕ → Found → List ℕ
-found_line text p place f = head_words place f ++ codes ": " ++ state_line text p f.end
+found_line text p place f = head_words place f.trace.items ++ codes ": " ++ state_line text p f.end
 
 -- the lines of these ends, the first of which is at this place
 abbrev pub found_lines : List ℕ → Program → List Found → ℕ → List ℕ
@@ -35,7 +36,7 @@ share_words times schedules =
 -- `1 after 14 events, in 183 of 200 schedules: success 42`
 abbrev pub sampled_line : List ℕ → Program → ℕ → Found → ℕ → ℕ → List ℕ
 sampled_line text p place f times schedules =
-    head_words place f ++ (share_words times schedules ++ state_line text p f.end)
+    head_words place f.trace.items ++ (share_words times schedules ++ state_line text p f.end)
 
 abbrev pub times_or_none : Option ℕ → ℕ
 times_or_none None = 0
@@ -111,21 +112,21 @@ schedules_line schedules seed = decimal schedules ++ seed_words seed
 -- ---- the end whose trace is kept
 
 -- the end of a number, the first one having number 1
-abbrev pub found_at : List Found → ℕ → Option Found
+abbrev pub found_at : {A : Type 0} → List A → ℕ → Option A
 found_at found k = if k == 0 then None else slice_get found (k - 1)
 
-abbrev pub is_number : List Found → ℕ → Bool
+abbrev pub is_number : {A : Type 0} → List A → ℕ → Bool
 is_number found k = is_some (found_at found k)
 
 -- is there an end of the number that is asked for, if one is?
-abbrev pub has_number : Option ℕ → List Found → Bool
+abbrev pub has_number : {A : Type 0} → Option ℕ → List A → Bool
 has_number None found = true
 has_number (Some k) found = is_number found k
 
-abbrev pub unless_there : ℕ → List Found → List ℕ
+abbrev pub unless_there : {A : Type 0} → ℕ → List A → List ℕ
 unless_there k found =
     if is_number found k then [] else codes "no end has number " ++ decimal k ++ codes "\n"
 
-abbrev pub no_number_line : Option ℕ → List Found → List ℕ
+abbrev pub no_number_line : {A : Type 0} → Option ℕ → List A → List ℕ
 no_number_line None found = []
 no_number_line (Some k) found = unless_there k found

@@ -13,7 +13,10 @@ use Rattle.ends_plain.specs.Ends.{AreAll}
 use Rattle.ends_plain.specs.Listed.{AreEnds, ends_of}
 use Rattle.ends_plain.specs.declared.config.Found.{Found}
 use Rattle.ends_plain.specs.declared.config.Setting.{Setting}
+use Rattle.look_calls.specs.Calls.{AreCallEnds}
+use Rattle.look_calls.specs.declared.found.CallEnd.{CallEnd}
 use Rattle.look_refusal.specs.Output.{fault_output}
+use Rattle.look_ends.specs.Calls.{calls_lines, trace_of_call}
 use Rattle.look_ends.specs.Form.{EndsForm}
 use Rattle.look_ends.specs.Lines.{by_calls_line, found_at, found_lines, has_number, no_number_line, refused_line}
 use Rattle.look_ends.specs.Lines.{sampled_lines, schedules_line, states_line, unfinished_line}
@@ -62,6 +65,7 @@ abbrev pub lines_form : EndsForm
 lines_form = record {
   of_search = search_lines;
   of_sample = sample_lines;
+  of_calls = calls_lines;
   of_text_fault = fault_output;
 }
 
@@ -85,6 +89,17 @@ sampled_listing form text p schedules seed number found times unfinished = recor
     status = 5;
   };
   trace = trace_of number found;
+}
+
+-- what is shown of the ends of calls
+abbrev pub calls_listing : EndsForm → List ℕ → Program → Bool → Option ℕ → List CallEnd → ℕ → Bool
+    → Listing
+calls_listing form text p is_refused number found states is_cut_off = record {
+  output = record {
+    bytes = form.of_calls text p is_refused number found states is_cut_off;
+    status = 5;
+  };
+  trace = trace_of_call number found;
 }
 
 -- ---- of a program
@@ -130,10 +145,24 @@ pub record IsSampling (form : EndsForm) (text : List ℕ) (g : Setting) (schedul
   pub sound : AreEnds g found
   pub printed : r ≡ sampled_listing form text g.program schedules seed number found times unfinished
 
+-- a listing of the ends of calls. After the trace of each line a task with this call has ended so,
+-- heard by the joiner of its scope or not. Nothing says that a call has no other end
+pub record IsCallsListing (form : EndsForm) (text : List ℕ) (g : Setting) (number : Option ℕ)
+    (r : Listing) : Type 0 where
+  pub found : List CallEnd
+  pub states : ℕ
+  pub is_cut_off : Bool
+  pub is_refused : Bool
+  pub sound : AreCallEnds g found
+  pub unsearched : is_refused ≡ true → found ≡ []
+  pub verdict : IsVerdict g.program is_refused
+  pub printed : r ≡ calls_listing form text g.program is_refused number found states is_cut_off
+
 abbrev pub ListsBy : EndsForm → Manner → List ℕ → Setting → Option ℕ → Listing → Type 0
 ListsBy form (manner.All limits) text g number r = IsSearch form text g number r
 ListsBy form (manner.Sample schedules seed) text g number r =
     IsSampling form text g schedules seed number r
+ListsBy form (manner.Calls states) text g number r = IsCallsListing form text g number r
 
 -- ---- of a text
 

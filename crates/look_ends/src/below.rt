@@ -157,7 +157,7 @@ pub(crate) fn say_schedules(
 }
 
 /// The end of this number, the first one having number 1.
-pub(crate) fn found_at(found: &[Found], number: u32) -> Option<&Found>
+pub(crate) fn found_at<T>(found: &[T], number: u32) -> Option<&T>
     ensures { option_map (λ f. f.now) result ≡ def.found_at found.now number }
 {
     if number == 0 {
@@ -168,14 +168,14 @@ pub(crate) fn found_at(found: &[Found], number: u32) -> Option<&Found>
 }
 
 /// Is there an end of this number?
-fn is_number(found: &[Found], number: u32) -> bool
+fn is_number<T>(found: &[T], number: u32) -> bool
     ensures { result ≡ def.is_number found.now number }
 {
     found_at(found, number).is_some()
 }
 
 /// Is there an end of the number that is asked for, if one is?
-pub fn has_number(number: Option<u32>, found: &[Found]) -> bool
+pub fn has_number<T>(number: Option<u32>, found: &[T]) -> bool
     ensures { result ≡ def.has_number number found.now }
 {
     match number {
@@ -185,11 +185,11 @@ pub fn has_number(number: Option<u32>, found: &[Found]) -> bool
 }
 
 /// Says that no end has the number that is asked for, if none has.
-pub(crate) fn say_no_number(
+pub(crate) fn say_no_number<T>(
     alloc: Global,
     out: &mut Vec<u8>,
     number: Option<u32>,
-    found: &[Found],
+    found: &[T],
 ) -> Result<(), AllocError>
     ensures { OnOk result (out.new.items ≡ out.old.items ++ def.no_number_line number found.now) }
 {

@@ -14,7 +14,7 @@ use std::alloc::{AllocError, Global};
 use sts_plain::PlainState;
 
 /// The most states of a search, if no other number is named.
-const MOST_STATES: u32 = 1_000_000;
+pub(crate) const MOST_STATES: u32 = 1_000_000;
 
 /// The most states of the first try of a search by calls.
 const FIRST_TRY: u32 = 2_000;

@@ -9,10 +9,12 @@ use crate::below::{
     say_by_calls, say_no_number, say_refused, say_schedules, say_states, say_unfinished,
 };
 use crate::by_calls::Answer;
+use crate::calls::{say_below, say_calls};
 use crate::lines::{say_all, say_shares};
 use crate::states::Told;
 use ends_plain::config::Setting;
 use ends_plain::sample::Sample;
+use look_calls::CallsFound;
 use look_names::Names;
 use look_refusal::{ExplainError, program_of};
 use std::alloc::{AllocError, Global};
@@ -53,6 +55,19 @@ pub trait EndsForm {
         ensures { IfOk result (λ b. b.items ≡ (shows self.now).of_sample names.now program.now
             schedules seed number sample.now.found.items sample.now.times.items
             sample.now.unfinished) };
+
+    /// Returns what is shown of the ends of calls.
+    fn of_calls(
+        &self,
+        alloc: Global,
+        names: &Names<'_>,
+        program: &Program,
+        is_refused: bool,
+        number: Option<u32>,
+        calls: &CallsFound,
+    ) -> Result<Vec<u8>, AllocError>
+        ensures { IfOk result (λ b. b.items ≡ (shows self.now).of_calls names.now program.now
+            is_refused number calls.now.found.items calls.now.states calls.now.is_cut_off) };
 
     /// Returns the program of a text, or what is shown of its fault.
     fn program_of(&self, alloc: Global, text: &[u8]) -> Result<Program, ExplainError>
@@ -109,6 +124,30 @@ impl EndsForm for EndLines {
         say_shares(alloc, &mut bytes, told, found, times, schedules)?;
         say_unfinished(alloc, &mut bytes, sample.unfinished)?;
         say_schedules(alloc, &mut bytes, schedules, seed)?;
+        say_no_number(alloc, &mut bytes, number, found)?;
+        Ok(bytes)
+    }
+
+    fn of_calls(
+        &self,
+        alloc: Global,
+        names: &Names<'_>,
+        program: &Program,
+        is_refused: bool,
+        number: Option<u32>,
+        calls: &CallsFound,
+    ) -> Result<Vec<u8>, AllocError> {
+        let told = Told { program, names };
+        let found = calls.found.as_slice();
+        let mut bytes = Vec::new(alloc);
+        say_calls(alloc, &mut bytes, told, found)?;
+        say_below(
+            alloc,
+            &mut bytes,
+            is_refused,
+            calls.states,
+            calls.is_cut_off,
+        )?;
         say_no_number(alloc, &mut bytes, number, found)?;
         Ok(bytes)
     }

@@ -3,6 +3,8 @@
 
 mod below;
 mod by_calls;
+mod calling;
+mod calls;
 mod exploring;
 mod form;
 mod lines;

@@ -8,6 +8,7 @@ use crate::states::{Told, say_state};
 use ends_plain::config::Found;
 use look_text::say;
 use std::alloc::{AllocError, Global};
+use sts_model::Event;
 
 /// Appends a number.
 pub(crate) fn say_number(alloc: Global, out: &mut Vec<u8>, n: u64) -> Result<(), AllocError>
@@ -26,13 +27,18 @@ pub(crate) fn say_count(alloc: Global, out: &mut Vec<u8>, n: u32) -> Result<(), 
 }
 
 /// `K after N events`
-fn say_head(alloc: Global, out: &mut Vec<u8>, place: usize, one: &Found) -> Result<(), AllocError>
+pub(crate) fn say_head(
+    alloc: Global,
+    out: &mut Vec<u8>,
+    place: usize,
+    trace: &[Event],
+) -> Result<(), AllocError>
     requires { place + 1 < 2 ^ 64 }
-    ensures { OnOk result (out.new.items ≡ out.old.items ++ def.head_words place one.now) }
+    ensures { OnOk result (out.new.items ≡ out.old.items ++ def.head_words place trace.now) }
 {
     say_number(alloc, out, place as u64 + 1)?;
     say(out, " after ")?;
-    say_number(alloc, out, one.trace.len() as u64)?;
+    say_number(alloc, out, trace.len() as u64)?;
     say(out, " events")
 }
 
@@ -51,7 +57,7 @@ pub(crate) fn say_all(
         ++ def.found_lines told.entry.names.now told.entry.program.now found.now 0) }
 {
     for k in 0..found.len() {
-        say_head(alloc, out, k, &found[k])?;
+        say_head(alloc, out, k, found[k].trace.as_slice())?;
         say(out, ": ")?;
         say_state(alloc, out, told, found[k].end)?;
     }
@@ -84,7 +90,7 @@ fn say_sampled(
         ++ def.sampled_line told.entry.names.now told.entry.program.now place one.now times
         schedules) }
 {
-    say_head(alloc, out, place, one)?;
+    say_head(alloc, out, place, one.trace.as_slice())?;
     say_share(alloc, out, times, schedules)?;
     say_state(alloc, out, told, one.end)
 }

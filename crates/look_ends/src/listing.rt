@@ -8,6 +8,7 @@ ghost use Rattle.look_ends.specs.Listing as def;
 
 use crate::below::{found_at, has_number};
 use crate::by_calls::{Answer, answered, by_calls, room_after};
+use crate::calling::of_calls;
 use crate::exploring::explored;
 use crate::form::{EndLines, EndsForm};
 use crate::lines::say_all;
@@ -25,7 +26,7 @@ use sts_code::Program;
 use sts_model::Event;
 
 /// The status where an answer is not about all schedules, or an end that was asked for isn't there.
-const STATUS_PART: u8 = 5;
+pub(crate) const STATUS_PART: u8 = 5;
 
 /// A random schedule is cut off after this number of events.
 const LONGEST: usize = 100_000;
@@ -220,6 +221,9 @@ fn of_program<F: EndsForm, P: Progress>(
         ),
         Manner::Sample { schedules, seed } => {
             of_sample(alloc, form, names, &setting, schedules, seed, number)
+        }
+        Manner::Calls { states } => {
+            of_calls(alloc, form, names, &setting, is_refused, states, number)
         }
     }
 }

@@ -41,7 +41,13 @@ fn say_fault(
     say(out, "\n")
 }
 
-fn say_end(alloc: Global, out: &mut Vec<u8>, names: &Names<'_>, end: End) -> Result<(), AllocError>
+/// `success V` or `failed C`
+pub(crate) fn say_end(
+    alloc: Global,
+    out: &mut Vec<u8>,
+    names: &Names<'_>,
+    end: End,
+) -> Result<(), AllocError>
     ensures { OnOk result (out.new.items ≡ out.old.items ++ def.end_line names.now end) }
 {
     match end {

@@ -14,10 +14,11 @@ use Rattle.look_names.specs.Names.{value_name}
 use Rattle.look_views.specs.Named.{line_at}
 use Rattle.look_views.proofs.NamedFloatLemmas.{named_plain, placed_plain}
 use Rattle.look_json.specs.Ends as def
+use Rattle.look_json.specs.Outcome.{ended}
 
 -- ---- an end
 
-ended_plain : (text : List ℕ) (end : End) → has_float (def.ended text end) ≡ false
+pub ended_plain : (text : List ℕ) (end : End) → has_float (ended text end) ≡ false
 ended_plain text (Success v) = named_plain _ (value_name text v) _ (or_from _ _ (integer_plain v) refl)
 ended_plain text (Failed c) = named_plain _ (value_name text c) _ (or_from _ _ (integer_plain c) refl)
 

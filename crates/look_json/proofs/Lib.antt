@@ -1,4 +1,5 @@
 mod AnswerFloats
+mod CallFloats
 mod EndFloats
 pub mod Plain
 mod WrittenLemmas

@@ -3,32 +3,22 @@ use Rattle.std.specs.Prelude.{ℕ, ◌+◌, List, [], ◌∷◌, ◌++◌, Bool,
 use Rattle.std.specs.Prelude.{Option, Some, None, codes}
 use Rattle.serde_json.specs.Data.{Data, boolean, string}
 use Rattle.sts_code.specs.Program.{Program, routine}
-use Rattle.sts_model.specs.declared.event.End.{End}
-use Rattle.sts_model.specs.declared.event.End.TheVariants.{Success, Failed}
 use Rattle.sts_model.specs.declared.event.Fault.{Fault}
 use Rattle.sts_output.specs.Printed.{fault_word}
 use Rattle.sts_plain.specs.declared.misstep.PlainState.{PlainState}
 use Rattle.sts_plain.specs.declared.misstep.PlainState.TheVariants as plain
 use Rattle.ends_plain.specs.declared.config.Found.{Found}
 use Rattle.ends_plain.specs.declared.config.Setting.{Setting}
-use Rattle.look_names.specs.Names.{value_name}
 use Rattle.look_cases.specs.Answer.{version}
-use Rattle.look_cases.specs.Json.{count, count_or_null, integer, object_of}
-use Rattle.look_views.specs.Named.{line_at, named, placed}
+use Rattle.look_cases.specs.Json.{count, count_or_null, object_of}
+use Rattle.look_views.specs.Named.{line_at, placed}
 use Rattle.look_views.specs.Views.{faulty, line, text_line}
 use Rattle.look_ends.specs.Form.{EndsForm}
 use Rattle.look_ends.specs.Lines.{has_number, times_at}
+use Rattle.look_json.specs.Calls.{calls_lines}
+use Rattle.look_json.specs.Outcome.{ended}
 
 -- ---- how a run ended
-
--- a value or a code, and its name
-abbrev pub ended : List ℕ → End → Data
-ended text (Success v) = named (codes "name") (value_name text v) (object_of (
-    (codes "outcome", string (codes "success")) ∷
-    (codes "value", integer v) ∷ []))
-ended text (Failed c) = named (codes "name") (value_name text c) (object_of (
-    (codes "code", integer c) ∷
-    (codes "outcome", string (codes "failed")) ∷ []))
 
 abbrev pub faulted : List ℕ → Program → Fault → ℕ → ℕ → ℕ → Data
 faulted text p kind t f pc = object_of (
@@ -117,5 +107,6 @@ abbrev pub json_form : EndsForm
 json_form = record {
   of_search = search_lines;
   of_sample = sample_lines;
+  of_calls = calls_lines;
   of_text_fault = λ e text. faulty (text_line e);
 }

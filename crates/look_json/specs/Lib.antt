@@ -1,3 +1,5 @@
+pub mod Calls
 pub mod Ends
 pub mod Explained
+pub mod Outcome
 pub mod Stories

@@ -10,49 +10,26 @@ ghost use Rattle.look_cases.specs.Json as value;
 ghost use Rattle.look_views.specs.Views.{faulty, line, text_line};
 ghost use Rattle.look_json.specs.Ends as def;
 
+use crate::calls::{say_call_ends, say_calls};
 use crate::lines::{VERSION, push_line};
+use crate::outcome::{ended, number_or_null};
 use ends_plain::config::{Found, Setting};
 use ends_plain::sample::Sample;
+use look_calls::CallsFound;
 use look_ends::{Answer, EndsForm, has_number, times_at};
 use look_names::Names;
 use look_refusal::{ExplainError, Explanation};
-use look_views::{faulty_text, line_at, placed, with_name};
+use look_views::{faulty_text, line_at, placed};
 use serde_json::{Value, json};
 use std::alloc::{AllocError, Global};
 use sts_asm::{AsmError, assemble};
 use sts_code::{Program, name_of};
-use sts_model::{End, Fault};
+use sts_model::Fault;
 use sts_output::printed::fault_word;
 use sts_plain::PlainState;
 
 /// A count that there may be, or null.
 fn count_or_null(number: Option<usize>) -> Value
-    ensures { view result ≡ value.count_or_null number }
-{
-    match number {
-        Some(number) => Value::from(number),
-        None => Value::Null,
-    }
-}
-
-/// A value or a code, and its name.
-fn ended(alloc: Global, names: &Names<'_>, end: End) -> Result<Value, AllocError>
-    ensures { IfOk result (λ v. view v ≡ def.ended names.now end) }
-{
-    match end {
-        End::Success(value) => {
-            let ended = json!(in alloc; {"outcome": "success", "value": value})?;
-            with_name(alloc, ended, "name", names.value(value))
-        }
-        End::Failed(code) => {
-            let ended = json!(in alloc; {"code": code, "outcome": "failed"})?;
-            with_name(alloc, ended, "name", names.value(code))
-        }
-    }
-}
-
-/// A number that there may be, or null.
-fn number_or_null(number: Option<u32>) -> Value
     ensures { view result ≡ value.count_or_null number }
 {
     match number {
@@ -353,6 +330,21 @@ impl EndsForm for JsonEnds {
         let (found, times) = (sample.found.as_slice(), sample.times.as_slice());
         say_sampled(alloc, &mut out, names, program, found, times)?;
         say_sample(alloc, &mut out, schedules, seed, number, sample)?;
+        Ok(out.into_bytes())
+    }
+
+    fn of_calls(
+        &self,
+        alloc: Global,
+        names: &Names<'_>,
+        program: &Program,
+        is_refused: bool,
+        number: Option<u32>,
+        calls: &CallsFound,
+    ) -> Result<Vec<u8>, AllocError> {
+        let mut out = String::new(alloc);
+        say_call_ends(alloc, &mut out, names, program, calls.found.as_slice())?;
+        say_calls(alloc, &mut out, is_refused, number, calls)?;
         Ok(out.into_bytes())
     }
 

@@ -16,6 +16,9 @@ pub enum Manner {
     All { limits: Limits },
     /// This many random ones. The same seed gives the same schedules.
     Sample { schedules: u32, seed: u32 },
+    /// Those that show what each call can come to. The search keeps no more states than this, if a
+    /// number is named.
+    Calls { states: Option<u32> },
 }
 
 /// Which events may come besides steps, and which schedules are tried.

@@ -30,7 +30,7 @@ use Rattle.look_lines.specs.Watched.{Watched}
 use Rattle.look_options.specs.declared.views.ViewOptions.{ViewOptions}
 use Rattle.look_lines.specs.declared.watch.Applied.{Applied}
 use Rattle.look_names.specs.Names.{value_name}
-use Rattle.look_views.proofs.NamedFloatLemmas.{named_plain, placed_plain}
+use Rattle.look_views.proofs.NamedFloatLemmas.{integers_plain, named_plain, placed_plain}
 use Rattle.look_views.specs.Scope as scope
 use Rattle.look_views.specs.Task as task
 use Rattle.look_views.specs.Views as def
@@ -58,10 +58,6 @@ state_plain text p w t =
     either_plain (lives (task_at w t)) _ _
     (either_plain (can_step p w t) _ _ refl (waiting_plain (stand_at p w t)))
     (rest_plain text w t)
-
-integers_plain : (zs : List ℤ) → items_have_float (items_of (task.integers zs)) ≡ false
-integers_plain [] = refl
-integers_plain (z ∷ zs) = or_from _ _ (integer_plain z) (integers_plain zs)
 
 one_more_plain : (k : ℕ) (v : Option ℤ) (ds : List Data) → items_have_float (items_of ds) ≡ false → items_have_float (items_of (task.maybe_binding k v ++ ds)) ≡ false
 one_more_plain k None ds h = h

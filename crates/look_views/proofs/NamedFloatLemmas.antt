@@ -1,13 +1,20 @@
--- A name as a member brings no float.
-use Rattle.std.proofs.Common.{◌≡◌, ℕ, List, Option, Some, None, false, refl, Ordering, Less, Equal, Greater}
+-- Integers have no float, and a name as a member brings none.
+use Rattle.std.proofs.Common.{◌≡◌, ℕ, ℤ, List, [], ◌∷◌, Option, Some, None, false, refl, Ordering, Less, Equal, Greater}
 use Rattle.std.specs.Cmp.Lexicographic.{slice_cmp}
 use Rattle.std.specs.Ordering.{match_ordering, nat_cmp}
 use Rattle.std.specs.Prelude.{codes, option_and_then}
 use Rattle.std.proofs.lemmas.Bool.{or_from, or_parts}
 use Rattle.serde_json.specs.Data.{Data, object, string, Members, no_members, member, put}
-use Rattle.serde_json.specs.Written.{has_float, members_have_float}
+use Rattle.serde_json.specs.View.{items_of}
+use Rattle.serde_json.specs.Written.{has_float, items_have_float, members_have_float}
+use Rattle.look_cases.proofs.FloatLemmas.{integer_plain}
 use Rattle.look_names.specs.Names.{function_name, line_name}
 use Rattle.look_views.specs.Named.{line_at, named, placed, with_member}
+use Rattle.look_views.specs.Task.{integers}
+
+pub integers_plain : (zs : List ℤ) → items_have_float (items_of (integers zs)) ≡ false
+integers_plain [] = refl
+integers_plain (z ∷ zs) = or_from _ _ (integer_plain z) (integers_plain zs)
 
 either_plain : (o : Ordering) (a b c : Members) → members_have_float a ≡ false → members_have_float b ≡ false → members_have_float c ≡ false → members_have_float (match_ordering o a b c) ≡ false
 either_plain Less a b c h k l = h

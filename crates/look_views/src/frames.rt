@@ -11,7 +11,11 @@ use std::alloc::{AllocError, Global};
 use sts_world::Records;
 
 /// Returns these values, in order.
-fn integers(alloc: Global, values: &[i64]) -> Result<Vec<Value>, AllocError>
+///
+/// # Errors
+///
+/// Memory was refused.
+pub fn integers(alloc: Global, values: &[i64]) -> Result<Vec<Value>, AllocError>
     ensures { IfOk result (λ list. items_view list.items ≡ items_of (def.integers values.now)) }
 {
     let mut list = Vec::new(alloc);

@@ -10,5 +10,6 @@ mod scopes;
 mod tasks;
 mod views;
 
+pub use frames::integers;
 pub use named::{line_at, placed, with_name};
 pub use of_text::{faulty_text, faulty_trace, write_views};
