@@ -133,13 +133,7 @@ pub fn told(
     ensures { IfOk result (λ x. x ≡ def.told (led.noted succeeds seen.now) i part.now counting
         (led.of_kind succeeds)) }
 {
-    let ways = split(
-        alloc,
-        seen.joiner,
-        counting,
-        succeeds,
-        part.ways.as_slice(),
-    )?;
+    let ways = split(alloc, seen.joiner, counting, succeeds, part.ways.as_slice())?;
     let part = Part {
         ways: Shared::new(alloc, ways, 0)?,
         is_open: false,
