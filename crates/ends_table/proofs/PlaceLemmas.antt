@@ -71,5 +71,5 @@ parts_more seen i x P is before here k part e low may = by (nat_eq k i) refl
 pub at_index_in : {X : Type 0} (ys xs : List X) (place i : ℕ) (x : X) → ys ≡ xs → length ys ≡ place + i + 1 → x ≡ get_or ys i x → at_place xs place ≡ Some x
 at_index_in ys xs place i x same n is = subst (λ zs. at_place zs place ≡ Some x) same (at_index ys place i x n is)
 
-pub put_index_in : {X : Type 0} (ys xs zs : List X) (place i : ℕ) (x : X) → ys ≡ xs → length ys ≡ place + i + 1 → zs ≡ set xs i x → zs ≡ put_place xs place x
-put_index_in ys xs zs place i x same n is = is ∙ sym (put_index xs place i x (ap length (sym same) ∙ n))
+pub put_index_in : {X : Type 0} (ys xs zs : List X) (place i : ℕ) (x : X) → ys ≡ xs → length ys ≡ place + i + 1 → zs ≡ set ys i x → zs ≡ put_place xs place x
+put_index_in ys xs zs place i x same n is = is ∙ ap (λ l. set l i x) same ∙ sym (put_index xs place i x (ap length (sym same) ∙ n))

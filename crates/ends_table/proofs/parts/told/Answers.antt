@@ -20,4 +20,4 @@ returns c =
     let keep = λ (ws : List Way). filter (λ (way : Way). split c.args.seen.now.joiner c.args.counting (of_kind c.args.succeeds) way.end) ws in
     c.settled.ensures
     ∙ ap settled c.in_ok-with_part.ensures
-    ∙ told_by c.args.succeeds c.args.counting c.args.seen.now c.in_ok-after.after c.args.i c.args.part.now c.in_ok-split.field-0 c.in_ok-after.ensures (c.in_ok-split.ensures ∙ ap keep c.as_slice.ensures)
+    ∙ told_by c.args.succeeds c.args.counting c.args.seen.now c.in_ok-after.after c.args.i c.args.part.now c.in_ok-new.field-0 c.in_ok-after.ensures (c.in_ok-new.ensures ∙ c.in_ok-ways.ensures ∙ ap keep c.as_slice.ensures)
