@@ -1,6 +1,0 @@
-pub mod ClosingLemmas
-pub mod EntryLemmas
-pub mod FaultLemmas
-pub mod HeldLemmas
-pub mod PickLemmas
-pub mod TableLemmas

@@ -1,4 +1,0 @@
-pub mod Allowed
-pub mod Closing
-pub mod Faults
-pub mod Safe
