@@ -1,5 +1,5 @@
 -- Steps over which missing states are gathered.
-use Rattle.std.proofs.Common.{◌≡◌, ℕ, zero, ◌+◌, ◌≤◌, ◌<◌, List, Bool, true, false, refl, sym, subst, arith, get_or, length, Result, Ok, Err}
+use Rattle.std.proofs.Common.{◌≡◌, ℕ, ◌+◌, ◌≤◌, ◌<◌, List, Bool, true, false, refl, sym, subst, arith, get_or, length, Result, Ok, Err}
 use Rattle.std.specs.Result.{IsOk, OnOk}
 use Rattle.std.specs.List.{AllWithin}
 use Rattle.std.specs.Prelude.{nat_eq}

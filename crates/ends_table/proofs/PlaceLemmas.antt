@@ -1,13 +1,10 @@
 -- Places, ways and elements of lists.
-use Rattle.std.proofs.Common.{◌≡◌, ℕ, zero, suc, ◌+◌, ◌<◌, ◌≤◌, List, [], ◌∷◌, Bool, true, false, Some}
-use Rattle.std.proofs.Common.{refl, sym, ◌∙◌, ap, subst, arith, length, get_or, set, cond, inl, inr}
-use Rattle.std.specs.Prelude.{◌==◌, nat_eq, slice_get, All}
+use Rattle.std.proofs.Common.{◌≡◌, ℕ, zero, suc, ◌+◌, ◌<◌, List, [], ◌∷◌, Bool, true, false, Some}
+use Rattle.std.proofs.Common.{refl, sym, ◌∙◌, ap, subst, arith, length, get_or, set, cond}
+use Rattle.std.specs.Prelude.{◌==◌, nat_eq, slice_get}
 use Rattle.std.proofs.lemmas.Bool.Decides.{nat_tests}
-use Rattle.std.specs.List.{AllWithin}
-use Rattle.std.proofs.lemmas.List.Elements.{All-head, All-tail, All-from_all_within, AllWithin-upto}
 use Rattle.sts_model.specs.declared.event.End.{End}
-use Rattle.laws_calls.specs.Tasks.{Among, at_place, put_place, HasWay}
-use Rattle.laws_calls.specs.declared.table.Way.{Way}
+use Rattle.laws_calls.specs.Tasks.{at_place, put_place, HasWay}
 use Rattle.laws_calls.specs.declared.table.Part.{Part}
 use Rattle.laws_calls.specs.declared.table.Seen.{Seen}
 use Rattle.laws_calls.specs.Steps.{MayEnd}

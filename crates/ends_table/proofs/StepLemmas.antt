@@ -1,5 +1,5 @@
 -- The states to which each instruction leads.
-use Rattle.std.proofs.Common.{◌≡◌, ℕ, ◌<◌, pos, List, [], ◌∷◌, Bool, true, false, Option, Some}
+use Rattle.std.proofs.Common.{◌≡◌, ℕ, pos, List, [], ◌∷◌, Bool, true, false, Option, Some}
 use Rattle.std.proofs.Common.{refl, sym, ◌∙◌, subst, is_some}
 use Rattle.std.specs.Prelude.{unwrap_or, slice_get, drop, slice_set}
 use Rattle.sts_code.specs.Program.{Program}
@@ -17,13 +17,13 @@ use Rattle.sts_model.specs.Local.{is_local, local, operand, steps, truth}
 use Rattle.sts_model.specs.Environment.{read}
 use Rattle.laws_calls.specs.declared.table.Held.TheVariants as held
 use Rattle.laws_calls.specs.declared.table.Outside.{Outside}
-use Rattle.laws_calls.specs.Outside.{may_flag}
+use Rattle.laws_calls.specs.Outside.{may_flag, per_birth}
 use Rattle.laws_calls.specs.Tasks.{at_place, held_at, bindings}
 use Rattle.laws_calls.specs.declared.table.Call.{Call}
 use Rattle.laws_calls.specs.declared.table.Own.{Own}
 use Rattle.laws_calls.specs.declared.table.Seen.{Seen}
 use Rattle.laws_calls.specs.declared.table.Part.{Part}
-use Rattle.laws_calls.specs.Steps.{Table, Leads, Owns, Knows, to, pushes, opened, closed}
+use Rattle.laws_calls.specs.Steps.{Table, Leads, LeadsBy, born_by, Owns, Knows, to, pushes, opened, closed}
 use Rattle.laws_calls.specs.Steps.{local_step, read_step, bound_step, or_else_step, bind_step}
 use Rattle.laws_calls.specs.Steps.{unbind_step, forget_step, calm_step, interrupted_step, lent_step}
 use Rattle.laws_calls.specs.Steps.{lent_cancelled_step, going_step, cancelled_step, expired_step, open_step}
@@ -65,8 +65,14 @@ module _ (p : Program) (outside : Outside) (c : Call) (states : List Own) (own :
 
   -- ---- the frame alone
 
+  -- a local instruction makes no birth
+  local_none : (i : Instr) → is_local i ≡ true → born_by outside i ≡ 0
+  local_none (Open x joiner timed) e = cc
+  local_none (Fork x g h) e = cc
+  local_none i e = refl
+
   pub local_leads : (i : Instr) → is_local i ≡ true → Leads states (to own (local (code p own.frame) i own.frame)) → AllLead p outside c states own i
-  local_leads i e h next (local_step same) = h
+  local_leads i e h next (local_step same) = subst (λ n. LeadsBy n states (to own (local (code p own.frame) i own.frame))) (sym (local_none i e)) h
   local_leads i e h next read_step = cc
   local_leads i e h next bound_step = cc
   local_leads i e h next or_else_step = cc
@@ -134,7 +140,7 @@ module _ (p : Program) (outside : Outside) (c : Call) (states : List Own) (own :
 
   -- ---- scopes
 
-  pub open_leads : (x : ℕ) (joiner : Joiner) (timed : Bool) → Leads states (opened c own x joiner timed) → AllLead p outside c states own (Open x joiner timed)
+  pub open_leads : (x : ℕ) (joiner : Joiner) (timed : Bool) → LeadsBy (per_birth outside) states (opened c own x joiner timed) → AllLead p outside c states own (Open x joiner timed)
   open_leads x joiner timed h next (local_step e) = cc
   open_leads x joiner timed h next open_step = h
 
@@ -142,7 +148,7 @@ module _ (p : Program) (outside : Outside) (c : Call) (states : List Own) (own :
   close_leads x h next (local_step e) = cc
   close_leads x h next close_step = h
 
-  pub fork_leads : (t : Table) (x g : ℕ) (q : Option ℕ) → ((place : ℕ) (seen : Seen) → Owns own x place seen → ForkLeads p t states own x g q place seen) → AllLead p outside c states own (Fork x g q)
+  pub fork_leads : (t : Table) (x g : ℕ) (q : Option ℕ) → ((place : ℕ) (seen : Seen) → Owns own x place seen → ForkLeads p outside t states own x g q place seen) → AllLead p outside c states own (Fork x g q)
   fork_leads t x g q h next (local_step e) = cc
   fork_leads t x g q h next (unstarted_step place seen o gone) = (h place seen o).unstarted gone
 

@@ -1,5 +1,5 @@
 -- From the states of the rows to the table.
-use Rattle.std.proofs.Common.{◌≡◌, ℕ, [], ◌∷◌, get_or, inl, subst, refl}
+use Rattle.std.proofs.Common.{◌≡◌, [], ◌∷◌, get_or, inl, subst, refl}
 use Rattle.std.specs.Prelude.{All}
 use Rattle.sts_code.specs.Program.{Program}
 use Rattle.laws_calls.specs.declared.table.Outside.{Outside}

@@ -13,12 +13,13 @@ use Rattle.sts_model.specs.Local.{truth, goes}
 use Rattle.sts_model.specs.World.{instr_at}
 use Rattle.laws_calls.specs.declared.table.Held.TheVariants as held
 use Rattle.laws_calls.specs.declared.table.Outside.{Outside}
+use Rattle.laws_calls.specs.Outside.{per_birth}
 use Rattle.laws_calls.specs.Tasks.{Among, HasWay, begin}
 use Rattle.laws_calls.specs.declared.table.Part.{Part}
 use Rattle.laws_calls.specs.declared.table.Seen.{Seen}
 use Rattle.laws_calls.specs.declared.table.Own.{Own}
 use Rattle.laws_calls.specs.declared.table.Call.{Call}
-use Rattle.laws_calls.specs.Steps.{Table, Steps, Leads, Forks, Owns, MayEnd, is_cancelled}
+use Rattle.laws_calls.specs.Steps.{Table, Steps, Leads, LeadsBy, born_by, Forks, Owns, MayEnd, is_cancelled}
 use Rattle.laws_calls.specs.declared.table.Row.{Row}
 use Rattle.laws_calls.specs.Steps.{may_decide, may_be_late, is_heard, is_by_one, is_until, is_any}
 use Rattle.laws_calls.specs.Steps.{is_unseen, attempted}
@@ -31,7 +32,7 @@ use Rattle.ends_table.specs.declared.steps.Around.{Around}
 -- each step leads to a state that is there, or to one that isn't possible
 abbrev pub AllLead : Program → Outside → Call → List Own → Own → Instr → Type 0
 AllLead p outside c states own i =
-    (next : Own) → Steps p outside c own i next → Leads states next
+    (next : Own) → Steps p outside c own i next → LeadsBy (born_by outside i) states next
 
 -- the same for a state of a row
 abbrev pub LeadsOn : Around → Instr → Type 0
@@ -127,23 +128,25 @@ ReadsLead states own place seen i part succeeds =
     → Leads states (pushes (with_part own place seen i (only e part)) 0 (value_in e))
 
 -- `fork` in a scope at this place
-pub record ForkLeads (p : Program) (t : Table) (states : List Own) (own : Own) (x g : ℕ)
-    (h : Option ℕ) (place : ℕ) (seen : Seen) : Type 0 where
-  pub started : is_cancelled seen.knowledge ≡ false → Forks p t states own x g h place seen
-  pub unstarted : is_cancelled seen.knowledge ≡ true → Leads states (forked p own place seen [] g h)
+pub record ForkLeads (p : Program) (outside : Outside) (t : Table) (states : List Own) (own : Own)
+    (x g : ℕ) (h : Option ℕ) (place : ℕ) (seen : Seen) : Type 0 where
+  pub started : is_cancelled seen.knowledge ≡ false
+      → Forks p outside t states own x g h place seen
+  pub unstarted : is_cancelled seen.knowledge ≡ true
+      → LeadsBy (per_birth outside) states (forked p own place seen [] g h)
 
 -- ---- a state, a row
 
 -- what a table owes at a state whose next instruction is a `fork`
-abbrev pub ForksLead : Program → Table → Row → Own → Instr → Type 0
-ForksLead p t row own i =
+abbrev pub ForksLead : Program → Outside → Table → Row → Own → Instr → Type 0
+ForksLead p outside t row own i =
     (x g place : ℕ) (h : Option ℕ) (seen : Seen) → i ≡ Fork x g h → Owns own x place seen
-    → is_cancelled seen.knowledge ≡ false → Forks p t row.states own x g h place seen
+    → is_cancelled seen.knowledge ≡ false → Forks p outside t row.states own x g h place seen
 
 -- all that a table owes at a state of a row whose next instruction is this
 pub record IsLed (p : Program) (outside : Outside) (t : Table) (row : Row) (own : Own) (i : Instr)
     : Type 0 where
-  pub forks : ForksLead p t row own i
+  pub forks : ForksLead p outside t row own i
   pub closed : AllLead p outside row.call row.states own i
   pub ends : (e : End) → end_by i own.frame ≡ Some e → HasWay row.ways e
 
@@ -157,7 +160,7 @@ IsLedRow p outside t row = All (IsLedAt p outside t row) row.states
 -- the row is that of the root's call
 pub record IsRoot (p : Program) (root : Row) : Type 0 where
   pub call : root.call ≡ root_call p
-  pub begins : Among root.states (begin held.Empty (root_call p))
+  pub begins : Among root.states (begin held.Empty (root_call p) root.births)
 
 -- the table is closed, and its first row is the root's
 abbrev pub IsClosed : Program → Outside → Table → Type 0

@@ -23,9 +23,9 @@ fn first_locals(args: &[i64]) -> [i64; 16]
     locals
 }
 
-/// The state in which the task of a call begins, with this in slot 0.
-pub fn first_state(alloc: Global, call: &Call, first: Held) -> Result<Own, Stop>
-    ensures { IfOk result (λ own. own ≡ tasks.begin first call.now) }
+/// The state in which the task of a call begins, with this in slot 0 and these births left.
+pub fn first_state(alloc: Global, call: &Call, first: Held, births: u32) -> Result<Own, Stop>
+    ensures { IfOk result (λ own. own ≡ tasks.begin first call.now births) }
 {
     let args = call.args.as_slice();
     if args.len() > 16 {
@@ -39,6 +39,7 @@ pub fn first_state(alloc: Global, call: &Call, first: Held) -> Result<Own, Stop>
         frame,
         held,
         scopes: Items::new(alloc),
+        left: births,
     })
 }
 

@@ -24,12 +24,13 @@ use sts_same::same::Same;
 fn check_fork(
     alloc: Global,
     program: &Program,
+    outside: Outside,
     table: &[Row],
     row: &Row,
     own: &Own,
     instr: Instr,
 ) -> Result<(), Stop>
-    ensures { OnOk result (led.ForksLead program.now table.now row.now own.now instr) }
+    ensures { OnOk result (led.ForksLead program.now outside table.now row.now own.now instr) }
 {
     if let Instr::Fork {
         slot,
@@ -38,7 +39,9 @@ fn check_fork(
     } = instr
     {
         let states = row.states.as_slice();
-        forks(alloc, program, table, states, own, slot, function, handle)?;
+        forks(
+            alloc, program, outside, table, states, own, slot, function, handle,
+        )?;
     }
     Ok(())
 }
@@ -63,7 +66,7 @@ fn check_instr(
         states: row.states.as_slice(),
         own,
     };
-    check_fork(alloc, program, table, row, own, instr)?;
+    check_fork(alloc, program, outside, table, row, own, instr)?;
     around.steps(alloc, instr)?;
     ends(row.ways.as_slice(), own, instr)?;
     Ok(())
@@ -123,7 +126,7 @@ fn check_root(alloc: Global, program: &Program, root: &Row) -> Result<(), Stop>
     ensures { OnOk result (led.IsRoot program.now root.now) }
 {
     let call = root_call(alloc, program)?;
-    let first = first_state(alloc, &call, Held::Empty)?;
+    let first = first_state(alloc, &call, Held::Empty, root.births)?;
     if !root.call.same(&call) || !is_among(root.states.as_slice(), &first) {
         return Err(Stop::Unknown);
     }

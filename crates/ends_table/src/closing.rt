@@ -4,9 +4,10 @@ ghost use Rattle.std.specs.Prelude.{IfOk, IfSome};
 ghost use Rattle.ends_table.specs.Led as led;
 
 use crate::beginning::{first_state, root_call};
+use crate::births::{Births, Steps};
 use crate::check::is_closed;
 use crate::fingerprints::{fingerprint, sort};
-use crate::forks::forks;
+use crate::forks::{born_by_fork, forks};
 use crate::rows::ends;
 use crate::steps::Around;
 use crate::stop::Stop;
@@ -34,12 +35,17 @@ const OF_SCOPE: usize = 150;
 /// A part takes this number of bytes.
 const OF_PART: usize = 20;
 
+/// The births that are left to each state of a row while the row is made.
+const PLENTY: u32 = u32::MAX;
+
 /// A row whose states are not all done.
 #[derive(Drop)]
 struct Open {
     call: Call,
     /// Its states in the order in which they were found.
     states: Vec<Own>,
+    /// What is known of the births of those that are done.
+    births: Births,
     index: Index,
     ways: Items<Way>,
     /// How many states are done.
@@ -83,6 +89,7 @@ fn size(own: &Own) -> usize {
 fn fork_of(
     alloc: Global,
     program: &Program,
+    outside: Outside,
     rows: &[Row],
     next: &[Own],
     own: &Own,
@@ -94,18 +101,38 @@ fn fork_of(
         handle,
     } = instr
     {
-        forks(alloc, program, rows, next, own, slot, function, handle)?;
+        forks(
+            alloc, program, outside, rows, next, own, slot, function, handle,
+        )?;
     }
     Ok(())
+}
+
+/// The births by the steps of a state.
+fn born_at(
+    alloc: Global,
+    program: &Program,
+    outside: Outside,
+    rows: &[Row],
+    own: &Own,
+) -> Result<u32, Stop> {
+    match instr_at(program, &own.frame) {
+        Some(Instr::Open { .. }) => Ok(outside.per_birth()),
+        Some(Instr::Fork { slot, function, .. }) => {
+            born_by_fork(alloc, program, outside, rows, own, slot, function)
+        }
+        _ => Ok(0),
+    }
 }
 
 impl Open {
     /// The row of a call, with its first state.
     fn begin(alloc: Global, call: Call, first: Held) -> Result<Open, Stop> {
-        let own = first_state(alloc, &call, first)?;
+        let own = first_state(alloc, &call, first, PLENTY)?;
         let mut open = Open {
             call,
             states: Vec::new(alloc),
+            births: Births::new(alloc),
             index: Index::new(alloc)?,
             ways: Items::new(alloc),
             done: 0,
@@ -117,69 +144,85 @@ impl Open {
 
     fn is_at(&self, place: usize, own: &Own) -> bool {
         match self.states.get(place) {
-            Some(there) => there.same(own),
+            Some(there) => there.is_like(own),
             None => false,
         }
     }
 
-    /// Is the state in the row?
-    fn has(&self, own: &Own, print: u64) -> bool {
+    /// Where the state is in the row.
+    fn place_of(&self, own: &Own, print: u64) -> Option<usize> {
         let mut place = self.index.first(print);
         for _ in 0..self.states.len() {
             if place >= self.states.len() {
-                return false;
+                return None;
             }
             if self.is_at(place, own) {
-                return true;
+                return Some(place);
             }
             place = self.index.behind(place, print);
         }
-        false
+        None
     }
 
     /// Adds a state.
     fn push(&mut self, alloc: Global, own: Own, print: u64) -> Result<(), AllocError> {
+        let mut state = own;
+        state.left = PLENTY;
         self.index.add(alloc, print)?;
-        self.states.push(own)?;
+        self.states.push(state)?;
         Ok(())
     }
 
-    /// Adds a state, unless it is in the row. Returns the memory that it takes.
-    fn add(&mut self, alloc: Global, own: Own) -> Result<usize, Stop> {
+    /// Adds a state, unless it is in the row. Returns its place, and the memory that it takes.
+    fn add(&mut self, alloc: Global, own: Own) -> Result<(usize, usize), Stop> {
         let print = fingerprint(&own);
-        if self.has(&own, print) {
-            return Ok(0);
+        if let Some(place) = self.place_of(&own, print) {
+            return Ok((place, 0));
         }
-        if self.states.len() >= MOST_OF_ROW {
+        let place = self.states.len();
+        if place >= MOST_OF_ROW {
             return Err(Stop::Unknown);
         }
         let size = size(&own);
         self.push(alloc, own, print)?;
-        Ok(size)
+        Ok((place, size))
     }
 
-    /// Adds the states that the state leads to, which is done then. Returns the memory that they take.
-    fn pass(&mut self, alloc: Global) -> Result<usize, Stop> {
+    /// Adds the states that the state leads to by these births. The state is done then.
+    /// Returns the memory that they take.
+    fn pass(&mut self, alloc: Global, born: u32) -> Result<usize, Stop> {
         let mut next = Vec::new(alloc);
         std::mem::swap(&mut next, &mut self.next);
         let mut memory: usize = 0;
+        let mut steps = Steps::new(alloc, born);
         for own in next {
-            memory = memory.saturating_add(self.add(alloc, own)?);
+            let (place, size) = self.add(alloc, own)?;
+            memory = memory.saturating_add(size);
+            steps.push(place)?;
         }
+        self.births.push(steps)?;
         self.done = self.done.saturating_add(1);
         Ok(memory)
     }
 
+    /// Keeps a state that the state leads to.
+    fn push_next(&mut self, own: Own) -> Result<(), AllocError> {
+        let mut state = own;
+        state.left = 0;
+        self.next.push(state)?;
+        Ok(())
+    }
+
     /// Adds a state that the state leads to.
     fn lead_to_one(&mut self, own: Own) -> Result<(), AllocError> {
-        self.next.push(own)?;
+        self.push_next(own)?;
         sort(&mut self.next)
     }
 
     /// Adds states that the state leads to.
     fn lead_to(&mut self, states: Vec<Own>) -> Result<(), AllocError> {
         for own in states {
-            self.next.push(own)?;
+            self.push_next(own)?;
         }
         sort(&mut self.next)
     }
@@ -205,14 +248,16 @@ impl Open {
             states: next,
             own,
         };
-        fork_of(alloc, program, rows, next, own, instr)?;
+        fork_of(alloc, program, outside, rows, next, own, instr)?;
         around.steps(alloc, instr)?;
         ends(self.ways.as_slice(), own, instr)
     }
 
     /// The row, with its states in order.
-    fn row(self, alloc: Global) -> Result<Row, AllocError> {
-        let mut found = self.states;
+    fn row(self, alloc: Global) -> Result<Row, Stop> {
+        let left = self.births.left(alloc)?;
+        let births = left.first().copied().unwrap_or(0);
+        let mut found = counted(alloc, self.states, left.as_slice())?;
         sort(&mut found)?;
         let mut states = Items::new(alloc);
         for own in found {
@@ -220,10 +265,24 @@ impl Open {
         }
         Ok(Row {
             call: self.call,
+            births,
             states,
             ways: Shared::new(alloc, self.ways, 0)?,
         })
     }
+}
+
+/// The states, each with the births that are left to it.
+fn counted(alloc: Global, states: Vec<Own>, left: &[u32]) -> Result<Vec<Own>, AllocError> {
+    let mut found = Vec::new(alloc);
+    let mut place: usize = 0;
+    for own in states {
+        let mut state = own;
+        state.left = left.get(place).copied().unwrap_or(0);
+        found.push(state)?;
+        place = place.saturating_add(1);
+    }
+    Ok(found)
 }
 
 /// What a look at the innermost open row found.
@@ -231,8 +290,8 @@ impl Open {
 enum Look {
     /// All its states are done.
     Done,
-    /// The state has no other step.
-    Passed,
+    /// The state has no other step. The number is that of the births by its steps.
+    Passed(u32),
     /// Something is missing.
     Lacks(Stop),
 }
@@ -259,24 +318,33 @@ impl Closing {
             return Look::Done;
         };
         match top.look(alloc, program, self.outside, self.rows.as_slice(), own) {
-            Ok(()) => Look::Passed,
+            Ok(()) => match born_at(alloc, program, self.outside, self.rows.as_slice(), own) {
+                Ok(born) => Look::Passed(born),
+                Err(stop) => Look::Lacks(stop),
+            },
             Err(stop) => Look::Lacks(stop),
         }
     }
 
+    /// Keeps a row.
+    fn push_row(&mut self, row: Row) -> Result<(), AllocError> {
+        self.rows.push(row)?;
+        Ok(())
+    }
+
     /// Keeps the innermost open row, which is done.
-    fn keep(&mut self, alloc: Global) -> Result<(), AllocError> {
+    fn keep(&mut self, alloc: Global) -> Result<(), Stop> {
         if let Some(open) = self.open.pop() {
             self.states = self.states.saturating_add(open.states.len());
-            self.rows.push(open.row(alloc)?)?;
+            self.push_row(open.row(alloc)?)?;
         }
         Ok(())
     }
 
     /// One state more is done.
-    fn pass(&mut self, alloc: Global) -> Result<(), Stop> {
+    fn pass(&mut self, alloc: Global, born: u32) -> Result<(), Stop> {
         if let Some(top) = self.open.last_mut() {
-            let memory = top.pass(alloc)?;
+            let memory = top.pass(alloc, born)?;
             self.memory = self.memory.saturating_add(memory);
         }
         if self.memory > MOST_MEMORY {
@@ -305,8 +373,8 @@ impl Closing {
     /// Works on a state of the innermost open row.
     fn advance(&mut self, alloc: Global, program: &Program) -> Result<(), Stop> {
         match self.look(alloc, program) {
-            Look::Done => Ok(self.keep(alloc)?),
-            Look::Passed => self.pass(alloc),
+            Look::Done => self.keep(alloc),
+            Look::Passed(born) => self.pass(alloc, born),
             Look::Lacks(stop) => self.mend(alloc, stop),
         }
     }

@@ -1,7 +1,8 @@
 //! The states after `fork`.
 
-ghost use Rattle.std.specs.Prelude.{◌≡◌, ℕ, [], ◌∷◌, ◌++◌, IfOk, OnOk, reverse, take};
+ghost use Rattle.std.specs.Prelude.{◌≡◌, ◌+◌, ℕ, [], ◌∷◌, ◌++◌, IfOk, OnOk, reverse, take};
 ghost use Rattle.ends_table.specs.Led as led;
+ghost use Rattle.laws_calls.specs.Outside.{per_birth};
 ghost use Rattle.laws_calls.specs.Steps as def;
 ghost use Rattle.laws_calls.specs.declared.table.Seen.{Seen};
 ghost use Rattle.sts_code.specs.Program.{routine};
@@ -10,13 +11,13 @@ use crate::beginning::first_state;
 use crate::fingerprints::with_part;
 use crate::frames::stepped;
 use crate::places::{number, owned, set_held, with_scope};
-use crate::reached::leads;
+use crate::reached::leads_after;
 use crate::rows::row_of;
 use crate::stop::Stop;
 use ends_picks::joiners::is_cancelled;
 use laws_calls::copies::copy_list;
 use laws_calls::shared::Shared;
-use laws_calls::table::{Call, Held, Own, Part, Row, Seen, Way};
+use laws_calls::table::{Call, Held, Outside, Own, Part, Row, Seen, Way};
 use std::alloc::{AllocError, Global};
 use sts_code::{Program, args};
 use sts_model::Items;
@@ -115,10 +116,22 @@ fn forked(
     Ok(next)
 }
 
+/// The births by a `fork`: the new task, and all that may be born of it.
+fn born_with(outside: Outside, row: &Row) -> Result<u32, Stop>
+    ensures { IfOk result (λ n. n ≡ per_birth outside + row.now.births) }
+{
+    let one = outside.per_birth();
+    if row.births > u32::MAX - one {
+        return Err(Stop::Unknown);
+    }
+    Ok(one + row.births)
+}
+
 /// The row of the new task's call, and the state after the `fork`.
 fn started(
     alloc: Global,
     program: &Program,
+    outside: Outside,
     table: &[Row],
     states: &[Own],
     own: &Own,
@@ -128,25 +141,55 @@ fn started(
     function: u32,
     handle: Option<u8>,
 ) -> Result<(), Stop>
-    ensures { OnOk result (def.Forks program.now table.now states.now own.now slot function handle
+    ensures { OnOk result (def.Forks program.now outside table.now states.now own.now slot function handle
         place seen.now) }
 {
     let call = call_of(alloc, program, own, seen, function)?;
-    let first = first_state(alloc, &call, Held::Lent)?;
+    let first = first_state(alloc, &call, Held::Lent, 0)?;
     let Some(row) = row_of(table, &call, &first) else {
         return Err(Stop::Call(call));
     };
     let next = forked(
         alloc, program, own, place, seen, &row.ways, function, handle,
     )?;
-    leads(states, next)?;
+    let born = born_with(outside, row)?;
+    leads_after(states, next, born)?;
     Ok(())
+}
+
+/// The births by the `fork` of a state.
+pub fn born_by_fork(
+    alloc: Global,
+    program: &Program,
+    outside: Outside,
+    table: &[Row],
+    own: &Own,
+    slot: u8,
+    function: u32,
+) -> Result<u32, Stop> {
+    let (_, seen) = owned(own, slot)?;
+    if is_cancelled(seen.knowledge) {
+        return Ok(outside.per_birth());
+    }
+    let call = call_of(alloc, program, own, seen, function)?;
+    let first = first_state(alloc, &call, Held::Lent, 0)?;
+    match row_of(table, &call, &first) {
+        Some(row) => born_with(outside, row),
+        None => Err(Stop::Call(call)),
+    }
+}
+
+fn no_ways(alloc: Global) -> Result<Shared<Way>, AllocError>
+    ensures { IfOk result (λ ways. ways ≡ []) }
+{
+    Shared::new(alloc, Items::new(alloc), 0)
 }
 
 /// The state after a `fork` in a scope that is known to be cancelled.
 fn unstarted(
     alloc: Global,
     program: &Program,
+    outside: Outside,
     states: &[Own],
     own: &Own,
     place: u32,
@@ -154,20 +197,20 @@ fn unstarted(
     function: u32,
     handle: Option<u8>,
 ) -> Result<(), Stop>
-    ensures { OnOk result (def.Leads states.now
+    ensures { OnOk result (def.LeadsBy (per_birth outside) states.now
         (def.forked program.now own.now place seen.now [] function handle)) }
 {
-    let none = Shared::new(alloc, Items::new(alloc), 0)?;
-    leads(
-        states,
-        forked(alloc, program, own, place, seen, &none, function, handle)?,
-    )
+    let none = no_ways(alloc)?;
+    let next = forked(alloc, program, own, place, seen, &none, function, handle)?;
+    leads_after(states, next, outside.per_birth())?;
+    Ok(())
 }
 
 /// The states after a `fork` in a scope at this place.
 fn forks_at(
     alloc: Global,
     program: &Program,
+    outside: Outside,
     table: &[Row],
     states: &[Own],
     own: &Own,
@@ -177,14 +220,16 @@ fn forks_at(
     function: u32,
     handle: Option<u8>,
 ) -> Result<(), Stop>
-    ensures { OnOk result (led.ForkLeads program.now table.now states.now own.now slot function
+    ensures { OnOk result (led.ForkLeads program.now outside table.now states.now own.now slot function
         handle place seen.now) }
 {
     if is_cancelled(seen.knowledge) {
-        unstarted(alloc, program, states, own, place, seen, function, handle)?;
+        unstarted(
+            alloc, program, outside, states, own, place, seen, function, handle,
+        )?;
     } else {
         started(
-            alloc, program, table, states, own, place, seen, slot, function, handle,
+            alloc, program, outside, table, states, own, place, seen, slot, function, handle,
         )?;
     }
     Ok(())
@@ -194,6 +239,7 @@ fn forks_at(
 pub fn forks(
     alloc: Global,
     program: &Program,
+    outside: Outside,
     table: &[Row],
     states: &[Own],
     own: &Own,
@@ -202,11 +248,12 @@ pub fn forks(
     handle: Option<u8>,
 ) -> Result<(), Stop>
     ensures { OnOk result ((place : ℕ) → (seen : Seen) → def.Owns own.now slot place seen
-        → led.ForkLeads program.now table.now states.now own.now slot function handle place seen) }
+        → led.ForkLeads program.now outside table.now states.now own.now slot function handle place
+        seen) }
 {
     let (place, seen) = owned(own, slot)?;
     forks_at(
-        alloc, program, table, states, own, place, seen, slot, function, handle,
+        alloc, program, outside, table, states, own, place, seen, slot, function, handle,
     )?;
     Ok(())
 }

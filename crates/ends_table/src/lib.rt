@@ -3,6 +3,7 @@
 
 pub mod beginning;
 pub mod bindings;
+pub mod births;
 pub mod cases;
 pub mod check;
 pub mod closing;

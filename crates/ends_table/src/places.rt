@@ -106,6 +106,7 @@ pub fn with_frame(alloc: Global, own: &Own, frame: Frame) -> Result<Own, AllocEr
         frame,
         held: own.held,
         scopes: copy_list(alloc, own.scopes.as_slice())?,
+        left: own.left,
     })
 }
 
@@ -126,6 +127,7 @@ pub fn with_scope(
         frame,
         held: own.held,
         scopes,
+        left: own.left,
     })
 }
 

@@ -1,6 +1,6 @@
 //! Whether a state is among those of a row.
 
-ghost use Rattle.std.specs.Prelude.{◌≡◌, true, OnOk};
+ghost use Rattle.std.specs.Prelude.{◌≡◌, ◌+◌, ◌≤◌, ℕ, true, OnOk, IfSome};
 ghost use Rattle.laws_calls.specs.Steps as def;
 ghost use Rattle.laws_calls.specs.Tasks.{Among};
 
@@ -11,31 +11,73 @@ use ends_picks::possible::is_possible;
 use laws_calls::table::{Own, Seen};
 use std::alloc::Global;
 use sts_model::Frame;
-use sts_same::same::Same;
 
-/// Is the state among these? They have to be in rising order of their fingerprints.
+/// The births that are left in a state, if it is the same as the other apart from them.
+fn left_if_like(there: &Own, own: &Own) -> Option<u32>
+    ensures { IfSome result (λ left. there.now ≡ record own.now { left = left }) }
+{
+    if there.is_like(own) {
+        Some(there.left)
+    } else {
+        None
+    }
+}
+
+/// The births that are left in the state among these that is the same apart from them. The states
+/// have to be in rising order of their fingerprints.
+pub fn left_in(states: &[Own], own: &Own) -> Option<u32>
+    ensures { IfSome result (λ left. Among states.now (record own.now { left = left })) }
+{
+    for at in first_like(states, own)..states.len() {
+        if let Some(left) = left_if_like(&states[at], own) {
+            return Some(left);
+        }
+        if is_past(&states[at], own) {
+            return None;
+        }
+    }
+    None
+}
+
+/// Is the state among these, with so many births left?
+pub fn is_among_with(states: &[Own], own: &Own, left: u32) -> bool
+    ensures { result ≡ true → Among states.now (record own.now { left = left }) }
+{
+    match left_in(states, own) {
+        Some(there) => there == left,
+        None => false,
+    }
+}
+
+/// Is the state among these, with as many births left?
 pub fn is_among(states: &[Own], own: &Own) -> bool
     ensures { result ≡ true → Among states.now own.now }
 {
-    for at in first_like(states, own)..states.len() {
-        if states[at].same(own) {
-            return true;
-        }
-        if is_past(&states[at], own) {
-            return false;
-        }
-    }
-    false
+    is_among_with(states, own, own.left)
 }
 
-/// The state is among these, or the error has it.
-fn found(states: &[Own], next: Own) -> Result<(), Stop>
-    ensures { OnOk result (Among states.now next) }
+/// The state is among these after these births, or the error has it.
+fn found(states: &[Own], next: Own, born: u32) -> Result<(), Stop>
+    ensures { OnOk result ((k : ℕ) × (born + k ≤ next.left) × Among states.now
+        (record next { left = k })) }
 {
-    if is_among(states, &next) {
-        Ok(())
+    let Some(left) = left_in(states, &next) else {
+        return Err(Stop::State(next));
+    };
+    if born > next.left || left > next.left - born {
+        return Err(Stop::Unknown);
+    }
+    Ok(())
+}
+
+/// If the state may be possible, it is among these after these births, or the error has it.
+pub fn leads_after(states: &[Own], next: Own, born: u32) -> Result<(), Stop>
+    ensures { OnOk result (def.LeadsBy born states.now next) }
+{
+    if is_possible(&next) {
+        found(states, next, born)
     } else {
-        Err(Stop::State(next))
+        Ok(())
     }
 }
 
@@ -43,11 +85,7 @@ fn found(states: &[Own], next: Own) -> Result<(), Stop>
 pub fn leads(states: &[Own], next: Own) -> Result<(), Stop>
     ensures { OnOk result (def.Leads states.now next) }
 {
-    if is_possible(&next) {
-        found(states, next)
-    } else {
-        Ok(())
-    }
+    leads_after(states, next, 0)
 }
 
 /// The same for the state with another frame.

@@ -6,7 +6,7 @@ ghost use Rattle.laws_calls.specs.Steps as def;
 ghost use Rattle.laws_calls.specs.Tasks as tasks;
 ghost use Rattle.sts_model.specs.declared.event.End.{End};
 
-use crate::reached::is_among;
+use crate::reached::is_among_with;
 use crate::stop::Stop;
 use laws_calls::table::{Call, Own, Row, Way};
 use sts_code::Instr;
@@ -15,11 +15,11 @@ use sts_same::same::Same;
 
 /// The row of a call, which has the call's first state.
 pub fn row_of<'a>(table: &'a [Row], call: &Call, first: &Own) -> Option<&'a Row>
-    requires { first.now ≡ tasks.begin Lent call.now }
+    requires { first.now ≡ tasks.begin Lent call.now 0 }
     ensures { IfSome result (λ row. def.IsRowOf table.now row.now call.now) }
 {
     for row in table {
-        if row.call.same(call) && is_among(row.states.as_slice(), first) {
+        if row.call.same(call) && is_among_with(row.states.as_slice(), first, row.births) {
             return Some(row);
         }
     }

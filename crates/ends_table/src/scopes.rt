@@ -77,6 +77,7 @@ pub fn opened(
         frame: entered(&own.frame)?,
         held,
         scopes: copy_behind(alloc, seen, own.scopes.as_slice())?,
+        left: own.left,
     })
 }
 
@@ -133,5 +134,6 @@ pub fn closed(alloc: Global, own: &Own) -> Result<Own, Stop>
         frame: left(&own.frame)?,
         held: cleared(place, &own.held),
         scopes,
+        left: own.left,
     })
 }

@@ -1,6 +1,6 @@
 //! The states after each instruction.
 
-ghost use Rattle.std.specs.Prelude.{◌≡◌, OnOk, true};
+ghost use Rattle.std.specs.Prelude.{◌≡◌, [], IfOk, OnOk, slice_set, true};
 ghost use Rattle.ends_table.specs.Led as led;
 ghost use Rattle.laws_calls.specs.Outside.{may_flag};
 ghost use Rattle.laws_calls.specs.Tasks as tasks;
@@ -15,7 +15,7 @@ use crate::frames::{after_local, left, pushed, stepped};
 use crate::joins::{attempted, joins, target};
 use crate::looks::{interrupted, lent_cancelled, looks, not_cancelled};
 use crate::places::{held_at, known, owned, set_held, with_frame};
-use crate::reached::{leads, leads_by};
+use crate::reached::{leads, leads_after, leads_by};
 use crate::scopes::{closed, opened};
 use crate::stop::Stop;
 use crate::sums::totals;
@@ -24,6 +24,19 @@ use laws_calls::table::{Call, Held, Outside, Own, Row, Seen};
 use std::alloc::Global;
 use sts_code::{Instr, Joiner, Kind, Program};
 use sts_frames::is_local;
+
+/// The state after a handle was forgotten.
+fn forgotten(alloc: Global, own: &Own, handle: u8) -> Result<Own, Stop>
+    ensures { IfOk result (λ o. o ≡ record own.now {
+      frame = locals.steps own.now.frame 0 [];
+      held = slice_set own.now.held handle held.Empty;
+    }) }
+{
+    let frame = stepped(&own.frame, 0)?;
+    let mut next = with_frame(alloc, own, frame)?;
+    set_held(&mut next.held, handle, Held::Empty);
+    Ok(next)
+}
 
 /// A state of a row, and what its steps depend on.
 #[derive(Drop)]
@@ -98,9 +111,7 @@ impl<'a> Around<'a> {
     fn forget(&self, alloc: Global, handle: u8) -> Result<(), Stop>
         ensures { OnOk result (led.LeadsOn self.now (instrs.Forget handle)) }
     {
-        let frame = stepped(&self.own.frame, 0)?;
-        let mut next = with_frame(alloc, self.own, frame)?;
-        set_held(&mut next.held, handle, Held::Empty);
+        let next = forgotten(alloc, self.own, handle)?;
         leads(self.states, next)?;
         Ok(())
     }
@@ -109,7 +120,7 @@ impl<'a> Around<'a> {
         ensures { OnOk result (led.LeadsOn self.now (instrs.Open slot joiner timed)) }
     {
         let next = opened(alloc, self.call, self.own, slot, joiner, timed)?;
-        leads(self.states, next)?;
+        leads_after(self.states, next, self.outside.per_birth())?;
         Ok(())
     }
 
@@ -127,6 +138,7 @@ impl<'a> Around<'a> {
         forks(
             alloc,
             self.program,
+            self.outside,
             self.table,
             self.states,
             self.own,

@@ -1,7 +1,7 @@
 -- Instructions that change no more than the frame of their task.
 use Rattle.std.proofs.Common.{◌≡◌, ℕ, ◌+◌, inl, List, [], ◌∷◌, ◌++◌, ◌⊎◌, inr, cond, ◌<◌}
 use Rattle.std.proofs.Common.{Bool, true, false, Option, Some, None, refl, sym, ◌∙◌, ap, subst, drop}
-use Rattle.std.proofs.Common.{set, not, ◌||◌, ◌&&◌}
+use Rattle.std.proofs.Common.{set, not, ◌||◌, ◌&&◌, arith}
 use Rattle.std.specs.Prelude.{slice_get, count_by, filter_map, unwrap_or, pos, is_some}
 use Rattle.sts_code.specs.Program.{Program}
 use Rattle.sts_code.specs.declared.instr.Instr.{Instr}
@@ -40,7 +40,7 @@ use Rattle.laws_calls.specs.Fitting.{Answers, heard_in, most, MayCount}
 use Rattle.laws_calls.specs.Held as held
 use Rattle.laws_calls.specs.Tasks.{AllTwo, at_place, HasWay, Part, Seen, Own, bare, births_in, held_at}
 use Rattle.laws_calls.specs.Tasks.{Knowledge, Unseen, ByJoiner, Heard, bindings, May, Asked, Late}
-use Rattle.laws_calls.specs.Steps.{Row, Table, Steps, IsTable, to, pushes, after_cancel, counted, summed, parts_with, split, told, after_expiry, expired_step, saw_failure, may_decide, may_be_late, is_heard}
+use Rattle.laws_calls.specs.Steps.{Row, Table, Steps, IsTable, born_by, to, pushes, after_cancel, counted, summed, parts_with, split, told, after_expiry, expired_step, saw_failure, may_decide, may_be_late, is_heard}
 use Rattle.laws_calls.specs.Steps.{local_step, read_step, bound_step, or_else_step, bind_step, unbind_step, forget_step}
 use Rattle.laws_calls.specs.Steps.{calm_step, interrupted_step, lent_step, lent_cancelled_step, going_step, cancelled_step, success_step, failure_step}
 use Rattle.laws_calls.specs.Steps.{missed_step, get_step, except_step, tally_step, total_step, only, kept, missed, with_part, with_seen}
@@ -48,8 +48,9 @@ use Rattle.laws_calls.specs.Covers.{PartFits, SeenFits, HeldFits, FrameFits, Tas
 use Rattle.laws_calls.specs.Covers.{FlagMayBe, IsCovered, Covers, alive_in}
 use Rattle.laws_calls.proofs.Lists.{all_set, Apart, kept_way, no, at_among}
 use Rattle.laws_calls.proofs.Turns.{Facts, FlagsHaveCause, apart_births, free_around, births_has}
-use Rattle.laws_calls.proofs.Moves.{Turned, covers_turned, turned_frame, turned_flag, fits_later, subs_same}
+use Rattle.laws_calls.proofs.Moves.{Turned, goes_by, covers_turned, turned_frame, turned_flag, fits_later, subs_same}
 use Rattle.laws_calls.proofs.Moves.{OwnScope, own_scope, OwnSub, own_sub, held_lent, held_slot, put_seen, put_part}
+use Rattle.laws_calls.proofs.Births.{step_left}
 use Rattle.laws_calls.proofs.Counts.{states_in, tally_states}
 use Rattle.laws_calls.proofs.Totals.{total_states, count_states}
 use Rattle.laws_calls.proofs.Early.{order_saw, order_put, order_missed}
@@ -116,17 +117,16 @@ split_self false b e = cc
 
 module _ (p : Program) (outside : Outside) (t : Table) (root : Row) (is : IsTable p outside t root) (w : World) (h : Facts w) where
   -- the task goes on with the frame g, and no scope changes
-  pub covers_alone : (c : Covers p outside t root w) (v : World) (u : ℕ) (i : Instr) (g : Frame) → Next w v → FlagsHaveCause outside w v → Turned w v u g → ((s : ℕ) → scope_at v s ≡ scope_at w s) → Does p w u i
+  pub covers_alone : (c : Covers p outside t root w) (v : World) (u : ℕ) (i : Instr) (g : Frame) → Next w v → FlagsHaveCause outside w v → Turned w v u g 0 → ((s : ℕ) → scope_at v s ≡ scope_at w s) → Does p w u i
       → (IsCovered outside w u → (own : Own) → TaskFits outside c.rows w u own → StepsTo p outside t c.rows w u own i g) → Covers p outside t root v
   covers_alone c v u i g n flags turned scopes d moves =
-      covers_turned p outside t root w v h n flags c u g turned d.alive
+      covers_turned p outside t root w v h n flags c u g 0 0 turned (λ wide. refl) d.alive
       (λ owed own k.
       let m = moves owed own k in
-      record {
-        own = m.next;
-        there = is.closed (c.rows u) own m.next i (c.listed u) k.there (instr_of p (task_at w u).frame own i k.fits.frame d.at) m.step (are_possible c.rows w h.right (births_in g.entries) m.next.scopes m.fits.scopes);
-        fits = fits_later w v h n c.rows g m.next scopes (λ s. subs_same w v s turned.count turned.scope) m.fits;
-      })
+      goes_by c.rows v u g own m.next 0 (born_by outside i) (omega arith) (step_left p outside (c.rows u).call own i m.next m.step)
+      (is.closed (c.rows u) own m.next i (c.listed u) k.there (instr_of p (task_at w u).frame own i k.fits.frame d.at) m.step)
+      (are_possible c.rows w h.right (births_in g.entries) m.next.scopes m.fits.scopes)
+      (fits_later w v h n c.rows g m.next scopes (λ s. subs_same w v s turned.count turned.scope) m.fits))
 
   -- ---- frames
 

@@ -37,7 +37,7 @@ use Rattle.laws_calls.specs.Covers.{subs, PartFits, ScopeFits, SeenFits, HeldFit
 use Rattle.laws_calls.specs.Covers.{Covers, alive_in}
 use Rattle.laws_calls.proofs.Lists.{all_map, all_mapped, all_tail, all_length, Apart, is_first, get_among, no}
 use Rattle.laws_calls.proofs.Turns.{Facts, FlagsHaveCause, seen_same, held_same, apart_births, listed_inside}
-use Rattle.laws_calls.proofs.Moves.{GoesOn, covers_turned, subs_same}
+use Rattle.laws_calls.proofs.Moves.{GoesOn, goes_by, covers_turned, subs_same}
 use Rattle.laws_calls.proofs.Phases.{Rescoped, rescoped_close, rescoped_frame}
 use Rattle.laws_calls.proofs.Frames.{blank_drop}
 use Rattle.laws_calls.proofs.Early.{order_same}
@@ -130,10 +130,11 @@ module _ (p : Program) (outside : Outside) (t : Table) (root : Row) (is : IsTabl
             (λ i part at e. record { may = e.may; whole = λ alive free. absurd (no free) }) k.parts;
       }))
 
-  waits_on : any_lives (cancel w s) s ≡ true → Next w waits → (rows : ℕ → Row) (own : Own) → TaskFits outside rows w u own → GoesOn rows waits u f
+  waits_on : any_lives (cancel w s) s ≡ true → Next w waits → (rows : ℕ → Row) (own : Own) → TaskFits outside rows w u own → GoesOn rows waits u f own 0
   waits_on some nx rows own k =
       record {
         own = own;
+        less = omega arith;
         there = k.there;
         fits = record {
           frame = k.fits.frame;
@@ -185,7 +186,7 @@ module _ (p : Program) (outside : Outside) (t : Table) (root : Row) (is : IsTabl
       (λ other. (r, (k.later (sym scope ∙ other), subst (λ us. slice_get us i ≡ Some c) (sym (same_subs r)) e.1.1)))
   clears m long a b e = absurd e
 
-  shuts : Next w shut → (c : Covers p outside t root w) (own : Own) → TaskFits outside c.rows w u own → GoesOn c.rows shut u g
+  shuts : Next w shut → (c : Covers p outside t root w) (own : Own) → TaskFits outside c.rows w u own → GoesOn c.rows shut u g own 0
   shuts nx c own k =
       let scopes : AllTwo (SeenFits c.rows w) (s ∷ rest) own.scopes = subst (λ bs. AllTwo (SeenFits c.rows w) bs own.scopes) opened k.fits.scopes in
       let tail : AllTwo (SeenFits c.rows w) rest (drop 1 own.scopes) = all_tail (SeenFits c.rows w) s rest own.scopes scopes in
@@ -195,16 +196,15 @@ module _ (p : Program) (outside : Outside) (t : Table) (root : Row) (is : IsTabl
       all_map (SeenFits c.rows w) (SeenFits c.rows shut) rest (drop 1 own.scopes)
       (λ r y at e. seen_same w shut h nx c.rows c.rows r y (shutting.others r (λ same. apart.0 (subst (λ i. Among rest i) same at))) (same_subs r) (λ i less. refl) e) tail
       in
-      record {
-        own = closed own;
-        there = is.closed (c.rows u) own (closed own) (Close x) (c.listed u) k.there (instr_of p f own (Close x) k.fits.frame d.at) close_step (are_possible c.rows shut nx.right rest (drop 1 own.scopes) scopes_after);
-        fits = record {
-          frame = ap (λ es. record (steps (bare f) 0 []) { entries = es }) (blank_drop f.entries) ∙ ap (λ (z : Frame). record (steps z 0 []) { entries = drop 1 z.entries }) k.fits.frame;
-          held = all_mapped (HeldFits w (s ∷ rest)) (HeldFits shut rest) (λ a. cond (is_of (cancel w s) s a) slots.Empty a) (clear m) f.slots own.held
-              (clears m (all_length (SeenFits c.rows w) rest (drop 1 own.scopes) tail)) slots_w;
-          scopes = scopes_after;
-        };
-      }
+      goes_by c.rows shut u g own (closed own) 0 0 (omega arith) refl
+      (is.closed (c.rows u) own (closed own) (Close x) (c.listed u) k.there (instr_of p f own (Close x) k.fits.frame d.at) close_step)
+      (are_possible c.rows shut nx.right rest (drop 1 own.scopes) scopes_after)
+      (record {
+        frame = ap (λ es. record (steps (bare f) 0 []) { entries = es }) (blank_drop f.entries) ∙ ap (λ (z : Frame). record (steps z 0 []) { entries = drop 1 z.entries }) k.fits.frame;
+        held = all_mapped (HeldFits w (s ∷ rest)) (HeldFits shut rest) (λ a. cond (is_of (cancel w s) s a) slots.Empty a) (clear m) f.slots own.held
+            (clears m (all_length (SeenFits c.rows w) rest (drop 1 own.scopes) tail)) slots_w;
+        scopes = scopes_after;
+      })
 
   -- ---- either
 
@@ -213,5 +213,5 @@ module _ (p : Program) (outside : Outside) (t : Table) (root : Row) (is : IsTabl
   close_covered c nx flags = by (any_lives (cancel w s) s) refl nx flags
     where
       by : (b : Bool) → any_lives (cancel w s) s ≡ b → Next w (cond b waits shut) → FlagsHaveCause outside w (cond b waits shut) → Covers p outside t root (cond b waits shut)
-      by true some n2 flags2 = covers_turned p outside t root w waits h n2 flags2 c u f waiting.turned d.alive (λ owed own k. waits_on some n2 c.rows own k)
-      by false none n2 flags2 = covers_turned p outside t root w shut h n2 flags2 c u g shutting.turned d.alive (λ owed own k. shuts n2 c own k)
+      by true some n2 flags2 = covers_turned p outside t root w waits h n2 flags2 c u f 0 0 waiting.turned (λ wide. refl) d.alive (λ owed own k. waits_on some n2 c.rows own k)
+      by false none n2 flags2 = covers_turned p outside t root w shut h n2 flags2 c u g 0 0 shutting.turned (λ wide. refl) d.alive (λ owed own k. shuts n2 c own k)

@@ -1,6 +1,6 @@
 -- What a table covers, over runs.
-use Rattle.std.proofs.Common.{◌≡◌, ℕ, ◌<◌, ◌⊎◌, inl, inr, List, [], ◌∷◌, ◌++◌, true, false, Some, None, refl}
-use Rattle.std.proofs.Common.{◌∙◌, sym, ap, subst, length, zero, suc, append-nil, append_assoc, arith, cond}
+use Rattle.std.proofs.Common.{◌≡◌, ℕ, ◌+◌, ◌<◌, ◌≤◌, ◌⊎◌, inl, inr, List, [], ◌∷◌, ◌++◌, true, false, Some, None, refl}
+use Rattle.std.proofs.Common.{sym, ap, subst, length, zero, suc, append-nil, append_assoc, arith, cond}
 use Rattle.std.specs.List.{list_any}
 use Rattle.std.proofs.lemmas.List.Sums.{sum_by-cons}
 use Rattle.sts_code.specs.Program.{Program}
@@ -29,10 +29,10 @@ use Rattle.laws_runs.proofs.SlotLemmas.{slots_stand}
 use Rattle.laws_runs.proofs.TallyLemmas.{tallies_are_counts}
 use Rattle.laws_calls.specs.Outside.{Outside, may_flag}
 use Rattle.laws_calls.specs.Held as held
-use Rattle.laws_calls.specs.Tasks.{Call, HasWay, Own, begin}
+use Rattle.laws_calls.specs.Tasks.{Call, HasWay, begin}
 use Rattle.laws_calls.specs.Steps.{Row, Table, IsTable, root_call}
-use Rattle.laws_calls.specs.Covers.{Covers, TaskFits, AreWithin, is_interrupt}
-use Rattle.laws_calls.specs.Covered.{EventsAreCovered, RunsAreCovered, EndsAreWays, AllFit, TasksAreCovered}
+use Rattle.laws_calls.specs.Covers.{Covers, HasState, AreWithin, is_interrupt}
+use Rattle.laws_calls.specs.Covered.{EventsAreCovered, RunsAreCovered, EndsAreWays, AllFit, TasksAreCovered, BirthsAreBounded}
 use Rattle.laws_calls.proofs.Turns.{Facts, FlagsHaveCause, any_flag, some_flag}
 use Rattle.laws_calls.proofs.Alone.{give}
 use Rattle.laws_calls.proofs.Opens.{open_covered}
@@ -113,20 +113,26 @@ module _ (p : Program) (outside : Outside) (t : Table) (root : Row) (is : IsTabl
         rows = λ u. root;
         listed = λ u. is.listed;
         first = refl;
+        left = λ u. root.births;
+        births = λ wide. few;
         timely = λ s late. cc;
         tasks = λ u alive owed. begun u alive;
         ended = λ e ended. cc;
       }
     where
-      begun : (u : ℕ) → lives (task_at (record { tasks = main p ∷ []; scopes = [] }) u) ≡ true → (own : Own) × TaskFits outside (λ k. root) (record { tasks = main p ∷ []; scopes = [] }) u own
+      few : 1 + 0 + (0 + root.births) ≤ 1 + root.births
+      few = omega arith
+
+      begun : (u : ℕ) → lives (task_at (record { tasks = main p ∷ []; scopes = [] }) u) ≡ true → HasState outside (λ k. root) (λ k. root.births) (record { tasks = main p ∷ []; scopes = [] }) u
       begun zero alive = (
-        begin held.Empty (root_call p),
+        begin held.Empty (root_call p) root.births,
         record {
           there = is.begins;
           fits = record { frame = refl; held = (tt, empties (record { tasks = main p ∷ []; scopes = [] }) [] 15); scopes = tt };
           flag = λ set. cc;
           environment = ap (λ (c : Call). c.environment) (sym is.call);
         },
+        omega arith,
       )
       begun (suc u) alive = cc
 
@@ -172,5 +178,12 @@ pub tasks_are_covered : TasksAreCovered
 tasks_are_covered p outside t root is wide events = by (after p events) (runs_are_covered p outside t root is events (inl wide))
   where
     by : (state : State) → In (Covers p outside t root) state → In (AllFit outside t) state
-    by (Running w) c = record { rows = c.rows; listed = c.listed; tasks = λ u alive. c.tasks u alive (inl wide) }
+    by (Running w) c = record { rows = c.rows; listed = c.listed; tasks = λ u alive. (let state : HasState outside c.rows c.left w u = c.tasks u alive (inl wide) in (state.0, state.1)) }
+    by (Faulted kind u f pc) c = tt
+
+pub births_are_bounded : BirthsAreBounded
+births_are_bounded p outside t root is wide events = by (after p events) (runs_are_covered p outside t root is events (inl wide))
+  where
+    by : (state : State) → In (Covers p outside t root) state → In (λ w. length w.tasks + length w.scopes ≤ 1 + root.births) state
+    by (Running w) c = (let all = c.births wide in omega (arith, all))
     by (Faulted kind u f pc) c = tt

@@ -29,10 +29,11 @@ use Rattle.laws_runs.proofs.CompletionLemmas.{completion-front, completion-new, 
 use Rattle.laws_runs.proofs.EventLemmas.{Next}
 use Rattle.laws_runs.proofs.BirthLemmas.{born_alive}
 use Rattle.laws_calls.specs.Outside.{Outside}
-use Rattle.laws_calls.specs.Tasks.{HasWay, May, Part, Seen, Own, Knowledge, Unseen, ByJoiner, Heard, bare, nothing, Late}
+use Rattle.laws_calls.specs.Tasks.{HasWay, May, Part, Seen, Knowledge, Unseen, ByJoiner, Heard, bare, nothing, Late}
 use Rattle.laws_calls.specs.Steps.{Row, Table, IsTable, end_by}
-use Rattle.laws_calls.specs.Covers.{subs, PartFits, ScopeFits, SeenFits, TaskFits, IsRight}
-use Rattle.laws_calls.specs.Covers.{IsTimely, IsCovered, Watched, watched_root, watched_sub, Covers, alive_in}
+use Rattle.laws_calls.specs.Covers.{subs, PartFits, ScopeFits, SeenFits, IsRight}
+use Rattle.laws_calls.specs.Covers.{IsTimely, IsCovered, Watched, watched_root, watched_sub, Covers, HasState, alive_in}
+use Rattle.laws_calls.proofs.Births.{same_births}
 use Rattle.laws_calls.proofs.Lists.{all_map, no}
 use Rattle.laws_calls.proofs.Turns.{Facts, FlagsHaveCause, alive_later, covered_before, seen_same, task_same, sub_born}
 use Rattle.laws_calls.proofs.Moves.{subs_same}
@@ -55,6 +56,7 @@ pub record IsTold (w v : World) (u : ℕ) (end : End) (s : ℕ) : Type 0 where
 -- the task u has ended, and no other scope than its own was changed
 pub record Ended (w v : World) (u : ℕ) (end : End) : Type 0 where
   pub count : length v.tasks ≡ length w.tasks
+  pub opened : length v.scopes ≡ length w.scopes
   pub here : (task_at v u).outcome ≡ Some end
   pub outcome : (k : ℕ) → (k ≡ u → ⊥) → (task_at v k).outcome ≡ (task_at w k).outcome
   pub frame : (k : ℕ) → (k ≡ u → ⊥) → (task_at v k).frame ≡ (task_at w k).frame
@@ -77,6 +79,7 @@ module _ (w : World) (u : ℕ) (end : End) (born : u < length w.tasks) where
   untold =
       record {
         count = length-set w.tasks u x;
+        opened = refl;
         here = ap (λ (y : Task). y.outcome) (get_or-set_same w.tasks u x no_task born);
         outcome = λ k other. ap (λ (y : Task). y.outcome) (get_or-set_other w.tasks u k x no_task other);
         frame = λ k other. ap (λ (y : Task). y.frame) (get_or-set_other w.tasks u k x no_task other);
@@ -143,6 +146,7 @@ module _ (w : World) (u : ℕ) (end : End) (born : u < length w.tasks) where
     telling =
         record {
           count = still.kept.tasks ∙ untold.count;
+          opened = still.kept.scopes ∙ length-set w.scopes s y;
           here = still.outcome u ∙ untold.here;
           outcome = λ k other. still.outcome k ∙ untold.outcome k other;
           frame = λ k other. same_frame k ∙ untold.frame k other;
@@ -257,21 +261,22 @@ module _ (p : Program) (outside : Outside) (t : Table) (root : Row) (is : IsTabl
     -- the end of a task that is covered is a way of its row
     way : IsCovered outside w u → HasWay (c.rows u).ways end
     way owed =
-        let old : (own : Own) × TaskFits outside c.rows w u own = c.tasks u alive owed in
+        let old : HasState outside c.rows c.left w u = c.tasks u alive owed in
         is.ends (c.rows u) old.0 i end (c.listed u) old.1.there (instr_of p (task_at w u).frame old.0 i old.1.fits.frame d.at)
         (subst (λ (z : Frame). end_by i z ≡ Some end) old.1.fits.frame is_end)
 
-    other_covered : (k : ℕ) → lives (task_at v k) ≡ true → IsCovered outside v k → (k ≡ u → ⊥) → (own : Own) × TaskFits outside c.rows v k own
+    other_covered : (k : ℕ) → lives (task_at v k) ≡ true → IsCovered outside v k → (k ≡ u → ⊥) → HasState outside c.rows c.left v k
     other_covered k lives_k owed other =
         let born : k < length w.tasks = (let b = born_alive v k lives_k in let m = o.count in omega (arith, b, m)) in
         let before : lives (task_at w k) ≡ true = alive_later (task_at w k) (task_at v k) (n.later.task k born) lives_k in
         let seen : IsCovered outside w k = covered_before w v h n outside k born owed in
-        let old : (own : Own) × TaskFits outside c.rows w k own = c.tasks k before seen in (
+        let old : HasState outside c.rows c.left w k = c.tasks k before seen in (
           old.0,
           task_same w v h n outside flags c.rows c.rows k old.0 before owed (o.frame k other) (λ j less. refl)
               (λ s y less owner e. keeps s y less owner seen e (o.scopes s))
               (λ s j z less owner e. subst (λ us. slice_get us j ≡ Some z) (sym (same_subs s)) e)
               old.1,
+          old.2,
         )
       where
         inside_covered : (s : ℕ) → (scope_at w s).owner ≡ k → IsTold w v u end s → IsCovered outside w k → IsCovered outside w u
@@ -282,7 +287,7 @@ module _ (p : Program) (outside : Outside) (t : Table) (root : Row) (is : IsTabl
         keeps s y less owner seen e (inl same) = seen_same w v h n c.rows c.rows s y same (same_subs s) (λ j less2. refl) e
         keeps s y less owner seen e (inr told) = seen_told c.rows (way (inside_covered s owner told seen)) s y less told e
 
-    covered : (k : ℕ) → lives (task_at v k) ≡ true → IsCovered outside v k → (own : Own) × TaskFits outside c.rows v k own
+    covered : (k : ℕ) → lives (task_at v k) ≡ true → IsCovered outside v k → HasState outside c.rows c.left v k
     covered k lives_k owed = other_covered k lives_k owed (λ same. no (sym lives_k ∙ subst (λ j. lives (task_at v j) ≡ false) (sym same) (ended_is_dead (task_at v u) end o.here)))
 
     root_ended : (e : End) → (task_at v 0).outcome ≡ Some e → (b : Bool) → nat_eq 0 u ≡ b → HasWay root.ways e
@@ -300,6 +305,8 @@ module _ (p : Program) (outside : Outside) (t : Table) (root : Row) (is : IsTabl
           rows = c.rows;
           listed = c.listed;
           first = c.first;
+          left = c.left;
+          births = λ wide. same_births c.left root w v o.count o.opened (c.births wide);
           timely = λ s. o.timely s (c.timely s);
           tasks = covered;
           ended = λ e is2. root_ended e is2 (nat_eq 0 u) refl;

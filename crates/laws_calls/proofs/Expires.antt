@@ -19,9 +19,10 @@ use Rattle.laws_runs.proofs.StillLemmas.{Still}
 use Rattle.laws_runs.proofs.EventLemmas.{Next}
 use Rattle.laws_runs.proofs.BirthLemmas.{born_alive}
 use Rattle.laws_calls.specs.Outside.{Outside}
-use Rattle.laws_calls.specs.Tasks.{Seen, Own, Knowledge, Unseen, ByJoiner, Late, Heard}
+use Rattle.laws_calls.specs.Tasks.{Seen, Knowledge, Unseen, ByJoiner, Late, Heard}
 use Rattle.laws_calls.specs.Steps.{Row, Table}
-use Rattle.laws_calls.specs.Covers.{subs, PartFits, ScopeFits, SeenFits, TaskFits, IsRight, IsTimely, IsCovered, Covers, alive_in}
+use Rattle.laws_calls.specs.Covers.{subs, PartFits, ScopeFits, SeenFits, IsRight, IsTimely, IsCovered, Covers, HasState, alive_in}
+use Rattle.laws_calls.proofs.Births.{same_births}
 use Rattle.laws_calls.proofs.Lists.{all_map, no}
 use Rattle.laws_calls.proofs.Possible.{joined_on}
 use Rattle.laws_calls.proofs.Turns.{Facts, FlagsHaveCause, alive_later, covered_before, seen_same, task_same}
@@ -98,6 +99,8 @@ module _ (p : Program) (outside : Outside) (t : Table) (root : Row) (w : World) 
           rows = c.rows;
           listed = c.listed;
           first = c.first;
+          left = c.left;
+          births = λ wide. same_births c.left root w v still.kept.tasks still.kept.scopes (c.births wide);
           timely = λ r. timely r (nat_eq r s) refl;
           tasks = covered;
           ended = λ e is. c.ended e (sym (still.outcome 0) ∙ is);
@@ -111,18 +114,19 @@ module _ (p : Program) (outside : Outside) (t : Table) (root : Row) (w : World) 
         keeps r z k true e = let same : r ≡ s = grind (arith, nat_tests) in subst (λ i. SeenFits c.rows v i z) (sym same) (seen_expired c.rows z (subst (λ i. SeenFits c.rows w i z) same k))
         keeps r z k false e = let other : r ≡ s → ⊥ = grind (arith, nat_tests) in seen_same w v h n c.rows c.rows r z (others r other) (same_subs r) (λ i less. refl) k
 
-        covered : (k : ℕ) → lives (task_at v k) ≡ true → IsCovered outside v k → (own : Own) × TaskFits outside c.rows v k own
+        covered : (k : ℕ) → lives (task_at v k) ≡ true → IsCovered outside v k → HasState outside c.rows c.left v k
         covered k alive owed =
             let less = born_alive v k alive in
             let count = still.kept.tasks in
             let born_k : k < length w.tasks = omega (arith, less, count) in
             let before : lives (task_at w k) ≡ true = alive_later (task_at w k) (task_at v k) (n.later.task k born_k) alive in
-            let old : (own : Own) × TaskFits outside c.rows w k own = c.tasks k before (covered_before w v h n outside k born_k owed) in (
+            let old : HasState outside c.rows c.left w k = c.tasks k before (covered_before w v h n outside k born_k owed) in (
               old.0,
               task_same w v h n outside flags c.rows c.rows k old.0 before owed (frame-cancel w1 s k) (λ i less2. refl)
                   (λ r z less2 owner f. keeps r z f (nat_eq r s) refl)
                   (λ r i z less2 owner e. subst (λ us. slice_get us i ≡ Some z) (sym (same_subs r)) e)
                   old.1,
+              old.2,
             )
 
 pub expiry_covered : (p : Program) (outside : Outside) (t : Table) (root : Row) (w : World) → Facts w → (s : ℕ) → Covers p outside t root w → Next w (expire w s) → FlagsHaveCause outside w (expire w s) → Covers p outside t root (expire w s)

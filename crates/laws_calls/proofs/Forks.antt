@@ -1,5 +1,5 @@
 -- A subtask is forked.
-use Rattle.std.proofs.Common.{◌≡◌, ℕ, zero, suc, ◌<◌, ◌⊎◌, inl, inr, List, [], ◌∷◌, ◌++◌}
+use Rattle.std.proofs.Common.{◌≡◌, ℕ, zero, suc, ◌+◌, ◌<◌, ◌≤◌, ◌⊎◌, inl, inr, List, [], ◌∷◌, ◌++◌}
 use Rattle.std.proofs.Common.{Bool, true, false, Option, Some, None, refl, sym, ◌∙◌, ap, subst, length}
 use Rattle.std.proofs.Common.{arith, get_or, set, cond, nat_eq, length-set, length-append, get_or-set_same, get_or-set_other, not, ◌&&◌}
 use Rattle.std.proofs.Common.{replicate, take, append-nil}
@@ -31,17 +31,18 @@ use Rattle.laws_runs.proofs.EffectLemmas.{first_no}
 use Rattle.laws_runs.proofs.EventLemmas.{Right, Next}
 use Rattle.laws_runs.proofs.FrameLemmas.{own_slot, at_own-is}
 use Rattle.laws_runs.proofs.BirthLemmas.{born_alive}
-use Rattle.laws_calls.specs.Outside.{Outside}
+use Rattle.laws_calls.specs.Outside.{Outside, per_birth}
 use Rattle.laws_calls.specs.Held as held
 use Rattle.laws_calls.specs.Tasks.{Among, AllTwo, Call, HasWay, Part, May, Seen, Own, bare, begin, births_in, Way, Knowledge, Unseen, ByJoiner, Heard, nothing, Late}
-use Rattle.laws_calls.specs.Steps.{Row, Table, IsTable, IsRowOf, Leads, Forks, call_of, with_handle, forked, is_cancelled, unstarted_step, new_part}
+use Rattle.laws_calls.specs.Steps.{Row, Table, IsTable, IsRowOf, LeadsBy, Forks, call_of, with_handle, forked, is_cancelled, unstarted_step, new_part}
 use Rattle.laws_calls.specs.Covers.{subs, PartFits, ScopeFits, SeenFits, HeldFits, FrameFits, TaskFits}
-use Rattle.laws_calls.specs.Covers.{IsCovered, Covers, alive_in, IsRight, IsTimely}
+use Rattle.laws_calls.specs.Covers.{IsCovered, Covers, HasState, alive_in, IsRight, IsTimely, sum_to}
 use Rattle.laws_calls.proofs.Lists.{all_map, all_set, all_length, all_append, all_put_place, Apart, filter_agree, range_last}
 use Rattle.laws_calls.proofs.Lists.{range_among, get_front, get_last, no}
 use Rattle.laws_calls.proofs.Turns.{Facts, FlagsHaveCause, alive_later, covered_before, flag_stays, environment_stays}
 use Rattle.laws_calls.proofs.Turns.{part_same, seen_same, held_same, task_same, apart_births, sub_born, owner_covered, covered_or_not}
-use Rattle.laws_calls.proofs.Moves.{OwnScope, own_scope}
+use Rattle.laws_calls.proofs.Births.{cut, cut_here, cut_other, sum_cut, sum_agrees}
+use Rattle.laws_calls.proofs.Moves.{GoesOn, goes_by, OwnScope, own_scope}
 use Rattle.laws_calls.proofs.Early.{order_more}
 use Rattle.laws_calls.proofs.Possible.{are_possible}
 use Rattle.laws_calls.proofs.Alone.{instr_of}
@@ -64,15 +65,18 @@ unborn w s o = by (completion_of (scope_at w s).completions (length w.tasks)) re
         cc
 
 -- what is known of a forker that is covered
-record Forker (p : Program) (outside : Outside) (t : Table) (w : World) (u x g : ℕ) (q : Option ℕ) (rows : ℕ → Row) (row : Row) : Type 0 where
+record Forker (p : Program) (outside : Outside) (t : Table) (w : World) (u x g : ℕ) (q : Option ℕ) (rows : ℕ → Row) (row : Row) (births most : ℕ) : Type 0 where
   pub own : Own
   pub old : TaskFits outside rows w u own
+  pub few : own.left ≤ most
   pub scope : OwnScope rows w (task_at w u).frame own x (named (slot (task_at w u).frame x))
   pub ways : List Way
-  pub leads : Leads (rows u).states (forked p own scope.place scope.seen ways g q)
+  pub leads : LeadsBy (per_birth outside + births) (rows u).states (forked p own scope.place scope.seen ways g q)
   pub unasked : scope.seen.asked ≡ nothing
-  -- if the new task runs, the row is that of its call, and each way of it is one of the new part
+  -- If the new task runs, the row is that of its call, and at least the births of the row are left to
+  -- it. Each way of the row is one of the new part.
   pub is_row : (scope_at w (named (slot (task_at w u).frame x))).cancelled ≡ false → IsRowOf t row (call_of p own scope.seen g)
+  pub enough : (scope_at w (named (slot (task_at w u).frame x))).cancelled ≡ false → row.births ≤ births
   pub told : (scope_at w (named (slot (task_at w u).frame x))).cancelled ≡ false → (e : End) → HasWay row.ways e → HasWay ways e
 
 module _ (p : Program) (w : World) (h : Facts w) (u x g : ℕ) (q : Option ℕ) where
@@ -164,18 +168,18 @@ module _ (p : Program) (w : World) (h : Facts w) (u x g : ℕ) (q : Option ℕ) 
 
   -- ---- the new task and the forker
 
-  module _ (nx : Next w after) (born : u < n) (alive : lives (task_at w u) ≡ true) (outside : Outside) (t : Table) (rows later : ℕ → Row) (row : Row) (agree : (k : ℕ) → k < n → later k ≡ rows k) (new : later n ≡ row) (k : Forker p outside t w u x g q rows row) where
+  module _ (nx : Next w after) (born : u < n) (alive : lives (task_at w u) ≡ true) (outside : Outside) (t : Table) (rows later : ℕ → Row) (row : Row) (births most : ℕ) (agree : (k : ℕ) → k < n → later k ≡ rows k) (new : later n ≡ row) (k : Forker p outside t w u x g q rows row births most) where
     abbrev opened : List ℕ
     opened = births_in f.entries
 
     abbrev call : Call
     call = call_of p k.own k.scope.seen g
 
-    child_fits : (scope_at w s).cancelled ≡ false → TaskFits outside later after n (begin held.Lent call)
+    child_fits : (scope_at w s).cancelled ≡ false → TaskFits outside later after n (begin held.Lent call row.births)
     child_fits free =
         record {
-          there = subst (λ (r : Row). Among r.states (begin held.Lent call)) (sym new) (k.is_row free).begins;
-          fits = subst (λ (y : Task). FrameFits later after y.frame (begin held.Lent call)) (sym (task_new born)) (record {
+          there = subst (λ (r : Row). Among r.states (begin held.Lent call row.births)) (sym new) (k.is_row free).begins;
+          fits = subst (λ (y : Task). FrameFits later after y.frame (begin held.Lent call row.births)) (sym (task_new born)) (record {
             frame = ap (λ (z : Frame). bare (entry_frame g (reverse (take args z.operands)) slots.Empty)) k.old.fits.frame;
             held = (tt, empties after [] 15);
             scopes = tt;
@@ -267,6 +271,10 @@ starts : (cancelled : Bool) → (not cancelled && true) ≡ true → cancelled �
 starts false e = refl
 starts true e = cc
 
+-- nothing is left to a subtask that never starts
+no_more : (born : ℕ) (states : List Own) (next : Own) → LeadsBy born states next → LeadsBy (born + 0) states next
+no_more born states next leads possible = let r = leads possible in let less = r.1 in (r.0, omega (arith, less), r.2)
+
 -- ---- a row for the new task
 
 abbrev with_row : (ℕ → Row) → ℕ → Row → ℕ → Row
@@ -285,11 +293,12 @@ row_listed t rows n row old new k = by (k == n)
     by true = new
     by false = old k
 
--- the row, and what it is if the forker is covered
-record Chosen (p : Program) (outside : Outside) (t : Table) (w : World) (u x g : ℕ) (q : Option ℕ) (rows : ℕ → Row) : Type 0 where
+-- the row, how many births are left to the new task, and what is known if the forker is covered
+record Chosen (p : Program) (outside : Outside) (t : Table) (w : World) (u x g : ℕ) (q : Option ℕ) (rows : ℕ → Row) (most : ℕ) : Type 0 where
   pub row : Row
+  pub births : ℕ
   pub listed : Among t row
-  pub forker : IsCovered outside w u → Forker p outside t w u x g q rows row
+  pub forker : IsCovered outside w u → Forker p outside t w u x g q rows row births most
 
 module _ (p : Program) (outside : Outside) (t : Table) (root : Row) (is : IsTable p outside t root) (w : World) (h : Facts w) (u x g : ℕ) (q : Option ℕ) (d : Does p w u (Fork x g q)) where
   mine : slot (f p w h u x g q) x ≡ slots.Own (s p w h u x g q)
@@ -303,41 +312,46 @@ module _ (p : Program) (outside : Outside) (t : Table) (root : Row) (is : IsTabl
   unasked rows own o = not_asked (scope_at w (s p w h u x g q)).phase o.seen.phase legal o.fits.phase o.fits.asked
 
   -- whether the owner has seen that the scope is cancelled
-  by_knowledge : (c : Covers p outside t root w) → IsCovered outside w u → (own : Own) → TaskFits outside c.rows w u own → (o : OwnScope c.rows w (task_at w u).frame own x (s p w h u x g q)) → (b : Bool) → is_cancelled o.seen.knowledge ≡ b → Chosen p outside t w u x g q c.rows
-  by_knowledge c owed own k o false e =
-      let r : Forks p t (c.rows u).states own x g q o.place o.seen =
+  by_knowledge : (c : Covers p outside t root w) → IsCovered outside w u → (own : Own) → TaskFits outside c.rows w u own → own.left ≤ c.left u → (o : OwnScope c.rows w (task_at w u).frame own x (s p w h u x g q)) → (b : Bool) → is_cancelled o.seen.knowledge ≡ b → Chosen p outside t w u x g q c.rows (c.left u)
+  by_knowledge c owed own k few o false e =
+      let r : Forks p outside t (c.rows u).states own x g q o.place o.seen =
       is.forks (c.rows u) own x g o.place q o.seen (c.listed u) k.there (instr_of p (task_at w u).frame own (Fork x g q) k.fits.frame d.at) o.owns e
       in
       record {
         row = r.row;
+        births = r.row.births;
         listed = r.is_row.there;
-        forker = λ seen. record { own = own; old = k; scope = o; ways = r.row.ways; leads = r.leads; unasked = unasked c.rows own o; is_row = λ free. r.is_row; told = λ free end way. way };
+        forker = λ seen. record { own = own; old = k; few = few; scope = o; ways = r.row.ways; leads = r.leads; unasked = unasked c.rows own o; is_row = λ free. r.is_row; enough = λ free. omega arith; told = λ free end way. way };
       }
-  by_knowledge c owed own k o true e =
+  by_knowledge c owed own k few o true e =
       let gone : (scope_at w (s p w h u x g q)).cancelled ≡ true = known_gone o.seen.knowledge (scope_at w (s p w h u x g q)) e o.fits.known in
       record {
         row = root;
+        births = 0;
         listed = is.listed;
         forker = λ seen. record {
           own = own;
           old = k;
+          few = few;
           scope = o;
           ways = [];
-          leads = is.closed (c.rows u) own (forked p own o.place o.seen [] g q) (Fork x g q) (c.listed u) k.there (instr_of p (task_at w u).frame own (Fork x g q) k.fits.frame d.at) (unstarted_step o.place o.seen o.owns e);
+          leads = no_more (per_birth outside) (c.rows u).states (forked p own o.place o.seen [] g q)
+              (is.closed (c.rows u) own (forked p own o.place o.seen [] g q) (Fork x g q) (c.listed u) k.there (instr_of p (task_at w u).frame own (Fork x g q) k.fits.frame d.at) (unstarted_step o.place o.seen o.owns e));
           unasked = unasked c.rows own o;
           is_row = λ free. absurd (no (sym gone ∙ free));
+          enough = λ free. absurd (no (sym gone ∙ free));
           told = λ free. absurd (no (sym gone ∙ free));
         };
       }
 
-  choose : (c : Covers p outside t root w) → IsCovered outside w u ⊎ (IsCovered outside w u → ⊥) → Chosen p outside t w u x g q c.rows
+  choose : (c : Covers p outside t root w) → IsCovered outside w u ⊎ (IsCovered outside w u → ⊥) → Chosen p outside t w u x g q c.rows (c.left u)
   choose c (inl owed) =
-      let old : (own : Own) × TaskFits outside c.rows w u own = c.tasks u d.alive owed in
+      let old : HasState outside c.rows c.left w u = c.tasks u d.alive owed in
       let o : OwnScope c.rows w (task_at w u).frame old.0 x (s p w h u x g q) = own_scope c.rows w (task_at w u).frame old.0 x (s p w h u x g q) old.1.fits mine in
-      by_knowledge c owed old.0 old.1 o (is_cancelled o.seen.knowledge) refl
-  choose c (inr never) = record { row = root; listed = is.listed; forker = λ owed. absurd (never owed) }
+      by_knowledge c owed old.0 old.1 old.2 o (is_cancelled o.seen.knowledge) refl
+  choose c (inr never) = record { row = root; births = 0; listed = is.listed; forker = λ owed. absurd (never owed) }
 
-  module _ (c : Covers p outside t root w) (nx : Next w (after p w h u x g q)) (flags : FlagsHaveCause outside w (after p w h u x g q)) (o : Chosen p outside t w u x g q c.rows) where
+  module _ (c : Covers p outside t root w) (nx : Next w (after p w h u x g q)) (flags : FlagsHaveCause outside w (after p w h u x g q)) (o : Chosen p outside t w u x g q c.rows (c.left u)) where
     abbrev v : World
     v = after p w h u x g q
 
@@ -350,29 +364,70 @@ module _ (p : Program) (outside : Outside) (t : Table) (root : Row) (is : IsTabl
     born : u < m
     born = born_alive w u d.alive
 
+    -- what the fork takes of the births that are left to the forker
+    abbrev cost : ℕ
+    cost = per_birth outside + o.births
+
+    abbrev left : ℕ → ℕ
+    left k = cond (k == m) o.births (cut c.left u cost k)
+
+    left_old : (k : ℕ) → k < m → left k ≡ cut c.left u cost k
+    left_old k less = let other : (k == m) ≡ false = grind (arith, nat_tests) in ap (λ b. cond b o.births (cut c.left u cost k)) other
+
+    left_new : left m ≡ o.births
+    left_new = let same : (m == m) ≡ true = grind (arith, nat_tests) in ap (λ b. cond b o.births (cut c.left u cost m)) same
+
     agree : (k : ℕ) → k < m → later k ≡ c.rows k
     agree k less = row_old c.rows m o.row k less
 
     owner : (scope_at w (s p w h u x g q)).owner ≡ u
     owner = (h.right.sound.own u x (s p w h u x g q) mine).owner
 
-    forker_covered : IsCovered outside v u → (own : Own) × TaskFits outside later v u own
-    forker_covered owed =
-        let k = o.forker (covered_before w v h nx outside u born owed) in
+    -- where the forker goes on
+    forker_led : Forker p outside t w u x g q c.rows o.row o.births (c.left u) → (old : Own) × GoesOn later v u (next p w h u x g q) old cost × (old.left ≤ c.left u) × TaskFits outside c.rows w u old
+    forker_led k =
         let next_own : Own = forked p k.own k.scope.place k.scope.seen k.ways g q in
-        let fits : FrameFits later v (next p w h u x g q) next_own = forker_fits p w h u x g q nx born d.alive outside t c.rows later o.row agree (row_new c.rows m o.row) k in
-        let there : Among (c.rows u).states next_own = k.leads (are_possible later v nx.right (births_in (task_at w u).frame.entries) next_own.scopes fits.scopes)
-        in (
-          next_own,
-          record {
-            there = subst (λ (r : Row). Among r.states next_own) (sym (agree u born)) there;
-            fits = subst (λ (y : Task). FrameFits later v y.frame next_own) (sym (task_forker p w h u x g q born)) fits;
-            flag = flag_stays w v h nx outside flags u born owed k.old.flag;
-            environment = environment_stays w v h nx u born ∙ k.old.environment ∙ ap (λ (r : Row). r.call.environment) (sym (agree u born));
-          },
+        let fits : FrameFits later v (next p w h u x g q) next_own = forker_fits p w h u x g q nx born d.alive outside t c.rows later o.row o.births (c.left u) agree (row_new c.rows m o.row) k in (
+          k.own,
+          goes_by later v u (next p w h u x g q) k.own next_own cost cost (omega arith) refl
+              (subst (λ (r : Row). LeadsBy cost r.states next_own) (sym (agree u born)) k.leads)
+              (are_possible later v nx.right (births_in (task_at w u).frame.entries) next_own.scopes fits.scopes) fits,
+          k.few,
+          k.old,
         )
 
-    child_covered : lives (task_at v m) ≡ true → IsCovered outside v m → (own : Own) × TaskFits outside later v m own
+    forker_covered : IsCovered outside v u → HasState outside later left v u
+    forker_covered owed =
+        let k = forker_led (o.forker (covered_before w v h nx outside u born owed)) in
+        let less = k.1.less in
+        let most = k.2 in
+        let here = left_old u born ∙ cut_here c.left u cost in (
+          k.1.own,
+          record {
+            there = k.1.there;
+            fits = subst (λ (y : Task). FrameFits later v y.frame k.1.own) (sym (task_forker p w h u x g q born)) k.1.fits;
+            flag = flag_stays w v h nx outside flags u born owed k.3.flag;
+            environment = environment_stays w v h nx u born ∙ k.3.environment ∙ ap (λ (r : Row). r.call.environment) (sym (agree u born));
+          },
+          omega (arith, less, most, here),
+        )
+
+    fewer : outside.cancels ≡ true → length v.tasks + length v.scopes + sum_to left (length v.tasks) ≤ 1 + root.births
+    fewer wide =
+        let k = forker_led (o.forker (inl wide)) in
+        let less = k.1.less in
+        let most = k.2 in
+        let before = c.births wide in
+        let n1 = count p w h u x g q in
+        let opened : length v.scopes ≡ length w.scopes = ap (λ (xs : List Scope). length xs) (scopes_after p w h u x g q) in
+        let all : sum_to left (length v.tasks) ≡ sum_to left m + left m = ap (sum_to left) n1 in
+        let cuts = sum_cut c.left u cost m born (omega (arith, less, most)) in
+        let same = sum_agrees left (cut c.left u cost) m left_old in
+        let last = left_new in
+        let one : per_birth outside ≡ 1 = ap (λ b. cond b 1 0) wide in
+        omega (arith, before, n1, opened, all, cuts, same, last, one)
+
+    child_covered : lives (task_at v m) ≡ true → IsCovered outside v m → HasState outside later left v m
     child_covered alive owed =
         let inside : (task_at v m).scope ≡ Some (s p w h u x g q) = ap (λ (y : Task). y.scope) (task_new p w h u x g q born) in
         let by_owner = owner_covered outside v nx.right m (s p w h u x g q) inside owed in
@@ -380,30 +435,35 @@ module _ (p : Program) (outside : Outside) (t : Table) (root : Row) (is : IsTabl
         let before : IsCovered outside w u = covered_before w v h nx outside u born (subst (λ k. IsCovered outside v k) same by_owner) in
         let k = o.forker before in
         let free : (scope_at w (s p w h u x g q)).cancelled ≡ false = starts (scope_at w (s p w h u x g q)).cancelled (subst (λ (y : Task). lives y ≡ true) (task_new p w h u x g q born) alive) in
-        (begin held.Lent (call_of p k.own k.scope.seen g), child_fits p w h u x g q nx born d.alive outside t c.rows later o.row agree (row_new c.rows m o.row) k free)
+        let few = k.enough free in
+        let last = left_new in
+        (begin held.Lent (call_of p k.own k.scope.seen g) o.row.births, child_fits p w h u x g q nx born d.alive outside t c.rows later o.row o.births (c.left u) agree (row_new c.rows m o.row) k free, omega (arith, few, last))
 
-    other_covered : (k : ℕ) → k < m → (k ≡ u → ⊥) → lives (task_at v k) ≡ true → IsCovered outside v k → (own : Own) × TaskFits outside later v k own
+    other_covered : (k : ℕ) → k < m → (k ≡ u → ⊥) → lives (task_at v k) ≡ true → IsCovered outside v k → HasState outside later left v k
     other_covered k less other alive owed =
         let before : lives (task_at w k) ≡ true = alive_later (task_at w k) (task_at v k) (nx.later.task k less) alive in
-        let old : (own : Own) × TaskFits outside c.rows w k own = c.tasks k before (covered_before w v h nx outside k less owed) in
+        let old : HasState outside c.rows c.left w k = c.tasks k before (covered_before w v h nx outside k less owed) in
+        let most = old.2 in
+        let same = left_old k less ∙ cut_other c.left u cost k other in
         let apart : (r : ℕ) → (scope_at w r).owner ≡ k → r ≡ s p w h u x g q → ⊥ = λ r by_k e. other (sym by_k ∙ ap (λ i. (scope_at w i).owner) e ∙ owner) in (
           old.0,
           task_same w v h nx outside flags c.rows later k old.0 before owed (ap (λ (y : Task). y.frame) (task_old p w h u x g q k less other)) agree
               (λ r y less2 by_k e. seen_same w v h nx c.rows later r y (scope_same p w h u x g q r) (subs_other p w h u x g q born r (apart r by_k)) agree e)
               (λ r i z less2 by_k e. subst (λ us. slice_get us i ≡ Some z) (sym (subs_other p w h u x g q born r (apart r by_k))) e)
               old.1,
+          omega (arith, most, same),
         )
 
-    covered : (k : ℕ) → lives (task_at v k) ≡ true → IsCovered outside v k → (own : Own) × TaskFits outside later v k own
+    covered : (k : ℕ) → lives (task_at v k) ≡ true → IsCovered outside v k → HasState outside later left v k
     covered k alive owed = by (nat_eq k u) refl (nat_eq k m) refl
       where
-        by : (a : Bool) → nat_eq k u ≡ a → (b : Bool) → nat_eq k m ≡ b → (own : Own) × TaskFits outside later v k own
+        by : (a : Bool) → nat_eq k u ≡ a → (b : Bool) → nat_eq k m ≡ b → HasState outside later left v k
         by true e b e2 =
             let same : k ≡ u = grind (arith, nat_tests) in
-            subst (λ i. (own : Own) × TaskFits outside later v i own) (sym same) (forker_covered (subst (λ i. IsCovered outside v i) same owed))
+            subst (λ i. HasState outside later left v i) (sym same) (forker_covered (subst (λ i. IsCovered outside v i) same owed))
         by false e true e2 =
             let same : k ≡ m = grind (arith, nat_tests) in
-            subst (λ i. (own : Own) × TaskFits outside later v i own) (sym same) (child_covered (subst (λ i. lives (task_at v i) ≡ true) same alive) (subst (λ i. IsCovered outside v i) same owed))
+            subst (λ i. HasState outside later left v i) (sym same) (child_covered (subst (λ i. lives (task_at v i) ≡ true) same alive) (subst (λ i. IsCovered outside v i) same owed))
         by false e false e2 =
             let other : k ≡ u → ⊥ = grind (arith, nat_tests) in
             let old : k ≡ m → ⊥ = grind (arith, nat_tests) in
@@ -417,6 +477,8 @@ module _ (p : Program) (outside : Outside) (t : Table) (root : Row) (is : IsTabl
           rows = later;
           listed = row_listed t c.rows m o.row c.listed o.listed;
           first = agree 0 (omega (arith, born)) ∙ c.first;
+          left = left;
+          births = fewer;
           timely = λ r. subst (λ (z : Scope). IsTimely z) (sym (scope_same p w h u x g q r)) (c.timely r);
           tasks = covered;
           ended = λ e is2.

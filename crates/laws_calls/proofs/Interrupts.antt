@@ -1,5 +1,5 @@
 -- A task is interrupted: its state of the table stays.
-use Rattle.std.proofs.Common.{◌≡◌, ℕ, Bool, true, false, refl, cond}
+use Rattle.std.proofs.Common.{◌≡◌, ℕ, Bool, true, false, refl, cond, arith}
 use Rattle.sts_code.specs.Program.{Program}
 use Rattle.sts_model.specs.World.{World, task_at, with_task}
 use Rattle.sts_model.specs.Living.{lives}
@@ -22,6 +22,6 @@ interrupt_covered p outside t root w h u c n flags = by (lives (task_at w u)) re
     by true alive n2 flags2 =
         let v : World = with_task w u (record (task_at w u) { flag = true }) in
         let turned = turned_flag w u (task_at w u).frame true (born_alive w u alive) in
-        covers_turned p outside t root w v h n2 flags2 c u (task_at w u).frame turned alive
-        (λ owed own k. record { own = own; there = k.there; fits = fits_later w v h n2 c.rows (task_at w u).frame own (λ s. refl) (λ s. subs_same w v s turned.count turned.scope) k.fits })
+        covers_turned p outside t root w v h n2 flags2 c u (task_at w u).frame 0 0 turned (λ wide. refl) alive
+        (λ owed own k. record { own = own; less = omega arith; there = k.there; fits = fits_later w v h n2 c.rows (task_at w u).frame own (λ s. refl) (λ s. subs_same w v s turned.count turned.scope) k.fits })
     by false alive n2 flags2 = c

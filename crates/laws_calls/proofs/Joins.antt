@@ -1,7 +1,7 @@
 -- A `join` has its outcome.
 use Rattle.std.proofs.Common.{◌≡◌, ℕ, ◌<◌, inl, List, [], ◌∷◌, ◌⊎◌, inr}
 use Rattle.std.proofs.Common.{Bool, true, false, Option, Some, None, refl, sym, ◌∙◌, ap, subst, length}
-use Rattle.std.proofs.Common.{set, cond, not, map, ◌||◌, unwrap_or}
+use Rattle.std.proofs.Common.{set, cond, not, map, ◌||◌, unwrap_or, arith}
 use Rattle.std.specs.Prelude.{slice_get, pos, negsuc, find}
 use Rattle.std.specs.List.{list_any}
 use Rattle.std.proofs.lemmas.Bool.{and_parts}
@@ -52,7 +52,7 @@ use Rattle.laws_calls.proofs.Early.{first_of, early_place, order_same}
 use Rattle.laws_calls.proofs.Possible.{are_possible, counts_most, enough, few_free, unknown, unheard, undecided}
 use Rattle.laws_calls.proofs.Lists.{all_map, all_at, all_put, all_right, all_length, all_put_place, Apart, among_get, get_among, any_among, no}
 use Rattle.laws_calls.proofs.Turns.{Facts, FlagsHaveCause, part_same, seen_same, held_same, apart_births, sub_born, sub_listed, listed_inside}
-use Rattle.laws_calls.proofs.Moves.{GoesOn, covers_turned, subs_same, OwnScope, own_scope}
+use Rattle.laws_calls.proofs.Moves.{GoesOn, goes_by, covers_turned, subs_same, OwnScope, own_scope}
 use Rattle.laws_calls.proofs.Phases.{Rescoped, rescoped_phase, rescoped_flag, rescoped_frame}
 use Rattle.laws_calls.proofs.Told.{who, state_among, First, first_end, find_none, none_passes, one_verdict, any_verdict, neither}
 use Rattle.laws_calls.proofs.Alone.{instr_of}
@@ -177,18 +177,16 @@ module _ (p : Program) (outside : Outside) (t : Table) (root : Row) (is : IsTabl
   abbrev g : Frame
   g = answered told f (unwrap_or failed 0)
 
-  goes_on : (c : Covers p outside t root w) (v : World) → Next w v → Rescoped w v u s g after_join → (own : Own) → TaskFits outside c.rows w u own → (o : OwnScope c.rows w f own x s) → Outcome c.rows own o → GoesOn c.rows v u g
+  goes_on : (c : Covers p outside t root w) (v : World) → Next w v → Rescoped w v u s g after_join → (own : Own) → TaskFits outside c.rows w u own → (o : OwnScope c.rows w f own x s) → Outcome c.rows own o → GoesOn c.rows v u g own 0
   goes_on c v nx re own k o a =
       let next : Own = joined own o.place a.seen a.answer (unwrap_or failed 0) in
       let frame : bare g ≡ answered a.answer own.frame (unwrap_or failed 0) =
       bare_answered told f (unwrap_or failed 0) ∙ ap (λ (z : Frame). answered told z (unwrap_or failed 0)) k.fits.frame ∙ ap (λ q. answered q own.frame (unwrap_or failed 0)) a.same
       in
       let fits : FrameFits c.rows v g next = fits_rescoped after_join g v nx re c.rows own k o (record a.seen { phase = Joined }) (answered a.answer own.frame (unwrap_or failed 0)) (leaves_answered told f (unwrap_or failed 0)) frame a.fits in
-      record {
-        own = next;
-        there = is.closed (c.rows u) own next (Join x failed timeout to_i) (c.listed u) k.there (instr_of p f own (Join x failed timeout to_i) k.fits.frame d.at) a.step (are_possible c.rows v nx.right (births_in g.entries) next.scopes fits.scopes);
-        fits = fits;
-      }
+      goes_by c.rows v u g own next 0 0 (omega arith) refl
+      (is.closed (c.rows u) own next (Join x failed timeout to_i) (c.listed u) k.there (instr_of p f own (Join x failed timeout to_i) k.fits.frame d.at) a.step)
+      (are_possible c.rows v nx.right (births_in g.entries) next.scopes fits.scopes) fits
 
   -- ---- what the table may answer
 
@@ -508,7 +506,7 @@ module _ (p : Program) (outside : Outside) (t : Table) (root : Row) (is : IsTabl
       let re : Rescoped w attempt u s to after_attempt = rescoped_flag w (with_phase w s Attempted) u s f to after_attempt false born (rescoped_phase w u s born_s owner Attempted) in
       let set : (task_at w u).flag ≡ true = flagged scope.expired scope.cancelled (any_lives w s) (task_at w u).flag can_join_now on_time waits in
       let free = waiting scope.cancelled (any_lives w s) waits in
-      covers_turned p outside t root w attempt h nx flags c u to re.turned d.alive
+      covers_turned p outside t root w attempt h nx flags c u to 0 0 re.turned (λ wide. refl) d.alive
       (λ owed own k.
       let o = own_scope c.rows w f own x s k.fits mine in
       let next : Own = attempted own o.place o.seen to_i in
@@ -516,13 +514,10 @@ module _ (p : Program) (outside : Outside) (t : Table) (root : Row) (is : IsTabl
       fits_rescoped after_attempt to attempt nx re c.rows own k o (record o.seen { phase = Attempted }) (goes own.frame to_i 0 []) (record { function = refl; entries = refl; slots = refl })
       (ap (λ (z : Frame). goes z to_i 0 []) k.fits.frame) (seen_attempted c.rows own o free.0)
       in
-      record {
-        own = next;
-        there = is.closed (c.rows u) own next (Join x failed timeout to_i) (c.listed u) k.there (instr_of p f own (Join x failed timeout to_i) k.fits.frame d.at)
-            (attempted_step o.place o.seen (k.flag set) o.owns (ap is_unseen (unseen_now c.rows own o free.0)) (some_open c.rows own o free.1))
-            (are_possible c.rows attempt nx.right (births_in f.entries) next.scopes fits.scopes);
-        fits = fits;
-      })
+      goes_by c.rows attempt u to own next 0 0 (omega arith) refl
+      (is.closed (c.rows u) own next (Join x failed timeout to_i) (c.listed u) k.there (instr_of p f own (Join x failed timeout to_i) k.fits.frame d.at)
+      (attempted_step o.place o.seen (k.flag set) o.owns (ap is_unseen (unseen_now c.rows own o free.0)) (some_open c.rows own o free.1)))
+      (are_possible c.rows attempt nx.right (births_in f.entries) next.scopes fits.scopes) fits)
 
   abbrev outcome : World
   outcome = effects.joined w u s g
@@ -530,7 +525,7 @@ module _ (p : Program) (outside : Outside) (t : Table) (root : Row) (is : IsTabl
   covers_outcome : (c : Covers p outside t root w) → scope.expired ≡ false → Next w outcome → FlagsHaveCause outside w outcome → (scope.cancelled || not (any_lives w s)) ≡ true → Covers p outside t root outcome
   covers_outcome c on_time nx flags done =
       let re : Rescoped w outcome u s g after_join = rescoped_frame w (with_phase w s Joined) u s f g after_join born (rescoped_phase w u s born_s owner Joined) in
-      covers_turned p outside t root w outcome h nx flags c u g re.turned d.alive
+      covers_turned p outside t root w outcome h nx flags c u g 0 0 re.turned (λ wide. refl) d.alive
       (λ owed own k.
       let o = own_scope c.rows w f own x s k.fits mine in
       goes_on c outcome nx re own k o (answers c.rows own o on_time done))
@@ -551,7 +546,7 @@ module _ (p : Program) (outside : Outside) (t : Table) (root : Row) (is : IsTabl
       let to_pc : ℕ = unwrap_or timeout 0 in
       let re : Rescoped w late u s (goes f to_pc 0 []) after_join = rescoped_frame w (with_phase w s Joined) u s f (goes f to_pc 0 []) after_join born (rescoped_phase w u s born_s owner Joined) in
       let gone : scope.cancelled ≡ true = (h.caused s born_s).expired expired in
-      covers_turned p outside t root w late h nx flags c u (goes f to_pc 0 []) re.turned d.alive
+      covers_turned p outside t root w late h nx flags c u (goes f to_pc 0 []) 0 0 re.turned (λ wide. refl) d.alive
       (λ owed own k.
       let o = own_scope c.rows w f own x s k.fits mine in
       let next : Own = timed_out own o.place o.seen to_pc in
@@ -562,13 +557,10 @@ module _ (p : Program) (outside : Outside) (t : Table) (root : Row) (is : IsTabl
       fits_rescoped after_join (goes f to_pc 0 []) late nx re c.rows own k o (record (after_expiry o.seen) { phase = Joined }) (goes own.frame to_pc 0 []) (record { function = refl; entries = refl; slots = refl })
       (ap (λ (z : Frame). goes z to_pc 0 []) k.fits.frame) seen_late
       in
-      record {
-        own = next;
-        there = is.closed (c.rows u) own next (Join x failed timeout to_i) (c.listed u) k.there (instr_of p f own (Join x failed timeout to_i) k.fits.frame d.at)
-            (timeout_step o.place o.seen o.owns (unheard o.seen.knowledge scope o.fits.known gone) (o.fits.timed ∙ c.timely s expired))
-            (are_possible c.rows late nx.right (births_in f.entries) next.scopes fits.scopes);
-        fits = fits;
-      })
+      goes_by c.rows late u (goes f to_pc 0 []) own next 0 0 (omega arith) refl
+      (is.closed (c.rows u) own next (Join x failed timeout to_i) (c.listed u) k.there (instr_of p f own (Join x failed timeout to_i) k.fits.frame d.at)
+      (timeout_step o.place o.seen o.owns (unheard o.seen.knowledge scope o.fits.known gone) (o.fits.timed ∙ c.timely s expired)))
+      (are_possible c.rows late nx.right (births_in f.entries) next.scopes fits.scopes) fits)
 
   abbrev after : World
   after = join_scope w u f s (unwrap_or failed 0) (unwrap_or timeout 0) to_i

@@ -1,5 +1,5 @@
 -- A step that moves one task, and leaves the frames of the others and the scopes of the others.
-use Rattle.std.proofs.Common.{◌≡◌, ℕ, ◌<◌, List}
+use Rattle.std.proofs.Common.{◌≡◌, ℕ, ◌+◌, ◌<◌, ◌≤◌, inl, List}
 use Rattle.std.proofs.Common.{Bool, true, false, Some, refl, sym, ◌∙◌, ap, subst, length}
 use Rattle.std.proofs.Common.{arith, set, nat_eq}
 use Rattle.std.proofs.Common.{length-set, get_or-set_same, get_or-set_other}
@@ -21,16 +21,20 @@ use Rattle.laws_calls.specs.Outside.{Outside}
 use Rattle.laws_calls.specs.Held.{Held}
 use Rattle.laws_calls.specs.Held as held
 use Rattle.laws_calls.specs.Tasks.{Among, AllTwo, at_place, put_place, Part, Seen, Own, births_in, held_at}
-use Rattle.laws_calls.specs.Steps.{Row, Table, Owns, Knows}
+use Rattle.laws_calls.specs.Fitting.{ArePossible}
+use Rattle.laws_calls.specs.Steps.{Row, Table, Owns, Knows, LeadsBy}
 use Rattle.laws_calls.specs.Covers.{subs, PartFits, SeenFits, HeldFits, FrameFits, TaskFits, IsTimely, InOrder}
-use Rattle.laws_calls.specs.Covers.{IsCovered, Covers, alive_in}
+use Rattle.laws_calls.specs.Covers.{IsCovered, Covers, HasState, alive_in, sum_to}
+use Rattle.laws_calls.proofs.Births.{cut, cut_here, cut_other, sum_cut}
 use Rattle.laws_calls.proofs.Lists.{all_map, all_get, all_at, all_put, all_place, all_put_place}
 use Rattle.laws_calls.proofs.Lists.{filter_same, Apart, get_among}
 use Rattle.laws_calls.proofs.Turns.{Facts, FlagsHaveCause, alive_later, covered_before, flag_stays}
 use Rattle.laws_calls.proofs.Turns.{environment_stays, seen_same, held_same, task_same, listed_inside}
 
-pub record Turned (w v : World) (t : ℕ) (g : Frame) : Type 0 where
+-- the task t has the frame g, and this number of scopes was born
+pub record Turned (w v : World) (t : ℕ) (g : Frame) (born : ℕ) : Type 0 where
   pub count : length v.tasks ≡ length w.tasks
+  pub opened : length v.scopes ≡ length w.scopes + born
   pub here : (task_at v t).frame ≡ g
   pub there : (u : ℕ) → (u ≡ t → ⊥) → (task_at v u).frame ≡ (task_at w u).frame
   pub scope : (u : ℕ) → (task_at v u).scope ≡ (task_at w u).scope
@@ -43,26 +47,60 @@ subs_same w v s count scope =
     filter_same (λ u. is_subtask s (task_at v u)) (λ u. is_subtask s (task_at w u)) (births v) (λ u. ap (is_in s) (scope u))
     ∙ ap (λ n. filter (λ u. is_subtask s (task_at w u)) (range_with_len 0 n)) count
 
--- where the task goes on: a state of its row, which fits its new frame
-pub record GoesOn (rows : ℕ → Row) (v : World) (t : ℕ) (g : Frame) : Type 0 where
+-- where the task goes on from a state: a state of its row, which fits its new frame; `born` of the
+-- births that were left are taken
+pub record GoesOn (rows : ℕ → Row) (v : World) (t : ℕ) (g : Frame) (old : Own) (born : ℕ) : Type 0 where
   pub own : Own
+  pub less : born + own.left ≤ old.left
   pub there : Among (rows t).states own
   pub fits : FrameFits rows v g own
 
+-- a step of the table leads there
+pub goes_by : (rows : ℕ → Row) (v : World) (t : ℕ) (g : Frame) (old next : Own) (born many : ℕ) → born ≤ many → next.left ≡ old.left → LeadsBy many (rows t).states next → ArePossible next.scopes → FrameFits rows v g next → GoesOn rows v t g old born
+goes_by rows v t g old next born many few same leads possible fits =
+    let r : (k : ℕ) × (many + k ≤ next.left) × Among (rows t).states (record next { left = k }) = leads possible in
+    let less = r.1 in
+    record {
+      own = record next { left = r.0 };
+      less = omega (arith, few, same, less);
+      there = r.2;
+      fits = record { frame = fits.frame; held = fits.held; scopes = fits.scopes };
+    }
+
 module _ (p : Program) (outside : Outside) (t : Table) (root : Row) (w v : World) (h : Facts w) (n : Next w v) (flags : FlagsHaveCause outside w v) where
-  -- the task u goes on with the frame g
-  pub covers_turned : (c : Covers p outside t root w) (u : ℕ) (g : Frame) → Turned w v u g → lives (task_at w u) ≡ true
-      → (IsCovered outside w u → (own : Own) → TaskFits outside c.rows w u own → GoesOn c.rows v u g) → Covers p outside t root v
-  covers_turned c u g turned alive moves =
+  -- the task u goes on with the frame g; `many` of its births count
+  pub covers_turned : (c : Covers p outside t root w) (u : ℕ) (g : Frame) (opens many : ℕ) → Turned w v u g opens → (outside.cancels ≡ true → many ≡ opens) → lives (task_at w u) ≡ true
+      → (IsCovered outside w u → (own : Own) → TaskFits outside c.rows w u own → GoesOn c.rows v u g own many) → Covers p outside t root v
+  covers_turned c u g opens many turned counts alive moves =
       record {
         rows = c.rows;
         listed = c.listed;
         first = c.first;
+        left = cut c.left u many;
+        births = fewer;
         timely = turned.timely c.timely;
         tasks = λ q lives_v owed. each q lives_v owed (nat_eq q u) refl;
         ended = λ e is. c.ended e (sym (turned.outcome 0) ∙ is);
       }
     where
+      -- as many births are left to the task before
+      enough : IsCovered outside w u → many ≤ c.left u
+      enough owed =
+          let old : HasState outside c.rows c.left w u = c.tasks u alive owed in
+          let less = (moves owed old.0 old.1).less in
+          let most = old.2 in
+          omega (arith, less, most)
+
+      fewer : outside.cancels ≡ true → length v.tasks + length v.scopes + sum_to (cut c.left u many) (length v.tasks) ≤ 1 + root.births
+      fewer wide =
+          let before = c.births wide in
+          let one = counts wide in
+          let count = turned.count in
+          let opened = turned.opened in
+          let cuts = sum_cut c.left u many (length w.tasks) (born_alive w u alive) (enough (inl wide)) in
+          let same : sum_to (cut c.left u many) (length v.tasks) ≡ sum_to (cut c.left u many) (length w.tasks) = ap (sum_to (cut c.left u many)) count in
+          omega (arith, before, one, count, opened, cuts, same)
+
       born : (q : ℕ) → lives (task_at v q) ≡ true → q < length w.tasks
       born q e = let b = born_alive v q e in let s = turned.count in omega (arith, b, s)
 
@@ -72,42 +110,50 @@ module _ (p : Program) (outside : Outside) (t : Table) (root : Row) (w v : World
       keeps : (q s : ℕ) (x : Seen) → (q ≡ u → ⊥) → s < length w.scopes → (scope_at w s).owner ≡ q → SeenFits c.rows w s x → SeenFits c.rows v s x
       keeps q s x other born_s owner f = seen_same w v h n c.rows c.rows s x (turned.scopes s born_s (λ e. other (sym owner ∙ e))) (subs_same w v s turned.count turned.scope) (λ k less. refl) f
 
-      each : (q : ℕ) → lives (task_at v q) ≡ true → IsCovered outside v q → (b : Bool) → nat_eq q u ≡ b → (own : Own) × TaskFits outside c.rows v q own
+      each : (q : ℕ) → lives (task_at v q) ≡ true → IsCovered outside v q → (b : Bool) → nat_eq q u ≡ b → HasState outside c.rows (cut c.left u many) v q
       each q e owed true is =
           let same : q ≡ u = grind (arith, nat_tests) in
           let by_owner : IsCovered outside w u = subst (λ k. IsCovered outside w k) same (covered_before w v h n outside q (born q e) owed) in
-          let old : (own : Own) × TaskFits outside c.rows w u own = c.tasks u alive by_owner in
-          let m : GoesOn c.rows v u g = moves by_owner old.0 old.1 in
-          let less : u < length w.tasks = subst (λ k. k < length w.tasks) same (born q e) in
+          let old : HasState outside c.rows c.left w u = c.tasks u alive by_owner in
+          let m : GoesOn c.rows v u g old.0 many = moves by_owner old.0 old.1 in
+          let less = m.less in
+          let most = old.2 in
+          let here = cut_here c.left u many in
+          let born_u : u < length w.tasks = subst (λ k. k < length w.tasks) same (born q e) in
           let seen : IsCovered outside v u = subst (λ k. IsCovered outside v k) same owed in
-          subst (λ k. (own : Own) × TaskFits outside c.rows v k own) (sym same)
+          subst (λ k. HasState outside c.rows (cut c.left u many) v k) (sym same)
           ((
             m.own,
             record {
               there = m.there;
               fits = subst (λ (f : Frame). FrameFits c.rows v f m.own) (sym turned.here) m.fits;
-              flag = flag_stays w v h n outside flags u less seen old.1.flag;
-              environment = environment_stays w v h n u less ∙ old.1.environment;
+              flag = flag_stays w v h n outside flags u born_u seen old.1.flag;
+              environment = environment_stays w v h n u born_u ∙ old.1.environment;
             },
+            omega (arith, less, most, here),
           ))
       each q e owed false is =
           let other : q ≡ u → ⊥ = grind (arith, nat_tests) in
-          let old : (own : Own) × TaskFits outside c.rows w q own = c.tasks q (before q e) (covered_before w v h n outside q (born q e) owed) in (
+          let old : HasState outside c.rows c.left w q = c.tasks q (before q e) (covered_before w v h n outside q (born q e) owed) in
+          let most = old.2 in
+          let same = cut_other c.left u many q other in (
             old.0,
             task_same w v h n outside flags c.rows c.rows q old.0 (before q e) owed (turned.there q other) (λ k less. refl)
                 (λ s x less owner f. keeps q s x other less owner f)
                 (λ s i k less owner is2. subst (λ us. slice_get us i ≡ Some k) (sym (subs_same w v s turned.count turned.scope)) is2)
                 old.1,
+            omega (arith, most, same),
           )
 
 -- ---- the frame alone
 
 -- another frame, and perhaps another flag
-pub turned_flag : (w : World) (t : ℕ) (g : Frame) (flag : Bool) → t < length w.tasks → Turned w (with_task w t (record (task_at w t) { frame = g; flag = flag })) t g
+pub turned_flag : (w : World) (t : ℕ) (g : Frame) (flag : Bool) → t < length w.tasks → Turned w (with_task w t (record (task_at w t) { frame = g; flag = flag })) t g 0
 turned_flag w t g flag born =
     let x : Task = record (task_at w t) { frame = g; flag = flag } in
     record {
       count = length-set w.tasks t x;
+      opened = omega arith;
       here = ap (λ (task : Task). task.frame) (get_or-set_same w.tasks t x no_task born);
       there = λ u other. ap (λ (task : Task). task.frame) (get_or-set_other w.tasks t u x no_task other);
       scope = λ u. at_set (λ (task : Task). task.scope ≡ (task_at w u).scope) w.tasks t u x no_task (λ e. rw e refl) refl;
@@ -116,7 +162,7 @@ turned_flag w t g flag born =
       timely = λ k s. k s;
     }
 
-pub turned_frame : (w : World) (t : ℕ) (g : Frame) → t < length w.tasks → Turned w (with_frame w t g) t g
+pub turned_frame : (w : World) (t : ℕ) (g : Frame) → t < length w.tasks → Turned w (with_frame w t g) t g 0
 turned_frame w t g born = turned_flag w t g (task_at w t).flag born
 
 -- a frame that fits before fits after a step that changes no scope

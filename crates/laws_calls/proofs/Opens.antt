@@ -1,7 +1,7 @@
 -- A scope is opened.
 use Rattle.std.proofs.Common.{◌≡◌, ℕ, ◌<◌, inl, List, [], ◌∷◌, ◌++◌}
 use Rattle.std.proofs.Common.{Bool, true, false, Some, refl, sym, ◌∙◌, ap, subst, length}
-use Rattle.std.proofs.Common.{arith, get_or, set, cond, length-set, get_or-set_same, get_or-set_other}
+use Rattle.std.proofs.Common.{arith, get_or, set, cond, length-set, length-append, get_or-set_same, get_or-set_other}
 use Rattle.std.specs.Prelude.{slice_get}
 use Rattle.std.specs.List.{filter}
 use Rattle.std.proofs.lemmas.List.{get_or_append_left}
@@ -26,7 +26,7 @@ use Rattle.laws_runs.proofs.ListLemmas.{at_set, at_more}
 use Rattle.laws_runs.proofs.EffectLemmas.{some-is_in}
 use Rattle.laws_runs.proofs.EventLemmas.{Next}
 use Rattle.laws_runs.proofs.BirthLemmas.{born_alive, new_scope, opener}
-use Rattle.laws_calls.specs.Outside.{Outside}
+use Rattle.laws_calls.specs.Outside.{Outside, per_birth}
 use Rattle.laws_calls.specs.Held.{Held}
 use Rattle.laws_calls.specs.Held as held
 use Rattle.laws_calls.specs.Tasks.{AllTwo, at_place, Seen, Own, births_in, bindings, Unseen, nothing}
@@ -36,7 +36,7 @@ use Rattle.laws_calls.specs.Covers.{Covers, alive_in}
 use Rattle.laws_calls.proofs.Lists.{all_map, all_set, all_length, at_first}
 use Rattle.laws_calls.proofs.Lists as lists
 use Rattle.laws_calls.proofs.Turns.{Facts, FlagsHaveCause, seen_same, births_has}
-use Rattle.laws_calls.proofs.Moves.{Turned, GoesOn, covers_turned, subs_same}
+use Rattle.laws_calls.proofs.Moves.{Turned, GoesOn, goes_by, covers_turned, subs_same}
 use Rattle.laws_calls.proofs.Possible.{are_possible, no_trigger}
 use Rattle.laws_calls.proofs.Alone.{instr_of, bindings_same}
 
@@ -77,10 +77,11 @@ module _ (p : Program) (outside : Outside) (t : Table) (root : Row) (is : IsTabl
   scope_new : scope_at after n ≡ new
   scope_new = ap (λ xs. get_or xs n no_scope) scopes_after ∙ get_or-append_seam w.scopes new [] no_scope
 
-  turned : u < length w.tasks → Turned w after u g
+  turned : u < length w.tasks → Turned w after u g 1
   turned born =
       record {
         count = ap (λ (xs : List Task). length xs) tasks_after ∙ length-set w.tasks u task;
+        opened = ap (λ (xs : List Scope). length xs) scopes_after ∙ length-append w.scopes (new ∷ []);
         here = ap (λ (xs : List Task). (get_or xs u no_task).frame) tasks_after ∙ ap (λ (y : Task). y.frame) (get_or-set_same w.tasks u task no_task born);
         there = λ q other. ap (λ (xs : List Task). (get_or xs q no_task).frame) tasks_after ∙ ap (λ (y : Task). y.frame) (get_or-set_other w.tasks u q task no_task other);
         scope = λ q. ap (λ (xs : List Task). (get_or xs q no_task).scope) tasks_after ∙ at_set (λ (y : Task). y.scope ≡ (task_at w q).scope) w.tasks u q task no_task (λ e. rw e refl) refl;
@@ -137,22 +138,21 @@ module _ (p : Program) (outside : Outside) (t : Table) (root : Row) (is : IsTabl
     all_map (SeenFits c.rows w) (SeenFits c.rows after) old own.scopes (λ s y at e. seen_same w after h next c.rows c.rows s y (scope_old s (h.entered u s d.alive (births_has f.entries s at)).born) (same_subs born s) (λ q less. refl) e) k.fits.scopes,
   )
 
-  goes_on : (c : Covers p outside t root w) → Next w after → Does p w u (Open x joiner timed) → u < length w.tasks → (own : Own) → TaskFits outside c.rows w u own → GoesOn c.rows after u g
+  goes_on : (c : Covers p outside t root w) → Next w after → Does p w u (Open x joiner timed) → u < length w.tasks → (own : Own) → TaskFits outside c.rows w u own → GoesOn c.rows after u g own (per_birth outside)
   goes_on c next d born own k =
-      record {
-        own = opened (c.rows u).call own x joiner timed;
-        there = is.closed (c.rows u) own (opened (c.rows u).call own x joiner timed) (Open x joiner timed) (c.listed u) k.there (instr_of p f own (Open x joiner timed) k.fits.frame d.at) open_step
-            (are_possible c.rows after next.right (n ∷ old) (opened (c.rows u).call own x joiner timed).scopes (scopes c next d born own k));
-        fits = record {
-          frame = ap (λ (z : Frame). record (steps z 0 []) { entries = entry.Scope 0 ∷ z.entries }) k.fits.frame;
-          held = all_set (HeldFits after (n ∷ old)) f.slots own.held x (slots.Own n) (held.Own (length own.scopes))
-              (all_map (HeldFits w old) (HeldFits after (n ∷ old)) f.slots own.held (λ a b at e. held_more born a b e) k.fits.held)
-              (subst (λ m. at_place (n ∷ old) m ≡ Some n) (all_length (SeenFits c.rows w) old own.scopes k.fits.scopes) (at_first n old));
-          scopes = scopes c next d born own k;
-        };
-      }
+      let then : Own = opened (c.rows u).call own x joiner timed in
+      goes_by c.rows after u g own then (per_birth outside) (per_birth outside) (omega arith) refl
+      (is.closed (c.rows u) own then (Open x joiner timed) (c.listed u) k.there (instr_of p f own (Open x joiner timed) k.fits.frame d.at) open_step)
+      (are_possible c.rows after next.right (n ∷ old) then.scopes (scopes c next d born own k))
+      (record {
+        frame = ap (λ (z : Frame). record (steps z 0 []) { entries = entry.Scope 0 ∷ z.entries }) k.fits.frame;
+        held = all_set (HeldFits after (n ∷ old)) f.slots own.held x (slots.Own n) (held.Own (length own.scopes))
+            (all_map (HeldFits w old) (HeldFits after (n ∷ old)) f.slots own.held (λ a b at e. held_more born a b e) k.fits.held)
+            (subst (λ m. at_place (n ∷ old) m ≡ Some n) (all_length (SeenFits c.rows w) old own.scopes k.fits.scopes) (at_first n old));
+        scopes = scopes c next d born own k;
+      })
 
   pub open_covered : (c : Covers p outside t root w) → Next w after → FlagsHaveCause outside w after → Does p w u (Open x joiner timed) → Covers p outside t root after
   open_covered c next flags d =
       let born : u < length w.tasks = born_alive w u d.alive in
-      covers_turned p outside t root w after h next flags c u g (turned born) d.alive (λ owed own k. goes_on c next d born own k)
+      covers_turned p outside t root w after h next flags c u g 1 (per_birth outside) (turned born) (λ wide. ap (λ b. cond b 1 0) wide) d.alive (λ owed own k. goes_on c next d born own k)

@@ -1,6 +1,6 @@
 -- A scope is cancelled, or gets another phase.
 use Rattle.std.proofs.Common.{◌≡◌, ℕ, ◌<◌, Bool, true, false, refl, ◌∙◌, ap, subst, length}
-use Rattle.std.proofs.Common.{arith, cond, get_or-set_same, get_or-set_other}
+use Rattle.std.proofs.Common.{arith, cond, length-set, get_or-set_same, get_or-set_other}
 use Rattle.sts_model.specs.declared.event.Phase.{Phase}
 use Rattle.sts_model.specs.declared.record.Frame.{Frame}
 use Rattle.sts_model.specs.declared.record.Scope.{Scope}
@@ -41,7 +41,7 @@ cancel_here w s born = by (scope_at w s).cancelled refl
 
 -- the scope s has become y, and the others are as they were
 pub record Rescoped (w v : World) (u s : ℕ) (g : Frame) (y : Scope) : Type 0 where
-  pub turned : Turned w v u g
+  pub turned : Turned w v u g 0
   pub here : scope_at v s ≡ y
   pub others : (r : ℕ) → (r ≡ s → ⊥) → scope_at v r ≡ scope_at w r
 
@@ -49,10 +49,11 @@ pub record Rescoped (w v : World) (u s : ℕ) (g : Frame) (y : Scope) : Type 0 w
 pub rescoped_flag : (w v : World) (u s : ℕ) (f g : Frame) (y : Scope) (flag : Bool) → u < length w.tasks → Rescoped w v u s f y → Rescoped w (with_task v u (record (task_at v u) { frame = g; flag = flag })) u s g y
 rescoped_flag w v u s f g y flag born a =
     let count = a.turned.count in
-    let b : Turned v (with_task v u (record (task_at v u) { frame = g; flag = flag })) u g = turned_flag v u g flag (omega (arith, count, born)) in
+    let b : Turned v (with_task v u (record (task_at v u) { frame = g; flag = flag })) u g 0 = turned_flag v u g flag (omega (arith, count, born)) in
     record {
       turned = record {
         count = b.count ∙ a.turned.count;
+        opened = a.turned.opened;
         here = b.here;
         there = λ k other. b.there k other ∙ a.turned.there k other;
         scope = λ k. b.scope k ∙ a.turned.scope k;
@@ -78,6 +79,7 @@ module _ (w : World) (u s : ℕ) (born : s < length w.scopes) (owner : (scope_at
       record {
         turned = record {
           count = refl;
+          opened = (let long = length-set w.scopes s y in omega (arith, long));
           here = refl;
           there = λ k other. refl;
           scope = λ k. refl;
@@ -99,6 +101,7 @@ module _ (w : World) (u s : ℕ) (born : s < length w.scopes) (owner : (scope_at
       record {
         turned = record {
           count = k.kept.tasks;
+          opened = (let long = length-set v.scopes s y in omega (arith, long, count));
           here = frame-cancel w s u;
           there = λ i other. frame-cancel w s i;
           scope = λ i. (k.kept.task i).same.scope;

@@ -1,5 +1,5 @@
 -- The laws on what a table covers of a run (this project's own). Each is for every program.
-use Rattle.std.specs.Prelude.{◌≡◌, ℕ, List, true, Some}
+use Rattle.std.specs.Prelude.{◌≡◌, ℕ, ◌+◌, ◌≤◌, List, length, true, Some}
 use Rattle.sts_code.specs.Program.{Program}
 use Rattle.sts_model.specs.declared.event.End.{End}
 use Rattle.sts_model.specs.declared.event.Event.{Event}
@@ -39,8 +39,15 @@ pub record AllFit (outside : Outside) (t : Table) (w : World) : Type 0 where
   pub listed : (u : ℕ) → Among t (rows u)
   pub tasks : (u : ℕ) → lives (task_at w u) ≡ true → (own : Own) × TaskFits outside rows w u own
 
--- if a cancel may come, each living task fits in each state of any run
+-- if a cancel may come, all tasks fit in each state of any run
 abbrev pub TasksAreCovered : Type 0
 TasksAreCovered =
     (p : Program) (outside : Outside) (t : Table) (root : Row) → IsTable p outside t root
     → outside.cancels ≡ true → (events : List Event) → In (AllFit outside t) (after p events)
+
+-- and no more tasks and scopes are born than the root's row allows, apart from the root
+abbrev pub BirthsAreBounded : Type 0
+BirthsAreBounded =
+    (p : Program) (outside : Outside) (t : Table) (root : Row) → IsTable p outside t root
+    → outside.cancels ≡ true → (events : List Event)
+    → In (λ w. length w.tasks + length w.scopes ≤ 1 + root.births) (after p events)

@@ -1,7 +1,7 @@
 -- What a table covers of a run: each living task, or only those that are watched, by a state of its
 -- call (this project's own).
 use Rattle.std.specs.Prelude.{◌≡◌, ℕ, ◌≤◌, ◌⊎◌, List, [], ◌∷◌, Bool, true, false, Option, Some}
-use Rattle.std.specs.Prelude.{slice_get, map, find, option_map, count_by}
+use Rattle.std.specs.Prelude.{slice_get, map, find, option_map, count_by, zero, suc, ◌+◌, length}
 use Rattle.std.specs.List.{filter}
 use Rattle.sts_code.specs.Program.{Program}
 use Rattle.sts_model.specs.declared.event.End.{End}
@@ -133,6 +133,11 @@ pub record TaskFits (outside : Outside) (rows : ℕ → Row) (w : World) (u : �
   pub flag : FlagMayBe outside (task_at w u).flag
   pub environment : (scope_of w u).environment ≡ (rows u).call.environment
 
+-- the task u is in a state of its row, with no more births left than these
+abbrev pub HasState : Outside → (ℕ → Row) → (ℕ → ℕ) → World → ℕ → Type 0
+HasState outside rows left w u =
+    (own : Own) × TaskFits outside rows w u own × (own.left ≤ left u)
+
 -- ---- runs
 
 -- the root is watched, and a subtask of a scope that is not cancelled and whose owner is watched
@@ -149,15 +154,24 @@ IsCovered outside w u = (outside.cancels ≡ true) ⊎ Watched w u
 abbrev pub IsTimely : Scope → Type 0
 IsTimely scope = scope.expired ≡ true → scope.timed ≡ true
 
+-- the sum of the first values
+abbrev pub sum_to : (ℕ → ℕ) → ℕ → ℕ
+sum_to f zero = 0
+sum_to f (suc n) = sum_to f n + f n
+
 pub record Covers (p : Program) (outside : Outside) (t : Table) (root : Row) (w : World)
     : Type 0 where
   pub rows : ℕ → Row
   pub listed : (u : ℕ) → Among t (rows u)
   pub first : rows 0 ≡ root
+  -- the births that are left to each task, and those that came: no more than the root's row allows
+  pub left : ℕ → ℕ
+  pub births : outside.cancels ≡ true
+      → length w.tasks + length w.scopes + sum_to left (length w.tasks) ≤ 1 + root.births
   pub timely : (s : ℕ) → IsTimely (scope_at w s)
   -- each living task that the table has to cover is in a state of its row
   pub tasks : (u : ℕ) → lives (task_at w u) ≡ true → IsCovered outside w u
-      → (own : Own) × TaskFits outside rows w u own
+      → HasState outside rows left w u
   -- the root has ended by a way of its call
   pub ended : (e : End) → (task_at w 0).outcome ≡ Some e → HasWay root.ways e
 

@@ -1,8 +1,8 @@
 -- The steps of a task by itself, and the tables that are closed under them (this project's own).
 -- A step may lead to more states than a run does: each task may be interrupted again and again, if
--- any interrupt may come. If a cancel of its scope may come, it may come again and again, too.
+-- any interrupt may come. If a cancel may come, each may see its scope cancelled.
 use Rattle.std.specs.Prelude.{◌≡◌, ℕ, ◌+◌, ◌-◌, ℤ, pos, List, [], ◌∷◌, ◌++◌, length, take, drop}
-use Rattle.std.specs.Prelude.{reverse, nat_le, not, ◌&&◌, ◌<◌}
+use Rattle.std.specs.Prelude.{reverse, nat_le, not, ◌&&◌, ◌<◌, ◌≤◌}
 use Rattle.std.specs.Prelude.{map, count_by, Bool, true, false, Option, Some, None, is_some}
 use Rattle.std.specs.Prelude.{unwrap_or, if◌then◌else◌, slice_get, slice_set}
 use Rattle.std.specs.List.{filter, list_any}
@@ -32,7 +32,7 @@ use Rattle.sts_model.specs.Joining.{is_success, is_failure, result_of, total_of}
 use Rattle.laws_runs.specs.Tallies.{is_kind}
 use Rattle.laws_calls.specs.Held.{Held, is_at}
 use Rattle.laws_calls.specs.Held as held
-use Rattle.laws_calls.specs.Outside.{Outside, may_flag}
+use Rattle.laws_calls.specs.Outside.{Outside, may_flag, per_birth}
 use Rattle.laws_calls.specs.Tasks.{Among, at_place, put_place, Call, Way, HasWay, Part, Knowledge}
 use Rattle.laws_calls.specs.Tasks.{nothing, Unseen, ByJoiner, Late, Heard, Seen, Own, begin}
 use Rattle.laws_calls.specs.Tasks.{bindings, held_at}
@@ -109,6 +109,7 @@ opened c own x joiner timed =
         has_failure = false;
         parts = [];
       } ∷ own.scopes;
+      left = own.left;
     }
 
 -- the call of a subtask
@@ -135,6 +136,7 @@ forked p own place x ways g h =
       held = with_handle own.held h (held.Sub place (length x.parts));
       scopes = put_place own.scopes place
           (record x { parts = x.parts ++ new_part ways x ∷ [] });
+      left = own.left;
     }
 
 abbrev pub clear : ℕ → Held → Held
@@ -147,6 +149,7 @@ closed own =
       frame = record (steps own.frame 0 []) { entries = drop 1 own.frame.entries };
       held = map (clear (length (drop 1 own.scopes))) own.held;
       scopes = drop 1 own.scopes;
+      left = own.left;
     }
 
 -- ---- join
@@ -285,7 +288,7 @@ pub record MayEnd (seen : Seen) (i : ℕ) (part : Part) (e : End) : Type 0 where
 pub record IsRowOf (t : Table) (row : Row) (c : Call) : Type 0 where
   pub there : Among t row
   pub call : row.call ≡ c
-  pub begins : Among row.states (begin held.Lent c)
+  pub begins : Among row.states (begin held.Lent c row.births)
 
 -- ---- steps
 
@@ -413,17 +416,31 @@ pub data Steps (p : Program) (outside : Outside) (c : Call) (own : Own) : Instr 
 
 -- ---- a table that has all steps
 
--- a state that is possible is among these
+-- a state that is possible is among these, where at least `born` of the births that were left are
+-- taken
+abbrev pub LeadsBy : ℕ → List Own → Own → Type 0
+LeadsBy born states next =
+    ArePossible next.scopes
+    → (k : ℕ) × (born + k ≤ next.left) × Among states (record next { left = k })
+
+-- a state that is possible is among these, perhaps with fewer births left
 abbrev pub Leads : List Own → Own → Type 0
-Leads states next = ArePossible next.scopes → Among states next
+Leads states next = LeadsBy 0 states next
+
+-- the births by an instruction, apart from those of the new task of a `fork`
+abbrev pub born_by : Outside → Instr → ℕ
+born_by outside (Open x joiner timed) = per_birth outside
+born_by outside (Fork x g h) = per_birth outside
+born_by outside _ = 0
 
 -- a `fork`: the call has a row, and the state with a new part, which has the ways of that row, is
 -- among these
-pub record Forks (p : Program) (t : Table) (states : List Own) (own : Own) (x g : ℕ)
-    (h : Option ℕ) (place : ℕ) (seen : Seen) : Type 0 where
+pub record Forks (p : Program) (outside : Outside) (t : Table) (states : List Own) (own : Own)
+    (x g : ℕ) (h : Option ℕ) (place : ℕ) (seen : Seen) : Type 0 where
   pub row : Row
   pub is_row : IsRowOf t row (call_of p own seen g)
-  pub leads : Leads states (forked p own place seen row.ways g h)
+  pub leads : LeadsBy (per_birth outside + row.births) states
+      (forked p own place seen row.ways g h)
 
 -- the end of a task by its last instruction
 abbrev pub end_by : Instr → Frame → Option End
@@ -439,15 +456,15 @@ pub record IsTable (p : Program) (outside : Outside) (t : Table) (root : Row) : 
   -- the root's call begins; its slot 0 is empty
   pub listed : Among t root
   pub call : root.call ≡ root_call p
-  pub begins : Among root.states (begin held.Empty (root_call p))
+  pub begins : Among root.states (begin held.Empty (root_call p) root.births)
   -- each fork has a row for its call, unless its scope is known to be cancelled
   pub forks : (row : Row) (own : Own) (x g place : ℕ) (h : Option ℕ) (seen : Seen) → Among t row
       → Among row.states own → instr_at p own.frame ≡ Some (Fork x g h) → Owns own x place seen
-      → is_cancelled seen.knowledge ≡ false → Forks p t row.states own x g h place seen
+      → is_cancelled seen.knowledge ≡ false → Forks p outside t row.states own x g h place seen
   -- each step to a state that is possible leads to a state of the row
   pub closed : (row : Row) (own next : Own) (i : Instr) → Among t row → Among row.states own
       → instr_at p own.frame ≡ Some i → Steps p outside row.call own i next
-      → Leads row.states next
+      → LeadsBy (born_by outside i) row.states next
   -- each end is a way of the row
   pub ends : (row : Row) (own : Own) (i : Instr) (e : End) → Among t row → Among row.states own
       → instr_at p own.frame ≡ Some i → end_by i own.frame ≡ Some e → HasWay row.ways e

@@ -87,13 +87,14 @@ scope_of_entry (entry.Binding k v) = None
 abbrev pub births_in : List Entry → List ℕ
 births_in entries = filter_map scope_of_entry entries
 
--- the beginning of a call, with this in slot 0
-abbrev pub begin : Held → Call → Own
-begin first c =
+-- the beginning of a call, with this in slot 0 and these births left
+abbrev pub begin : Held → Call → ℕ → Own
+begin first c births =
     record {
       frame = bare (entry_frame c.function c.args slots.Empty);
       held = first ∷ replicate 15 held.Empty;
       scopes = [];
+      left = births;
     }
 
 -- the bindings that are in force

@@ -100,11 +100,20 @@ impl Same for Seen {
     }
 }
 
-impl Same for Own {
-    fn same(&self, other: &Own) -> bool {
+impl Own {
+    /// Are the two the same, apart from the births that are left?
+    pub fn is_like(&self, other: &Own) -> bool
+        ensures { result ≡ true → self.now ≡ record other.now { left = self.now.left } }
+    {
         self.frame.same(&other.frame)
             && same_slices(&self.held, &other.held)
             && same_items(&self.scopes, &other.scopes)
+    }
+}
+
+impl Same for Own {
+    fn same(&self, other: &Own) -> bool {
+        self.left == other.left && self.is_like(other)
     }
 }
 

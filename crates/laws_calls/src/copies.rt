@@ -85,6 +85,7 @@ impl Copied for Own {
             frame: copy_frame(&self.frame),
             held: self.held,
             scopes: copy_list(alloc, self.scopes.as_slice())?,
+            left: self.left,
         })
     }
 }

@@ -1,7 +1,7 @@
 //! Laws on the count, and on the states that a table covers.
 
 ghost use Rattle.laws_calls.specs.Covered.{EndsAreWays, EventsAreCovered, RunsAreCovered};
-ghost use Rattle.laws_calls.specs.Covered.{TasksAreCovered};
+ghost use Rattle.laws_calls.specs.Covered.{BirthsAreBounded, TasksAreCovered};
 ghost use Rattle.laws_calls.specs.Triggers.{CancelsByCount, LastCounts, LastIsFound, StopsAtLimit};
 ghost use Rattle.laws_calls.specs.Watching.{WatchedIsNotCancelled, WatchedWasWatched};
 
@@ -53,4 +53,9 @@ pub fn ends_are_ways()
 /// If a cancel may come, each living task of any run is in a state of its row.
 pub fn tasks_are_covered()
     ensures { TasksAreCovered }
+{}
+
+/// Then no more tasks and scopes are born in any run than the root's row allows.
+pub fn births_are_bounded()
+    ensures { BirthsAreBounded }
 {}

@@ -1,7 +1,7 @@
 //! Tables of calls: the states that the task of a call may be in, and the ways that it may end.
 
 ghost use Rattle.std.specs.Prelude.{◌≡◌};
-ghost use Rattle.laws_calls.specs.Outside.{may_flag};
+ghost use Rattle.laws_calls.specs.Outside.{may_flag, per_birth};
 
 use crate::shared::Shared;
 use sts_code::Joiner;
@@ -10,13 +10,20 @@ use sts_model::{Bound, End, Frame, Items, Phase};
 /// What may come to a task from outside.
 #[derive(Clone, Copy, Debug, PartialEq, Eq)]
 pub struct Outside {
-    /// All tasks together get at most this number of interrupts.
+    /// The most interrupts that come, to all tasks together.
     pub interrupts: u32,
     /// May a cancel of its scope come? If not, a table covers only the tasks that are watched.
     pub cancels: bool,
 }
 
 impl Outside {
+    /// What a birth of a task or of a scope counts.
+    pub fn per_birth(self) -> u32
+        ensures { result ≡ per_birth self }
+    {
+        if self.cancels { 1 } else { 0 }
+    }
+
     /// May the flag of a task be set?
     pub fn may_flag(self) -> bool
         ensures { result ≡ may_flag self }
@@ -107,12 +114,17 @@ pub struct Own {
     pub frame: Frame,
     pub held: [Held; 16],
     pub scopes: Items<Seen>,
+    /// How many tasks and scopes may still be born of it and of its subtasks. A table that allows no
+    /// cancel doesn't count them.
+    pub left: u32,
 }
 
 /// A call with the states that its task may be in, and the ways that it may end.
 #[derive(Drop)]
 pub struct Row {
     pub call: Call,
+    /// How many tasks and scopes may be born of a task of this call and of its subtasks.
+    pub births: u32,
     pub states: Items<Own>,
     pub ways: Shared<Way>,
 }

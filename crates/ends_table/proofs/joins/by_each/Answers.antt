@@ -1,5 +1,4 @@
-use Rattle.std.proofs.Common.{◌≡◌, ℕ, true, List, subst, get_or}
-use Rattle.sts_model.specs.declared.event.End.{End}
+use Rattle.std.proofs.Common.{◌≡◌, true, List, subst, get_or}
 use Rattle.laws_calls.specs.declared.table.Part.{Part}
 use Rattle.laws_calls.specs.Triggers.{is_trigger}
 use Rattle.ends_table.specs.Led.{DecidedLeads}

@@ -1,5 +1,5 @@
 use Rattle.std.proofs.Common.{◌≡◌, true, false, sym, ◌∙◌}
-use Rattle.ends_table.proofs.reached.leads.Goals as goal
+use Rattle.ends_table.proofs.reached.leads_after.Goals as goal
 
 pub returns-else-is_possible : goal.returns-else-is_possible
 returns-else-is_possible c = λ possible.

@@ -1,0 +1,4 @@
+pub mod Allowed
+pub mod Closing
+pub mod Faults
+pub mod Safe
