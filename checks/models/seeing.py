@@ -1,5 +1,6 @@
 """Draws small programs in which everything that a task can see is written down in a local, whose value is the end."""
 import random
+import re
 
 
 class Drawn:
@@ -141,3 +142,28 @@ def failing(draw):
     it = Drawn(draw, draw.choice([1, 2]), draw.choice([0, 0, 0.5]))
     it.only_any = True
     return it.text(draw.choice([0, 0, 1]), draw.choice([3, 4, 4]))
+
+
+PUT_IN = ("close s0", "close s1", "total s0", "tally s0 S", "get s4", "get s3", "except s4", "push 1", "interrupted", "cancelled s0",
+          "cancelled s1", "read 3", "push 1\nbind 2", "unbind", "push 2\nret")
+
+
+def spoilt(draw):
+    """Returns a program with lines left out, doubled, exchanged or put in, perhaps a jump. Most of them are refused."""
+    lines = stress(draw).splitlines()
+    for _ in range(draw.choice([1, 1, 2])):
+        places = [it for it, line in enumerate(lines) if not re.match(r"func|end|profile|l\d+:", line)]
+        at, to = draw.choice(places), draw.choice(places)
+        kind = draw.randrange(5)
+        if kind == 0:
+            del lines[at]
+        elif kind == 1:
+            lines.insert(to, lines[at])
+        elif kind == 2:
+            lines[at], lines[to] = lines[to], lines[at]
+        elif kind == 3:
+            lines.insert(at, draw.choice(PUT_IN))
+        else:
+            label = draw.choice([line[:-1] for line in lines if line.endswith(":")])
+            lines.insert(at, draw.choice([f"jmp {label}", f"interrupted\njz {label}"]))
+    return "".join(f"{line}\n" for line in lines)

@@ -19,8 +19,11 @@ scopes that are misused. Each is asked with expiries and without, and with an in
 - A table of calls shows that programs with 16 and 50 subtasks have just the ends that were worked out by hand. It does so for
   programs that are interrupted, unless each end that it has too many takes more interrupts. A search by calls finds the ends that
   the search over all schedules finds of drawn programs (`calls_of_look`; with `--count 600`, of some 3,000 questions).
-A program with more than MOST_STATES states is left out. With a PART, which is `schedules_of_look`, `searches_of_look` or
-`calls_of_look`, only that is tried. The last line is `N passed, M failed`, of comparisons.
+- So it is with refused programs with 50 and 200 subtasks that never fault. If one may fault, `look ends` doesn't say that it has
+  all ends. Drawn programs of which a table says that no run faults have no fault, and just those ends, by all_ends.py
+  (`refused_of_look`).
+A program with more than MOST_STATES states is left out. With a PART, which is `schedules_of_look`, `searches_of_look`,
+`calls_of_look` or `refused_of_look`, only that is tried. The last line is `N passed, M failed`, of comparisons.
 """
 import argparse
 import concurrent.futures
@@ -444,7 +447,71 @@ def calls_of_look(look, folder, count=30, seed="1"):
     yield f"{compared} programs were compared", compared >= count
 
 
-PARTS = {it.__name__: it for it in (schedules_of_look, searches_of_look, calls_of_look)}
+def going_back(count, kid="close s1 / load 0 / push 8 / add / fail", late="push 300 / close s1 / fail", stop="push 0 / close s1 / fail"):
+    """Returns a program that is refused, since its loop is a jump back. It forks so many subtasks of FLAKY, and its own scope may
+    expire, too. The others are the ends of a subtask whose `join` is interrupted, and those of `main` after each such `join`."""
+    assert "close s1 / load 0 / push 8 / add / fail" in FLAKY
+    kids = FLAKY.replace("close s1 / load 0 / push 8 / add / fail", kid)
+    return lines_of(f"{kids}func main 0 / open s1 all timed / more: / load 5 / push 1 / add / store 5 / load 5 / fork s1 kid _ / load 5 / "
+                    f"push {count} / sub / jz go / jmp more / go: / join s1 bad late intr / pop / total s1 / close s1 / ret / bad: / close s1 / "
+                    f"fail / late: / {late} / intr: / {stop} / end")
+
+
+def ends_going_back(count, interrupts=0):
+    """Returns the ends of this program: the sum, the failure of one whose time was up, or which was interrupted, or those of `main`."""
+    failed = {it + code for it in range(1, count + 1) for code in (7, 8)[: 1 + interrupts]} | {300} | ({0} if interrupts else set())
+    return {f"success {count * (count + 1) // 2}", *(f"failed {it}" for it in failed)}
+
+
+NO_FAULT = no_fault_line(True, 0)
+WRONG = {  # refused programs with a fault that only an interrupt, a cancel or an expiry leads to: a `ret` finds no operand
+    "an interrupt": going_back(50, stop="close s1 / ret"),
+    "a cancel": going_back(50, kid="close s1 / ret"),
+    "an expiry": going_back(50, late="close s1 / ret"),
+}
+# A subtask that goes on without an end, also once it is cancelled.
+SPINS = "func give 1 / load 0 / ret / end / func spin 0 / more: / interrupted / pop / jmp more / end / func main 0 / open s0 any / " \
+    "fork s0 spin _ / push 5 / fork s0 give _ / push 6 / fork s0 give _ / join s0 bad - intr / close s0 / ret / bad: / close s0 / fail / " \
+    "intr: / push 3 / close s0 / fail / end"
+
+
+def refused_of_look(look, folder, count=30, seed="1"):
+    """Yields whether a table shows that no run of a refused program faults, and that there is no other end."""
+    text = os.path.join(folder, "refused")
+
+    def ends(source, *words):
+        with open(text, "w") as file:
+            file.write(source)
+        status, printed = says(look, "ends", text, *words)
+        return status, {it[3] for it in map(LINE.fullmatch, printed) if it}, printed
+
+    for number, interrupts, most in ((50, 0, 2000), (50, 1, 4000), (200, 0, 8000)):
+        status, found, printed = ends(going_back(number), *options(True, interrupts), "--most", str(most))
+        right = (0, ends_going_back(number, interrupts), True)
+        yield f"going back, {number}: {printed}", (status, found, no_fault_line(True, interrupts) in printed) == right
+    for what, source in WRONG.items():
+        for words in ([], ["--no-expiries"]):
+            status, found, printed = ends(source, "--most", "2000", *words)
+            is_told = any(it.startswith("refused") or "all schedules" in it and "not" not in it for it in printed)
+            ends_there = {it for it in found if not it.startswith("fault")}
+            yield f"a fault by {what}: {printed}", (status, is_told) == (5, False) and ends_there <= ends_going_back(50)
+    status, found, printed = ends(lines_of(SPINS))
+    yield f"a subtask without an end: {printed}", (status, found, NO_FAULT in printed) == (0, set(), True)
+    compared = 0
+    for number in range(4 * count):
+        draw = random.Random(f"{seed} spoilt {number}")
+        source, (expiries, interrupts) = seeing.spoilt(draw), draw.choice((*QUESTIONS, (True, 2)))
+        _, found, printed = ends(source, *options(expiries, interrupts), "--seconds", "0")
+        if no_fault_line(expiries, interrupts) not in printed:
+            continue
+        expected, _, are_all = all_ends.ends(stack_code.program(source), is_expiring=expiries, interrupts=interrupts, most=MOST_STATES)
+        if are_all:
+            compared += 1
+            yield f"spoilt {number}, {options(expiries, interrupts)}: {printed}", found == set(expected)
+    yield f"{compared} refused programs were compared", compared >= count // 5
+
+
+PARTS = {it.__name__: it for it in (schedules_of_look, searches_of_look, calls_of_look, refused_of_look)}
 
 
 def rows():
@@ -483,7 +550,7 @@ def by_compilers(look):
 
 def tried_parts(asked, folder, names, tally):
     for part in names:
-        more = (asked.count, asked.seed) if part == "calls_of_look" else ()
+        more = (asked.count, asked.seed) if part in ("calls_of_look", "refused_of_look") else ()
         for name, is_so in PARTS[part](asked.look, folder, *more):
             tally.holds(f"{part}: {name}", is_so)
 

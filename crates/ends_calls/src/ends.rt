@@ -21,6 +21,17 @@ use sts_plain::PlainState;
 /// Traces are made as long as those before have no more than this number of events together.
 const MOST_EVENTS: usize = 16_000_000;
 
+/// How far a search goes.
+#[derive(Clone, Copy)]
+pub struct Room {
+    /// It stops once it has more states.
+    pub states: usize,
+    /// The most states of its table of calls.
+    pub states_of_table: usize,
+    /// The most events of a trace.
+    pub longest: usize,
+}
+
 /// Ends that were found by calls, each once.
 #[derive(Drop)]
 pub struct FoundByCalls {
@@ -46,18 +57,21 @@ fn coming(config: &Config, setting: &Setting, next: Option<Event>) -> Option<Eve
     }
 }
 
-/// The end that a player comes to, with its trace. The player stops at an event that can't come.
+/// The end that a player comes to, with its trace. The player stops at an event that can't come, and
+/// after `longest` events. Its events are counted, also if it comes to no end.
 fn played(
     alloc: Global,
     setting: &Setting,
     first: Config,
     player: &mut Player<'_>,
+    longest: usize,
+    events: &mut usize,
 ) -> Result<Option<Found>, AllocError>
     ensures { IfOk result (λ found. IfSome found (IsShownBy setting.now first)) }
 {
     let mut config = first;
     let mut trace = Vec::new(alloc);
-    for _ in 0..u64::MAX {
+    for _ in 0..longest {
         let next = player.next(alloc, &config)?;
         let Some(event) = coming(&config, setting, next) else {
             break;
@@ -65,6 +79,7 @@ fn played(
         config.apply_event(alloc, setting, event)?;
         trace.push(event)?;
     }
+    *events = events.saturating_add(trace.len());
     let end = config.position.state();
     if is_end_at(end) {
         return Ok(Some(Found { end, trace }));
@@ -79,12 +94,14 @@ fn traced(
     search: &Search,
     root: &Explored,
     way: u32,
+    longest: usize,
+    events: &mut usize,
 ) -> Result<Option<Found>, AllocError>
     ensures { IfOk result (λ found. IfSome found (IsEndOf setting.now)) }
 {
     let first = Config::start(alloc, setting)?;
     let mut player = Player::begin(alloc, setting, &search.table, root, way)?;
-    played(alloc, setting, first, &mut player)
+    played(alloc, setting, first, &mut player, longest, events)
 }
 
 /// Is this the end of one of the root's ways?
@@ -131,6 +148,7 @@ fn listed(
     setting: &Setting,
     search: &Search,
     root: &Explored,
+    longest: usize,
     known: Vec<Found>,
 ) -> Result<FoundByCalls, AllocError>
     requires { AreEnds setting.now known.items }
@@ -144,10 +162,18 @@ fn listed(
             is_closed = false;
             break;
         }
-        match traced(alloc, setting, search, root, number(way))? {
+        let one = traced(
+            alloc,
+            setting,
+            search,
+            root,
+            number(way),
+            longest,
+            &mut events,
+        )?;
+        match one {
             Some(one) => {
                 is_closed = is_closed && is_end_of(root, way, one.end);
-                events = events.saturating_add(one.trace.len());
                 found = with_end(found, one)?;
             }
             None => is_closed = false,
@@ -165,15 +191,15 @@ fn listed(
 fn searched(
     alloc: Global,
     setting: &Setting,
-    most: usize,
+    room: Room,
     known: Vec<Found>,
 ) -> Result<FoundByCalls, AllocError>
     requires { AreEnds setting.now known.items }
     ensures { IfOk result (λ r. AreEnds setting.now r.found.items) }
 {
-    let search = explored(alloc, setting, most)?;
+    let search = explored(alloc, setting, room.states)?;
     match search.root() {
-        Some(root) => listed(alloc, setting, &search, root, known),
+        Some(root) => listed(alloc, setting, &search, root, room.longest, known),
         None => Ok(FoundByCalls {
             found: known,
             states: search.states,
@@ -198,8 +224,7 @@ fn is_whole(
     are_whole(alloc, setting, calls.found.as_slice(), most)
 }
 
-/// Ends of an accepted program, found call by call, after those that are known. The search stops
-/// once it has more than `most` states, and its table of calls has at most `most_in_table`.
+/// Ends of a program, found call by call, after those that are known.
 ///
 /// # Errors
 ///
@@ -207,15 +232,14 @@ fn is_whole(
 pub fn ends_by_calls(
     alloc: Global,
     setting: &Setting,
-    most: usize,
-    most_in_table: usize,
+    room: Room,
     known: Vec<Found>,
 ) -> Result<FoundByCalls, AllocError>
     requires { AreEnds setting.now known.items }
     ensures sound { IfOk result (λ r. AreEnds setting.now r.found.items) }
     ensures complete { IfOk result (λ r. AreWhole r.whole setting.now r.found.items) }
 {
-    let mut calls = searched(alloc, setting, most, known)?;
-    calls.whole = is_whole(alloc, setting, &calls, most_in_table)?;
+    let mut calls = searched(alloc, setting, room, known)?;
+    calls.whole = is_whole(alloc, setting, &calls, room.states_of_table)?;
     Ok(calls)
 }

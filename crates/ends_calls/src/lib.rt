@@ -1,4 +1,4 @@
-//! Ends of an accepted program, found call by call.
+//! Ends of a program, found call by call.
 #![tactic(auto)]
 
 pub mod aim;

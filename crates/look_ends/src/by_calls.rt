@@ -7,7 +7,8 @@ ghost use Rattle.ends_plain.specs.declared.config.Setting.{Setting};
 ghost use Rattle.laws_runs.specs.Runs.{NeverFaults};
 
 use crate::progress::Progress;
-use ends_calls::ends::{FoundByCalls, ends_by_calls};
+use ends_calls::ends::{FoundByCalls, Room, ends_by_calls};
+use ends_faults::never_faults;
 use ends_plain::config::{EndsFound, Found, Setting};
 use look_options::Limits;
 use std::alloc::{AllocError, Global};
@@ -17,10 +18,17 @@ use sts_plain::PlainState;
 pub(crate) const MOST_STATES: u32 = 1_000_000;
 
 /// The most states of the first try of a search by calls.
-const FIRST_TRY: u32 = 2_000;
+const FIRST_TRY: usize = 2_000;
 
 /// Each further try may have this many times the states of the one before.
-const MORE: u32 = 8;
+const MORE: usize = 8;
+
+/// No trace of an accepted program has more events. Each of its 1,000,000 steps may follow an
+/// interrupt and an expiry.
+const LONGEST: usize = 3_000_000;
+
+/// A trace of a refused program is cut off after this number of events. Its run may have no end.
+const LONGEST_OF_REFUSED: usize = 100_000;
 
 /// The most states of a search over all schedules, times the events of the longest trace that is
 /// known, if no number of states is named. A state of a longer run is larger.
@@ -45,17 +53,36 @@ fn most_of(limits: Limits) -> u32 {
     limits.states.unwrap_or(MOST_STATES)
 }
 
-/// A search by calls that found nothing.
-fn nothing(alloc: Global) -> FoundByCalls
-    ensures sound { (g : Setting) → AreEnds g result.found.items }
-    ensures part { result.whole ≡ false }
+/// Is it known that no run of the program faults? Of a refused one a table has to show it.
+fn is_faultless(
+    alloc: Global,
+    setting: &Setting,
+    is_refused: bool,
+    limits: Limits,
+) -> Result<bool, AllocError>
+    requires never { is_refused ≡ false → NeverFaults setting.now.program }
+    ensures { IfOk result (λ yes. yes ≡ true → NeverFaults setting.now.program) }
 {
-    FoundByCalls {
-        found: Vec::new(alloc),
-        states: 0,
-        is_closed: false,
-        whole: false,
+    if !is_refused {
+        return Ok(true);
     }
+    never_faults(alloc, &setting.program, most_of(limits) as usize)
+}
+
+/// Ends of a program whose runs may fault. There may be more.
+fn some_ends(alloc: Global, setting: &Setting, limits: Limits) -> Result<FoundByCalls, AllocError>
+    ensures sound { IfOk result (λ r. AreEnds setting.now r.found.items) }
+    ensures part { IfOk result (λ r. r.whole ≡ false) }
+{
+    let room = Room {
+        states: (most_of(limits) as usize).min(FIRST_TRY),
+        states_of_table: 0,
+        longest: LONGEST_OF_REFUSED,
+    };
+    let mut calls = ends_by_calls(alloc, setting, room, Vec::new(alloc))?;
+    calls.is_closed = false;
+    calls.whole = false;
+    Ok(calls)
 }
 
 /// The ends that a search by calls finds. It begins again with more states until it has found them
@@ -63,28 +90,33 @@ fn nothing(alloc: Global) -> FoundByCalls
 fn tried<P: Progress>(
     alloc: Global,
     setting: &Setting,
+    longest: usize,
     limits: Limits,
     progress: &mut P,
 ) -> Result<FoundByCalls, AllocError>
     ensures sound { IfOk result (λ r. AreEnds setting.now r.found.items) }
     ensures complete { IfOk result (λ r. AreWhole r.whole setting.now r.found.items) }
 {
-    let most = most_of(limits);
-    let table = most as usize;
-    let mut room = most.min(FIRST_TRY);
-    let mut calls = ends_by_calls(alloc, setting, room as usize, table, Vec::new(alloc))?;
+    let most = most_of(limits) as usize;
+    let mut room = Room {
+        states: most.min(FIRST_TRY),
+        states_of_table: most,
+        longest,
+    };
+    let mut calls = ends_by_calls(alloc, setting, room, Vec::new(alloc))?;
     for _ in 0..u64::MAX {
-        let is_cut_off = calls.states > room as usize;
-        if !is_cut_off || room >= most || !progress.goes_on(limits.seconds) {
+        let is_cut_off = calls.states > room.states;
+        if !is_cut_off || room.states >= most || !progress.goes_on(limits.seconds) {
             break;
         }
-        room = room.saturating_mul(MORE).min(most);
-        calls = ends_by_calls(alloc, setting, room as usize, table, Vec::new(alloc))?;
+        room.states = room.states.saturating_mul(MORE).min(most);
+        calls = ends_by_calls(alloc, setting, room, Vec::new(alloc))?;
     }
     Ok(calls)
 }
 
-/// The ends of an accepted program that a search by calls finds, and none of a refused one.
+/// The ends that a search by calls finds. If the program is refused, a table has to show first that
+/// no run faults: else there may be more ends.
 pub(crate) fn by_calls<P: Progress>(
     alloc: Global,
     setting: &Setting,
@@ -92,13 +124,19 @@ pub(crate) fn by_calls<P: Progress>(
     limits: Limits,
     progress: &mut P,
 ) -> Result<FoundByCalls, AllocError>
+    requires never { is_refused ≡ false → NeverFaults setting.now.program }
     ensures sound { IfOk result (λ r. AreEnds setting.now r.found.items) }
-    ensures complete { IfOk result (λ r. AreWhole r.whole setting.now r.found.items) }
+    ensures complete { IfOk result (λ r. r.whole ≡ true → AreAllOf setting.now r.found.items) }
 {
-    if is_refused {
-        return Ok(nothing(alloc));
+    if !is_faultless(alloc, setting, is_refused, limits)? {
+        return some_ends(alloc, setting, limits);
     }
-    tried(alloc, setting, limits, progress)
+    let longest = if is_refused {
+        LONGEST_OF_REFUSED
+    } else {
+        LONGEST
+    };
+    tried(alloc, setting, longest, limits, progress)
 }
 
 /// The number of events of the longest trace.
@@ -111,12 +149,12 @@ fn longest(found: &[Found]) -> usize {
 }
 
 /// The most states of a search over all schedules, once these ends are known.
-pub(crate) fn room_after(limits: Limits, found: &[Found]) -> usize {
+pub(crate) fn room_after(limits: Limits, is_refused: bool, calls: &FoundByCalls) -> usize {
     let most = most_of(limits) as usize;
-    if limits.states.is_some() {
+    if limits.states.is_some() || (is_refused && !calls.whole) {
         return most;
     }
-    match STATES_TIMES_EVENTS.checked_div(longest(found)) {
+    match STATES_TIMES_EVENTS.checked_div(longest(calls.found.as_slice())) {
         Some(room) => most.min(room),
         None => most,
     }
@@ -186,16 +224,28 @@ fn joined(setting: &Setting, calls: FoundByCalls, ends: EndsFound) -> Result<Ans
     })
 }
 
-/// The ends of a search by calls, if these are all ends. If not, those of a search over all
-/// schedules that stopped are there, too.
-fn called(setting: &Setting, calls: FoundByCalls, ends: EndsFound) -> Result<Answer, AllocError>
+/// The ends of a search over all schedules. If it stopped, those of a search by calls are there,
+/// too; and these alone, if they are all ends.
+pub(crate) fn answered(
+    setting: &Setting,
+    calls: FoundByCalls,
+    ends: EndsFound,
+) -> Result<Answer, AllocError>
     requires calls { AreEnds setting.now calls.found.items }
-    requires all { AreWhole calls.whole setting.now calls.found.items }
-    requires never { NeverFaults setting.now.program }
+    requires called { calls.whole ≡ true → AreAllOf setting.now calls.found.items }
     requires ends { AreEnds setting.now ends.found.items }
+    requires all { ends.whole ≡ true → AreAllOf setting.now ends.found.items }
     ensures sound { IfOk result (λ a. AreEnds setting.now a.found.items) }
     ensures complete { IfOk result (λ a. a.whole ≡ true → AreAllOf setting.now a.found.items) }
 {
+    if ends.whole {
+        return Ok(Answer {
+            found: ends.found,
+            states: ends.states,
+            whole: true,
+            by_calls: None,
+        });
+    }
     if calls.whole {
         return Ok(Answer {
             found: calls.found,
@@ -205,31 +255,4 @@ fn called(setting: &Setting, calls: FoundByCalls, ends: EndsFound) -> Result<Ans
         });
     }
     joined(setting, calls, ends)
-}
-
-/// The ends of a search over all schedules. If it stopped, and the program is accepted, those of a
-/// search by calls are there, too.
-pub(crate) fn answered(
-    setting: &Setting,
-    is_refused: bool,
-    calls: FoundByCalls,
-    ends: EndsFound,
-) -> Result<Answer, AllocError>
-    requires calls { AreEnds setting.now calls.found.items }
-    requires called { AreWhole calls.whole setting.now calls.found.items }
-    requires never { is_refused ≡ false → NeverFaults setting.now.program }
-    requires ends { AreEnds setting.now ends.found.items }
-    requires all { ends.whole ≡ true → AreAllOf setting.now ends.found.items }
-    ensures sound { IfOk result (λ a. AreEnds setting.now a.found.items) }
-    ensures complete { IfOk result (λ a. a.whole ≡ true → AreAllOf setting.now a.found.items) }
-{
-    if ends.whole || is_refused {
-        return Ok(Answer {
-            found: ends.found,
-            states: ends.states,
-            whole: ends.whole,
-            by_calls: None,
-        });
-    }
-    called(setting, calls, ends)
 }

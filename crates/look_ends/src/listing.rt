@@ -159,11 +159,11 @@ fn of_all<F: EndsForm, P: Progress>(
         names,
     };
     reported(alloc, told, calls.found.as_slice(), progress)?;
-    let room = room_after(limits, calls.found.as_slice());
+    let room = room_after(limits, is_refused, &calls);
     let exploration = explored(alloc, setting, room, limits.seconds, progress)?;
     let ends = exploration.ends(alloc)?;
     let asked = exploration.setting();
-    let all = answered(asked, is_refused, calls, ends)?;
+    let all = answered(asked, calls, ends)?;
     searched(alloc, form, names, asked, is_refused, number, &all)
 }
 
