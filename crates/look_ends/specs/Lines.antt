@@ -79,7 +79,7 @@ no_fault_words may_expire most =
     codes "refused, but no run "
     ++ (interrupt_words most ++ (expiry_words may_expire ++ codes " faults\n"))
 
--- the verifier refuses the program, all runs with these events were searched, and none faults
+-- the program is refused, these are the ends of all runs with these events, and none is a fault
 abbrev pub refused_line : Setting → Bool → Bool → List Found → List ℕ
 refused_line g is_refused whole found =
     if is_refused && (whole && not (has_fault found)) then no_fault_words g.expiries g.interrupts

@@ -65,8 +65,8 @@ fn say_no_fault(alloc: Global, out: &mut Vec<u8>, setting: &Setting) -> Result<(
     say(out, " faults\n")
 }
 
-/// Appends that no run with the events of the search faults, if the verifier refuses the program
-/// and a search of all these runs found no fault.
+/// Appends that no run with the events of the search faults, if the verifier refuses the program,
+/// these are the ends of all such runs, and none is a fault.
 pub(crate) fn say_refused(
     alloc: Global,
     out: &mut Vec<u8>,

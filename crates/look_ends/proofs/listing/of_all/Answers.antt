@@ -10,7 +10,6 @@ pub answered-requires : goal.answered-requires
 answered-requires g c = record {
   calls = rw (c.setting-asked.ensures, c.in_ok-exploration.ensures) c.in_ok-calls.ensures.sound;
   called = rw (c.setting-asked.ensures, c.in_ok-exploration.ensures) c.in_ok-calls.ensures.complete;
-  never = rw (c.setting-asked.ensures, c.in_ok-exploration.ensures) c.requires.never;
   ends = rw c.setting-asked.ensures c.in_ok-ends.ensures.sound;
   all = rw c.setting-asked.ensures c.in_ok-ends.ensures.complete;
 }
