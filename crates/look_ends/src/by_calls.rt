@@ -53,7 +53,7 @@ fn most_of(limits: Limits) -> u32 {
     limits.states.unwrap_or(MOST_STATES)
 }
 
-/// Is it known that no run of the program faults? Of a refused one a table has to show it.
+/// Is it known that no run of the program faults? If it is refused, a table has to show it.
 fn is_faultless(
     alloc: Global,
     setting: &Setting,
