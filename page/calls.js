@@ -55,13 +55,13 @@ class Calls {
   }
 
   // At most so many states are kept.
-  ends(text, most) {
-    return this.call("sts_ends", [most], [text]);
+  ends(text, most, { expiries = true, interrupts = 0 } = {}) {
+    return this.call("sts_ends", [most, Number(expiries), interrupts], [text]);
   }
 
   // Also the trace of the end of this number.
-  endsAndTrace(text, most, number) {
-    return this.call("sts_ends_and_trace", [most, number], [text], ["text", "trace"]);
+  endsAndTrace(text, most, number, { expiries = true, interrupts = 0 } = {}) {
+    return this.call("sts_ends_and_trace", [most, Number(expiries), interrupts, number], [text], ["text", "trace"]);
   }
 
   // The status, and each output by its name.

@@ -16,6 +16,7 @@ const STATES_ON_REQUEST = 20000;
 
 let calls = null;
 let mostStates = STATES_AT_ONCE; // of the search whose ends are shown
+let mayCome = { expiries: true, interrupts: 0 }; // in that search
 let marked = null; // the line of the text that is marked
 let parts = []; // what stands before the first event and after each
 let namedParts = []; // the same with lines and names of the text
@@ -118,14 +119,21 @@ function showEnds(found) {
   element("more").hidden = found.status !== STOPPED || mostStates === STATES_ON_REQUEST;
 }
 
+// Which events may come besides steps. A field with no number in its range counts as 0.
+function chosenEvents() {
+  const interrupts = element("interrupts");
+  return { expiries: element("expiries").checked, interrupts: interrupts.checkValidity() ? Number(interrupts.value) : 0 };
+}
+
 function findEnds(most) {
   mostStates = most;
-  showEnds(calls.ends(element("text").value, most));
+  mayCome = chosenEvents();
+  showEnds(calls.ends(element("text").value, most, mayCome));
 }
 
 // Shows the lines and the trace of one search.
 function playEnd(number) {
-  const found = calls.endsAndTrace(element("text").value, mostStates, number);
+  const found = calls.endsAndTrace(element("text").value, mostStates, number, mayCome);
   showEnds(found);
   element("ends").querySelector(`[data-end="${number}"]`)?.focus();
   if (!HAS_NO_RUN.includes(found.status)) {
@@ -297,6 +305,8 @@ function connect() {
   window.onhashchange = guarded(takeLink);
   element("more").textContent = `Search ${STATES_ON_REQUEST} states`;
   element("more").onclick = guarded(() => findEnds(STATES_ON_REQUEST));
+  element("expiries").onchange = guarded(() => findEnds(STATES_AT_ONCE));
+  element("interrupts").oninput = guarded(() => findEnds(STATES_AT_ONCE));
   element("first").onclick = guarded(() => move(0));
   element("back").onclick = guarded(() => move(at - 1));
   element("forward").onclick = guarded(() => move(at + 1));

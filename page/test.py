@@ -3,9 +3,9 @@
 
 - each call answers what `sts` and `look` print, with their status: over every example and every beginning of its trace, and
   over texts and traces with faults, refused texts, and runs that fault;
-- the ends of the programs of checks/ends.rows are those that were worked out by hand. The page shows what `look ends` prints. A
-  click on an end plays the trace that `look ends --trace` writes, and `sts` comes to that end by it. A search stops after
-  1,000 states, and on request after 20,000;
+- the ends of the programs of checks/ends.rows are those that were worked out by hand. The page shows what `look ends` prints,
+  also without expiries and with interrupts. A click on an end plays the trace that `look ends --trace` writes, and `sts` comes
+  to that end by it. A search stops after 1,000 states, and on request after 20,000;
 - texts are explained as the rows of checks/look_rows say, and the line that is named is marked and in view;
 - every example is played by the page's own buttons, after each event of its trace. There is a button for each event that
   counts there and no other, as `look view --each` says. Next to the listing is a number for each task that lives, at its
@@ -92,6 +92,18 @@ MANY_ENDS = (
     "a search by calls of 17 states found no other end; that there is none is not proved\n"
 )
 PATIENCE = 10  # seconds that a search of the page may take at most
+# Which events may come: as the page's calls take it, and as words of `look ends`.
+EVENTS = [
+    ({}, []),
+    ({"expiries": False}, ["--no-expiries"]),
+    ({"interrupts": 1}, ["--interrupts", "1"]),
+    ({"expiries": False, "interrupts": 2}, ["--no-expiries", "--interrupts", "2"]),
+]
+# A subtask that succeeds with 5, fails with 6 if it is interrupted, and its scope may expire before it ends.
+PATIENT = (
+    "func give 0\ninterrupted\njz well\npush 6\nfail\nwell:\npush 5\nret\nend\nfunc main 0\nopen s0 all timed\nfork s0 give _\n"
+    "join s0 bad late intr\npop\ntotal s0\nclose s0\nret\nbad:\nclose s0\nfail\nlate:\npush 7\nclose s0\nfail\nintr:\npush 8\nclose s0\nfail\nend\n"
+)
 # A text whose longest path ends in line 10.
 TOO_LONG = "func main 0\npush 499\ntimes 499\npush 2001\ntimes 2001\nnext\nnext\npush 0\npush 0\nret\nend\n"
 
@@ -128,13 +140,13 @@ class Programs:
         status, printed = self.says(self.look, "draw", [text, trace], *options)
         return [status, untitled(printed)]
 
-    def ends(self, text, most=AT_ONCE):
-        return self.says(self.look, "ends", [text], "--most", str(most))
+    def ends(self, text, most=AT_ONCE, events=()):
+        return self.says(self.look, "ends", [text], "--most", str(most), *events)
 
-    def ends_and_trace(self, text, number, most=AT_ONCE):
+    def ends_and_trace(self, text, number, events=()):
         """Returns also the trace of the end of this number."""
         with tempfile.NamedTemporaryFile("r") as trace:
-            printed = self.says(self.look, "ends", [text], "--most", str(most), "--trace", str(number), trace.name)
+            printed = self.says(self.look, "ends", [text], "--most", str(AT_ONCE), *events, "--trace", str(number), trace.name)
             return [*printed, trace.read()]
 
     def heads(self, text, trace):
@@ -180,8 +192,8 @@ class Page:
         told = f"((it) => [it.status, it.text])(calls.{name}({', '.join(map(json.dumps, words))}))"
         return self.chromium.value(told)
 
-    def ends_and_trace(self, text, number, most=AT_ONCE):
-        words = ", ".join(map(json.dumps, (text, most, number)))
+    def ends_and_trace(self, text, number, events):
+        words = ", ".join(map(json.dumps, (text, AT_ONCE, number, events)))
         return self.chromium.value(f"((it) => [it.status, it.text, it.trace])(calls.endsAndTrace({words}))")
 
     def click(self, selector):
@@ -194,6 +206,9 @@ class Page:
 
     def written(self, identity):
         return self.chromium.value(f"element({json.dumps(identity)}).value")
+
+    def checked(self, identity):
+        return self.chromium.value(f"element({json.dumps(identity)}).checked")
 
     def write(self, identity, text):
         found = f"element({json.dumps(identity)})"
@@ -265,12 +280,13 @@ def same_calls(page, programs, name, text, traces):
 
 def same_ends(page, programs, name, text):
     """Yields whether the calls for the ends of a text answer what `look ends` prints, and the trace that it writes."""
-    printed = programs.ends(text)
-    yield f"ends of {name}", page.call("ends", text, AT_ONCE) == printed
     yield f"ends of {name} in 2 states", page.call("ends", text, 2) == programs.ends(text, 2)
-    for number in range(len(ends_of(printed[1])) + 2):
-        found = page.ends_and_trace(text, number)
-        yield f"ends of {name} with trace {number}", found == programs.ends_and_trace(text, number)
+    for events, words in EVENTS:
+        printed = programs.ends(text, AT_ONCE, words)
+        yield f"ends of {name} {words}", page.call("ends", text, AT_ONCE, events) == printed
+        for number in range(len(ends_of(printed[1])) + 2):
+            found = page.ends_and_trace(text, number, events)
+            yield f"ends of {name} {words} with trace {number}", found == programs.ends_and_trace(text, number, words)
 
 
 def ends_of(printed):
@@ -325,11 +341,11 @@ def ends_by_hand(page):
         yield f"the ends of {text!r}", status == 0 and is_right
 
 
-def end_played(page, programs, what, text, number, end):
+def end_played(page, programs, what, text, number, end, words=()):
     """Clicks the line of an end, and yields whether its trace is played, which leads to this end."""
-    trace = programs.ends_and_trace(text, number)[2]
+    trace = programs.ends_and_trace(text, number, words)[2]
     yield f"{what}: a click on end {number}", page.click(f'#ends [data-end="{number}"]')
-    yield f"{what}: the lines after it", page.ends() == programs.ends(text)[1]
+    yield f"{what}: the lines after it", page.ends() == programs.ends(text, AT_ONCE, words)[1]
     yield f"{what}: the trace of end {number}", page.written("trace") == trace
     yield f"{what}: its end", ends.by_line(text, programs.says(programs.sts, "plain", [text, trace])[1].splitlines()[0]) == end
     yield from stands(page, programs, f"{what}: after end {number}", text, trace, trace)
@@ -353,6 +369,25 @@ def all_ends_played(page, programs):
         yield f"the ends of {text[:40]!r}", page.ends() == programs.ends(text)[1]
         for place, end in ends_of(page.ends()).items():
             yield from end_played(page, programs, repr(text[:40]), text, place, end)
+
+
+def events_chosen(page, programs):
+    """Yields whether the fields below the ends decide which events may come, also when an end is clicked."""
+    page.write("text", PATIENT)
+    expected = [["failed 7", "success 5"], ["success 5"], ["failed 6", "failed 7", "failed 8", "success 5"], ["failed 6", "failed 8", "success 5"]]
+    for (_, words), by_hand in zip(EVENTS, expected):
+        if page.checked("expiries") == ("--no-expiries" in words):
+            page.click("#expiries")
+        page.write("interrupts", words[-1] if "--interrupts" in words else "0")
+        what = f"a patient program {words}"
+        yield f"{what}: the ends by hand", sorted(ends_of(page.ends()).values()) == by_hand
+        yield f"{what}: the ends", page.ends() == programs.ends(PATIENT, AT_ONCE, words)[1]
+        for place, end in ends_of(page.ends()).items():
+            yield from end_played(page, programs, what, PATIENT, place, end, words)
+    for written in ("", "-1", "100", "1.5"):
+        page.write("interrupts", written)
+        yield f"{written!r} interrupts are none", page.ends() == programs.ends(PATIENT)[1]
+    page.write("interrupts", "0")
 
 
 def searches_stopped(page, programs):
@@ -645,6 +680,7 @@ def tried(path, programs):
         yield from ends_by_hand(page)
         yield from all_played(page, programs)
         yield from all_ends_played(page, programs)
+        yield from events_chosen(page, programs)
         yield from searches_stopped(page, programs)
         yield from faults_told(page, programs)
         yield from as_written(page, programs)

@@ -23,4 +23,4 @@ Prints (asked.NamedView wanted) text trace o = IsNamedViewOf wanted text trace o
 Prints asked.Explanation text trace o = IsNamedExplanation text o
 Prints asked.RunExplanation text trace o = IsRunExplanation text trace o
 Prints (asked.Picture brief) text trace o = IsPictureOf (all_events brief) None text trace o
-Prints (asked.Ends most) text trace o = IsListing most text o
+Prints (asked.Ends wanted) text trace o = IsListing wanted text o

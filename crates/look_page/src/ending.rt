@@ -18,14 +18,13 @@ pub(crate) struct Ending {
     pub(crate) trace: Vec<u8>,
 }
 
-/// All schedules, with expiries and without interrupts from outside, as long as the search keeps no
-/// more than `most` states.
-pub(crate) fn wanted(most: u32) -> EndsOptions
-    ensures { result ≡ ends_wanted most }
+/// All schedules, as long as the search keeps no more than `most` states.
+pub(crate) fn wanted(most: u32, expiries: bool, interrupts: u32) -> EndsOptions
+    ensures { result ≡ ends_wanted most expiries interrupts }
 {
     EndsOptions {
-        expiries: true,
-        interrupts: 0,
+        expiries,
+        interrupts,
         manner: Manner::All {
             limits: Limits {
                 states: Some(most),
@@ -58,15 +57,15 @@ fn spelled(alloc: Global, listing: Listing) -> Result<Ending, AllocError>
 /// Memory ran out.
 pub(crate) fn traced(
     alloc: Global,
-    most: u32,
+    wanted: EndsOptions,
     number: u32,
     text: &[u8],
 ) -> Result<Ending, AllocError>
     ensures { IfOk result (λ e. (r : Listing)
-        × IsListingOf (ends_wanted most) (Some number) text.now r
+        × IsListingOf wanted (Some number) text.now r
         × (e.printed.items ≡ r.output.bytes) × (e.status ≡ r.output.status)
         × (e.trace.items ≡ trace_text r.trace)) }
 {
-    let listing = listed(alloc, wanted(most), Some(number), text, &mut Silent)?;
+    let listing = listed(alloc, wanted, Some(number), text, &mut Silent)?;
     spelled(alloc, listing)
 }

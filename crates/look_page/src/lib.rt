@@ -9,14 +9,14 @@ ghost use Rattle.look_places.specs.Named.{IsNamedExplanation};
 ghost use Rattle.look_run.specs.Output.{IsRunExplanation};
 ghost use Rattle.look_lines.specs.View.{IsViewOf};
 ghost use Rattle.look_view.specs.View.{IsNamedViewOf};
-ghost use Rattle.look_page.specs.Ends.{HandsEnds, IsListing};
+ghost use Rattle.look_page.specs.Ends.{HandsEnds, IsListing, ends_wanted};
 ghost use Rattle.look_page.specs.Handed.{Hands, IsHanded};
 ghost use Rattle.look_page.specs.Printed.{Prints, all_events};
 
 mod ending;
 mod printing;
 
-use crate::ending::traced;
+use crate::ending::{traced, wanted};
 use crate::printing::{Asked, print};
 use look_options::ViewOptions;
 use std::alloc::Global;
@@ -194,28 +194,33 @@ pub extern "C" fn sts_draw(
     shown(alloc, Asked::Picture { brief }, text, trace, out, size)
 }
 
-/// Every end that a text can come to, as `look ends --most N` prints them, handed over as by
-/// `sts_verify`.
+/// Every end that a text can come to, as `look ends --most N --interrupts M` prints them, with
+/// `--no-expiries` by choice. It is handed over as by `sts_verify`.
 #[unsafe(no_mangle)]
 pub extern "C" fn sts_ends(
     alloc: Global,
     most: u32,
+    expiries: bool,
+    interrupts: u32,
     text: &[u8],
     out: &mut [u8],
     size: &mut usize,
 ) -> u8
-    ensures { Hands (IsListing most text.now)
+    ensures { Hands (IsListing (ends_wanted most expiries interrupts) text.now)
         (record { status = result; size = size.new; before = out.old; after = out.new }) }
 {
-    shown(alloc, Asked::Ends(most), text, &[], out, size)
+    let asked = Asked::Ends(wanted(most, expiries, interrupts));
+    shown(alloc, asked, text, &[], out, size)
 }
 
-/// What `look ends --most N --trace K` prints, handed over as by `sts_verify`, and in the same way
-/// the trace that it writes, to `trace` and `trace_size`: that of the end of this number.
+/// The lines of `sts_ends`, and in the same way the trace of the end of this number, which goes to
+/// `trace` and `trace_size`: what `look ends --trace K` prints and writes.
 #[unsafe(no_mangle)]
 pub extern "C" fn sts_ends_and_trace(
     alloc: Global,
     most: u32,
+    expiries: bool,
+    interrupts: u32,
     number: u32,
     text: &[u8],
     out: &mut [u8],
@@ -223,11 +228,11 @@ pub extern "C" fn sts_ends_and_trace(
     trace: &mut [u8],
     trace_size: &mut usize,
 ) -> u8
-    ensures { HandsEnds most number text.now
+    ensures { HandsEnds (ends_wanted most expiries interrupts) number text.now
         (record { status = result; size = size.new; before = out.old; after = out.new })
         (record { status = result; size = trace_size.new; before = trace.old; after = trace.new }) }
 {
-    match traced(alloc, most, number, text) {
+    match traced(alloc, wanted(most, expiries, interrupts), number, text) {
         Ok(end) => {
             hand(end.trace.as_slice(), end.status, trace, trace_size);
             hand(end.printed.as_slice(), end.status, out, size)

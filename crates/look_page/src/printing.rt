@@ -4,10 +4,9 @@ ghost use Rattle.std.specs.Prelude.{IfOk, Some};
 ghost use Rattle.sts_output.specs.Output.{Output, Writes};
 ghost use Rattle.look_page.specs.Printed.{Prints};
 
-use crate::ending::wanted;
 use look_ends::{Silent, write_ends};
 use look_lines::write_run;
-use look_options::{DrawOptions, ViewOptions, Window};
+use look_options::{DrawOptions, EndsOptions, ViewOptions, Window};
 use look_picture::draw;
 use look_places::write_named;
 use look_run::explain_run;
@@ -32,8 +31,8 @@ pub(crate) enum Asked {
     RunExplanation,
     /// Of all events, or of those that the story of the run lists.
     Picture { brief: bool },
-    /// Every end, with at most this number of states.
-    Ends(u32),
+    /// Every end that a search finds.
+    Ends(EndsOptions),
 }
 
 /// Writes it, and gives the status.
@@ -64,6 +63,6 @@ pub(crate) fn print(
             };
             draw(alloc, options, None, text, trace, printed)
         }
-        Asked::Ends(most) => write_ends(alloc, wanted(most), text, &mut Silent, printed),
+        Asked::Ends(wanted) => write_ends(alloc, wanted, text, &mut Silent, printed),
     }
 }

@@ -14,7 +14,7 @@ refused (asked.NamedView wanted) text trace = inr refl
 refused asked.Explanation text trace = inr refl
 refused asked.RunExplanation text trace = inr refl
 refused (asked.Picture brief) text trace = inr refl
-refused (asked.Ends most) text trace = (alone memory_output, inr refl, refl)
+refused (asked.Ends wanted) text trace = (alone memory_output, inr refl, refl)
 
 pub returns : goal.returns
 returns c = (memory_output, refused c.args.asked c.args.text.now c.args.trace.now, c.hand-in-Err.ensures)
