@@ -14,12 +14,16 @@ use crate::whole::are_whole;
 use ends_plain::config::{Config, Found, Setting};
 use ends_plain::ends::is_end_at;
 use ends_plain::shorter::can_come;
+use ends_plain::trace::Trace;
 use std::alloc::{AllocError, Global};
 use sts_model::Event;
 use sts_plain::PlainState;
 
 /// Traces are made as long as those before have no more than this number of events together.
-const MOST_EVENTS: usize = 16_000_000;
+const MOST_EVENTS: usize = 64_000_000;
+
+/// And no more than this number of runs of equal events, which are kept.
+const MOST_RUNS: usize = 4_000_000;
 
 /// Ends that were found by calls, each once.
 #[derive(Drop)]
@@ -56,7 +60,7 @@ fn played(
     ensures { IfOk result (λ found. IfSome found (IsShownBy setting.now first)) }
 {
     let mut config = first;
-    let mut trace = Vec::new(alloc);
+    let mut trace = Trace::new(alloc);
     for _ in 0..u64::MAX {
         let next = player.next(alloc, &config)?;
         let Some(event) = coming(&config, setting, next) else {
@@ -139,8 +143,9 @@ fn listed(
     let mut is_closed = search.is_closed() && are_ways(root, known.as_slice());
     let mut found = known;
     let mut events: usize = 0;
+    let mut runs: usize = 0;
     for way in 0..root.ways.len() {
-        if events > MOST_EVENTS {
+        if events > MOST_EVENTS || runs > MOST_RUNS {
             is_closed = false;
             break;
         }
@@ -148,6 +153,7 @@ fn listed(
             Some(one) => {
                 is_closed = is_closed && is_end_of(root, way, one.end);
                 events = events.saturating_add(one.trace.len());
+                runs = runs.saturating_add(one.trace.runs());
                 found = with_end(found, one)?;
             }
             None => is_closed = false,

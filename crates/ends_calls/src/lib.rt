@@ -4,6 +4,7 @@
 pub mod aim;
 pub mod begin;
 pub mod call;
+pub mod early;
 pub mod ends;
 pub mod frames;
 pub mod joiners;

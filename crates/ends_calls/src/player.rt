@@ -1,8 +1,9 @@
 //! Finds the events that lead to an end, one at a time.
 //!
 //! The subtasks of a scope do nothing until their owner looks. Then those whose end it sees run
-//! from their beginning to their end, one after the other. The others run once their scope is
-//! cancelled and its `close` waits for them. Nobody sees what they do, so a scope that they open
+//! from their beginning to their end, one after the other. If it will see that the scope is cancelled,
+//! they run as soon as they are forked, and no further subtask starts. The others run once their scope
+//! is cancelled and its `close` waits for them. Nobody sees what they do, so a scope that they open
 //! expires before they fork, if it can. Its subtasks then never start, and the trace is shorter.
 
 use crate::aim::{FirstSteps, Leg, Role};
@@ -43,6 +44,8 @@ pub struct Player<'a> {
     coming: Vec<Event>,
     /// Is the run not as it was planned?
     is_wrong: bool,
+    /// Does each cancel come as early as it can?
+    hurries: bool,
     /// The tasks that lead to the one that the run is about, the root's last.
     legs: Vec<Leg>,
     /// The birth number of the task that the run is about.
@@ -161,10 +164,11 @@ fn look(top: &Played, explored: &Explored, instr: Instr) -> Option<(u32, Option<
 fn expiring(top: &Played, explored: &Explored, instr: Instr) -> Option<u32> {
     let (place, _) = look(top, explored, instr)?;
     let (before, after) = scope_at(&top.before(explored)?.own, &top.after(explored)?.own, place)?;
-    if before.facts.expired || !after.facts.expired {
+    let scope = top.scopes.get(place as usize)?;
+    if scope.is_late || before.facts.expired || !after.facts.expired {
         return None;
     }
-    Some(top.scopes.get(place as usize)?.birth)
+    Some(scope.birth)
 }
 
 impl<'a> Player<'a> {
@@ -177,6 +181,7 @@ impl<'a> Player<'a> {
         way: u32,
     ) -> Result<Player<'a>, AllocError> {
         let mut player = Player::idle(alloc, setting, table, root);
+        player.hurries = true;
         let start = Start {
             call: None,
             way,
@@ -200,6 +205,7 @@ impl<'a> Player<'a> {
             jobs: Vec::new(alloc),
             coming: Vec::new(alloc),
             is_wrong: false,
+            hurries: false,
             legs: Vec::new(alloc),
             target: None,
             first: None,
@@ -390,6 +396,10 @@ impl<'a> Player<'a> {
         let interrupts = self.setting.interrupts;
         match top.opening(alloc, self.table, explored, interrupts, birth)? {
             Some(scope) => {
+                let mut scope = scope;
+                if !self.hurries {
+                    scope.early = None;
+                }
                 top.scopes.push(scope)?;
             }
             None => self.is_wrong = true,
@@ -463,13 +473,15 @@ impl<'a> Player<'a> {
         if top.aim.is_some() && top.is_at_end() {
             return self.go_deeper(alloc, &top);
         }
-        if is_at_once(instr) {
-            self.coming.push(Event::Step(top.birth))?;
-        } else if top.is_at_end() {
+        if top.is_at_end() {
             self.coming.push(Event::Step(top.birth))?;
             return Ok(());
         } else if top.is_ready {
             return self.act(alloc, world, top, explored, instr);
+        } else if let Some(place) = top.due() {
+            top.cancel(alloc, self.table, explored, place)?;
+        } else if let Some(s) = top.expiring() {
+            self.coming.push(Event::Expire(s))?;
         } else {
             self.prepare(alloc, &mut top, explored, instr)?;
             top.is_ready = true;
@@ -553,6 +565,35 @@ impl<'a> Player<'a> {
         Ok(())
     }
 
+    /// The task whose instruction comes next, if nothing else comes before it.
+    fn next_task(&self) -> Option<u32> {
+        match self.jobs.last()? {
+            Job::Task(top) => {
+                let goes_deeper = top.aim.is_some() && top.is_at_end();
+                if top.waiting.is_empty() && !goes_deeper {
+                    Some(top.birth)
+                } else {
+                    None
+                }
+            }
+            Job::Close { living, .. } => match living {
+                Some(tasks) => tasks.last().copied(),
+                None => None,
+            },
+        }
+    }
+
+    /// The next event, if it is a step by an instruction that changes only the frame of its task.
+    fn at_once(&self, world: &World) -> Option<Event> {
+        let t = self.next_task()?;
+        let instr = instr_of(self.setting, world, t)?;
+        if is_at_once(instr) {
+            Some(Event::Step(t))
+        } else {
+            None
+        }
+    }
+
     /// Goes on with the innermost job.
     fn turn(&mut self, alloc: Global, world: &World) -> Result<(), AllocError> {
         match self.jobs.pop() {
@@ -590,7 +631,12 @@ impl<'a> Player<'a> {
             if self.jobs.is_empty() {
                 break;
             }
-            self.turn(alloc, world)?;
+            match self.at_once(world) {
+                Some(event) => {
+                    self.coming.push(event)?;
+                }
+                None => self.turn(alloc, world)?,
+            }
         }
         Ok(None)
     }

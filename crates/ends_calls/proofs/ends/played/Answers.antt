@@ -13,4 +13,4 @@ returns-then-is_end_at c = record {
 pub loop-preserved : goal.loop-preserved
 loop-preserved c =
     let e = c.in-Some.event in
-    rw (c.in_ok-push.ensures.items, c.in_ok-apply_event.ensures) (way_more c.args.setting.now c.args.first c.loop.config c.loop.trace.items e c.loop.invariant c.in-Some.ensures)
+    rw (c.in_ok-push.ensures, c.in_ok-apply_event.ensures) (way_more c.args.setting.now c.args.first c.loop.config c.loop.trace e c.loop.invariant c.in-Some.ensures)
