@@ -18,6 +18,8 @@ use sts_model::End;
 pub struct PlayedScope {
     /// Its birth number.
     pub birth: u32,
+    /// How many steps its owner took before it opened the scope.
+    pub opened: usize,
     /// The birth numbers of its subtasks.
     pub births: Vec<u32>,
     /// Which of them were played.
@@ -222,6 +224,7 @@ impl Played {
         let early = early(self, explored, place, close, ways.as_slice());
         Ok(Some(PlayedScope {
             birth,
+            opened: self.at,
             births: Vec::new(alloc),
             played: Vec::new(alloc),
             ways,
@@ -284,7 +287,7 @@ impl Played {
 
 impl PlayedScope {
     /// Does its cancel come after this number of steps of its owner?
-    fn is_cancelled_at(&self, steps: usize) -> bool {
+    pub fn is_cancelled_at(&self, steps: usize) -> bool {
         match self.early {
             Some(early) => early.is_due(steps, self.births.len()),
             None => false,
@@ -294,6 +297,17 @@ impl PlayedScope {
     /// The way of a subtask, if the joiner is told of it.
     fn way(&self, child: u32) -> Option<u32> {
         way_at(self.ways.as_slice(), child)
+    }
+
+    /// The birth numbers of the subtasks that were forked and that nobody hears.
+    pub fn unheard(&self, alloc: Global) -> Result<Vec<u32>, AllocError> {
+        let mut found = Vec::new(alloc);
+        for (child, birth) in self.births.as_slice().iter().enumerate() {
+            if self.way(number(child)).is_none() {
+                found.push(*birth)?;
+            }
+        }
+        Ok(found)
     }
 
     /// Notes that a subtask is played. Returns whether it wasn't before.

@@ -8,6 +8,7 @@
 
 use crate::aim::{FirstSteps, Leg, Role};
 use crate::frames::is_at_once;
+use crate::mark::Mark;
 use crate::own::Held;
 use crate::played::{Played, Start, scope_at};
 use crate::table::{Explored, Label, Table};
@@ -30,6 +31,8 @@ enum Job {
         owner: u32,
         living: Option<Vec<u32>>,
     },
+    /// Tasks that nobody hears, which run ahead of a cancel, the next one last.
+    Ahead(Vec<u32>),
 }
 
 /// A run that is being made.
@@ -46,6 +49,10 @@ pub struct Player<'a> {
     is_wrong: bool,
     /// Does each cancel come as early as it can?
     hurries: bool,
+    /// May the subtasks of the root run ahead of a cancel?
+    may_run_ahead: bool,
+    /// Did they, just now?
+    is_at_mark: bool,
     /// The tasks that lead to the one that the run is about, the root's last.
     legs: Vec<Leg>,
     /// The birth number of the task that the run is about.
@@ -182,6 +189,7 @@ impl<'a> Player<'a> {
     ) -> Result<Player<'a>, AllocError> {
         let mut player = Player::idle(alloc, setting, table, root);
         player.hurries = true;
+        player.may_run_ahead = true;
         let start = Start {
             call: None,
             way,
@@ -189,6 +197,38 @@ impl<'a> Player<'a> {
         };
         player.start(alloc, start)?;
         Ok(player)
+    }
+
+    /// A run up to the end of one of the root's ways, from a mark on, if it goes by there.
+    pub fn resume(
+        alloc: Global,
+        setting: &'a Setting,
+        table: &'a Table,
+        root: &'a Explored,
+        way: u32,
+        mark: &Mark,
+    ) -> Result<Option<Player<'a>>, AllocError> {
+        match mark.resumed(alloc, table, root, setting.interrupts, way)? {
+            None => Ok(None),
+            Some(top) => {
+                let mut player = Player::idle(alloc, setting, table, root);
+                player.hurries = true;
+                player.jobs.push(Job::Task(top))?;
+                Ok(Some(player))
+            }
+        }
+    }
+
+    /// What the root has done so far, if the run has stopped at a mark. It goes on after that.
+    pub fn mark(&mut self, alloc: Global) -> Result<Option<Mark>, AllocError> {
+        if !self.is_at_mark {
+            return Ok(None);
+        }
+        self.is_at_mark = false;
+        match self.jobs.last() {
+            Some(Job::Task(top)) => Mark::of(alloc, top),
+            _ => Ok(None),
+        }
     }
 
     /// A player with nothing to play.
@@ -206,6 +246,8 @@ impl<'a> Player<'a> {
             coming: Vec::new(alloc),
             is_wrong: false,
             hurries: false,
+            may_run_ahead: false,
+            is_at_mark: false,
             legs: Vec::new(alloc),
             target: None,
             first: None,
@@ -460,6 +502,49 @@ impl<'a> Player<'a> {
         }
     }
 
+    /// Lets the subtasks of the root's only scope run ahead that nobody hears.
+    fn begin_ahead(&mut self, alloc: Global, top: Played) -> Result<(), AllocError> {
+        let tasks = match top.scopes.first() {
+            Some(scope) => scope.unheard(alloc)?,
+            None => Vec::new(alloc),
+        };
+        self.may_run_ahead = false;
+        self.jobs.push(Job::Task(top))?;
+        self.jobs.push(Job::Ahead(tasks))?;
+        Ok(())
+    }
+
+    /// Goes on with tasks that run ahead. A task stops before its last step, and where it waits.
+    fn go_ahead(&mut self, world: &World, tasks: Vec<u32>) -> Result<(), AllocError> {
+        let mut tasks = tasks;
+        let Some(t) = tasks.last().copied() else {
+            self.is_at_mark = true;
+            return Ok(());
+        };
+        let ends = matches!(
+            instr_of(self.setting, world, t),
+            None | Some(Instr::Ret | Instr::Fail)
+        );
+        match turn_of(self.setting, world, t) {
+            Turn::Steps if !ends => self.step(world, t)?,
+            _ => {
+                let _ = tasks.pop();
+            }
+        }
+        self.jobs.push(Job::Ahead(tasks))?;
+        Ok(())
+    }
+
+    /// Lets a task step that nobody hears, or a scope expire that it has just opened.
+    fn step(&mut self, world: &World, t: u32) -> Result<(), AllocError> {
+        let event = match idle_scope(self.setting, world, t) {
+            Some(s) => Event::Expire(s),
+            None => Event::Step(t),
+        };
+        self.coming.push(event)?;
+        Ok(())
+    }
+
     /// Goes on with a task at its next instruction.
     fn go_on(
         &mut self,
@@ -479,6 +564,9 @@ impl<'a> Player<'a> {
         } else if top.is_ready {
             return self.act(alloc, world, top, explored, instr);
         } else if let Some(place) = top.due() {
+            if self.may_run_ahead && self.jobs.is_empty() && top.scopes.len() == 1 {
+                return self.begin_ahead(alloc, top);
+            }
             top.cancel(alloc, self.table, explored, place)?;
         } else if let Some(s) = top.expiring() {
             self.coming.push(Event::Expire(s))?;
@@ -517,13 +605,7 @@ impl<'a> Player<'a> {
         t: u32,
     ) -> Result<(), AllocError> {
         match turn_of(self.setting, world, t) {
-            Turn::Steps => {
-                let event = match idle_scope(self.setting, world, t) {
-                    Some(s) => Event::Expire(s),
-                    None => Event::Step(t),
-                };
-                self.coming.push(event)?;
-            }
+            Turn::Steps => self.step(world, t)?,
             Turn::IsOver => {
                 let _ = living_ones.pop();
             }
@@ -580,6 +662,7 @@ impl<'a> Player<'a> {
                 Some(tasks) => tasks.last().copied(),
                 None => None,
             },
+            Job::Ahead(tasks) => tasks.last().copied(),
         }
     }
 
@@ -599,6 +682,7 @@ impl<'a> Player<'a> {
         match self.jobs.pop() {
             None => Ok(()),
             Some(Job::Task(top)) => self.play(alloc, world, top),
+            Some(Job::Ahead(tasks)) => self.go_ahead(world, tasks),
             Some(
                 Job::Close {
                     scope,
@@ -609,14 +693,14 @@ impl<'a> Player<'a> {
         }
     }
 
-    /// The next event, if the run isn't over and goes as it was planned. The events before it have
-    /// led to this state.
+    /// The next event, if the run isn't over or at a mark, and goes as it was planned. The events before
+    /// it have led to this state.
     pub fn next(&mut self, alloc: Global, config: &Config) -> Result<Option<Event>, AllocError> {
         let Some(world) = config.position.world() else {
             return Ok(None);
         };
         for _ in 0..u64::MAX {
-            if self.is_wrong {
+            if self.is_wrong || self.is_at_mark {
                 break;
             }
             if let Some(event) = self.coming.pop() {
