@@ -3,23 +3,30 @@
 ghost use Rattle.std.specs.Prelude.{◌≡◌, true, IfOk, IfSome};
 ghost use Rattle.ends_calls.specs.Whole.{AreWhole};
 ghost use Rattle.ends_plain.specs.Configs.{can};
-ghost use Rattle.ends_plain.specs.Listed.{AreEnds, IsEndOf, IsShownBy};
+ghost use Rattle.ends_calls.specs.Stops.{IsStop, IsMarked, IsTraced};
+ghost use Rattle.ends_plain.specs.Listed.{AreEnds, IsEndOf};
 ghost use Rattle.ends_plain.specs.declared.config.Setting.{Setting};
 
 use crate::call::number;
 use crate::player::Player;
 use crate::search::{Search, explored};
+use crate::stop::{Shared, Stop, Traced};
 use crate::table::Explored;
 use crate::whole::are_whole;
 use ends_plain::config::{Config, Found, Setting};
 use ends_plain::ends::is_end_at;
 use ends_plain::shorter::can_come;
+use ends_plain::trace::Trace;
 use std::alloc::{AllocError, Global};
 use sts_model::Event;
 use sts_plain::PlainState;
 
-/// Traces are made as long as those before have no more than this number of events together.
-const MOST_EVENTS: usize = 16_000_000;
+/// Traces are made as long as those before have no more than this number of events together. A
+/// trace that comes to no end counts as the longest one.
+const MOST_EVENTS: usize = 64_000_000;
+
+/// And no more than this number of runs of equal events, which are kept.
+const MOST_RUNS: usize = 4_000_000;
 
 /// How far a search goes.
 #[derive(Clone, Copy)]
@@ -57,20 +64,20 @@ fn coming(config: &Config, setting: &Setting, next: Option<Event>) -> Option<Eve
     }
 }
 
-/// The end that a player comes to, with its trace. The player stops at an event that can't come, and
-/// after `longest` events. Its events are counted, also if it comes to no end.
-fn played(
+/// The state that a player comes to. It stops at an event that can't come, too, and after `longest`
+/// events.
+fn walked(
     alloc: Global,
     setting: &Setting,
-    first: Config,
+    from: Stop,
     player: &mut Player<'_>,
     longest: usize,
-    events: &mut usize,
-) -> Result<Option<Found>, AllocError>
-    ensures { IfOk result (λ found. IfSome found (IsShownBy setting.now first)) }
+) -> Result<Stop, AllocError>
+    requires { IsStop setting.now from }
+    ensures { IfOk result (IsStop setting.now) }
 {
-    let mut config = first;
-    let mut trace = Vec::new(alloc);
+    let mut config = from.config;
+    let mut trace = from.trace;
     for _ in 0..longest {
         let next = player.next(alloc, &config)?;
         let Some(event) = coming(&config, setting, next) else {
@@ -79,29 +86,121 @@ fn played(
         config.apply_event(alloc, setting, event)?;
         trace.push(event)?;
     }
-    *events = events.saturating_add(trace.len());
-    let end = config.position.state();
+    Ok(Stop { config, trace })
+}
+
+/// The end that a player comes to, with its trace.
+fn played(
+    alloc: Global,
+    setting: &Setting,
+    from: Stop,
+    player: &mut Player<'_>,
+    longest: usize,
+) -> Result<Option<Found>, AllocError>
+    requires { IsStop setting.now from }
+    ensures { IfOk result (λ found. IfSome found (IsEndOf setting.now)) }
+{
+    let last = walked(alloc, setting, from, player, longest)?;
+    let end = last.config.position.state();
     if is_end_at(end) {
-        return Ok(Some(Found { end, trace }));
+        return Ok(Some(Found {
+            end,
+            trace: last.trace,
+        }));
     }
     Ok(None)
 }
 
-/// The end of one of the root's ways, after a trace of it.
-fn traced(
+/// The end of one of the root's ways, after a run that goes on from a mark.
+fn played_on(
+    alloc: Global,
+    setting: &Setting,
+    search: &Search,
+    root: &Explored,
+    way: u32,
+    shared: &Shared,
+    longest: usize,
+) -> Result<Option<Found>, AllocError>
+    requires { IsStop setting.now shared.now.stop }
+    ensures { IfOk result (λ found. IfSome found (IsEndOf setting.now)) }
+{
+    let Some(player) = Player::resume(alloc, setting, &search.table, root, way, &shared.mark)?
+    else {
+        return Ok(None);
+    };
+    let mut player = player;
+    let stop = shared.stop.copied(alloc)?;
+    played(alloc, setting, stop, &mut player, longest)
+}
+
+/// The state at which a player has stopped, if it is at a mark.
+fn marked(alloc: Global, stop: &Stop, player: &mut Player<'_>) -> Result<Option<Shared>, AllocError>
+    ensures { IfOk result (λ shared. IfSome shared (λ s. s.stop ≡ stop.now)) }
+{
+    match player.mark(alloc)? {
+        None => Ok(None),
+        Some(mark) => Ok(Some(Shared {
+            stop: stop.copied(alloc)?,
+            mark,
+        })),
+    }
+}
+
+/// The end of one of the root's ways, after a run from the first state, which may be marked.
+fn played_first(
     alloc: Global,
     setting: &Setting,
     search: &Search,
     root: &Explored,
     way: u32,
     longest: usize,
-    events: &mut usize,
-) -> Result<Option<Found>, AllocError>
-    ensures { IfOk result (λ found. IfSome found (IsEndOf setting.now)) }
+) -> Result<Traced, AllocError>
+    ensures { IfOk result (IsTraced setting.now) }
 {
-    let first = Config::start(alloc, setting)?;
     let mut player = Player::begin(alloc, setting, &search.table, root, way)?;
-    played(alloc, setting, first, &mut player, longest, events)
+    let first = Stop {
+        config: Config::start(alloc, setting)?,
+        trace: Trace::new(alloc),
+    };
+    let stop = walked(alloc, setting, first, &mut player, longest)?;
+    let shared = marked(alloc, &stop, &mut player)?;
+    let found = played(alloc, setting, stop, &mut player, longest)?;
+    Ok(Traced { found, shared })
+}
+
+/// Did this run come to the end of one of the root's ways?
+fn is_right(root: &Explored, way: u32, found: &Option<Found>) -> bool {
+    match found {
+        Some(one) => is_end_of(root, way as usize, one.end),
+        None => false,
+    }
+}
+
+/// The end of one of the root's ways, after a trace of it. The run goes on from a mark of another one,
+/// if it can.
+fn traced(
+    alloc: Global,
+    setting: &Setting,
+    search: &Search,
+    root: &Explored,
+    way: u32,
+    known: Option<Shared>,
+    longest: usize,
+) -> Result<Traced, AllocError>
+    requires { IsMarked setting.now known }
+    ensures { IfOk result (IsTraced setting.now) }
+{
+    let Some(shared) = known else {
+        return played_first(alloc, setting, search, root, way, longest);
+    };
+    let found = played_on(alloc, setting, search, root, way, &shared, longest)?;
+    if is_right(root, way, &found) {
+        return Ok(Traced {
+            found,
+            shared: Some(shared),
+        });
+    }
+    played_first(alloc, setting, search, root, way, longest)
 }
 
 /// Is this the end of one of the root's ways?
@@ -157,26 +256,34 @@ fn listed(
     let mut is_closed = search.is_closed() && are_ways(root, known.as_slice());
     let mut found = known;
     let mut events: usize = 0;
+    let mut runs: usize = 0;
+    let mut shared: Option<Shared> = None;
     for way in 0..root.ways.len() {
-        if events > MOST_EVENTS {
+        if events > MOST_EVENTS || runs > MOST_RUNS {
             is_closed = false;
             break;
         }
-        let one = traced(
+        let next = traced(
             alloc,
             setting,
             search,
             root,
             number(way),
+            shared,
             longest,
-            &mut events,
         )?;
-        match one {
+        shared = next.shared;
+        match next.found {
             Some(one) => {
                 is_closed = is_closed && is_end_of(root, way, one.end);
+                events = events.saturating_add(one.trace.len());
+                runs = runs.saturating_add(one.trace.runs());
                 found = with_end(found, one)?;
             }
-            None => is_closed = false,
+            None => {
+                is_closed = false;
+                events = events.saturating_add(longest);
+            }
         }
     }
     Ok(FoundByCalls {

@@ -48,7 +48,14 @@ fn late(
         knowledge,
         ..scope.facts
     };
-    steps.add_jump(alloc, own, place, scope.with(alloc, facts)?, to)
+    steps.add_jump(
+        alloc,
+        own,
+        place,
+        scope.with(alloc, facts)?,
+        to,
+        Label::Plain,
+    )
 }
 
 /// Adds the state after the joiner has cancelled the scope.
@@ -216,7 +223,9 @@ fn all_came(
         Joiner::AllSucceed | Joiner::Until(_) => {
             gives(alloc, own, place, next, to, count, Label::Plain, steps)
         }
-        Joiner::AwaitOk | Joiner::AwaitAll => steps.add_jump(alloc, own, place, next, to),
+        Joiner::AwaitOk | Joiner::AwaitAll => {
+            steps.add_jump(alloc, own, place, next, to, Label::Plain)
+        }
     }
 }
 

@@ -2,6 +2,7 @@
 
 use crate::aim::{Aim, Role, restricted};
 use crate::call::{Way, number};
+use crate::early::{Early, early, way_at};
 use crate::joiners::is_trigger;
 use crate::own::Own;
 use crate::part::part_at;
@@ -17,6 +18,8 @@ use sts_model::End;
 pub struct PlayedScope {
     /// Its birth number.
     pub birth: u32,
+    /// How many steps its owner took before it opened the scope.
+    pub opened: usize,
     /// The birth numbers of its subtasks.
     pub births: Vec<u32>,
     /// Which of them were played.
@@ -27,6 +30,12 @@ pub struct PlayedScope {
     pub first: Option<u32>,
     /// The subtask that the run is about, if it is one of this scope.
     pub aim: Option<Aim>,
+    /// The cancel that comes before its owner sees it, until it comes.
+    pub early: Option<Early>,
+    /// Is the scope to expire before the next step?
+    pub is_due: bool,
+    /// Has it expired before its owner sees that?
+    pub is_late: bool,
 }
 
 /// A task that is to be played up to the end of one of its call's ways.
@@ -212,24 +221,93 @@ impl Played {
         let Some(ways) = pick(alloc, table, &scope, left)? else {
             return Ok(None);
         };
+        let early = early(self, explored, place, close, ways.as_slice());
         Ok(Some(PlayedScope {
             birth,
+            opened: self.at,
             births: Vec::new(alloc),
             played: Vec::new(alloc),
             ways,
             first: self.first_failed(explored, place, close),
             aim,
+            early,
+            is_due: false,
+            is_late: false,
         }))
     }
 }
 
+impl Played {
+    /// The place of the scope whose cancel comes before the next step, though its owner sees it later.
+    pub fn due(&self) -> Option<usize> {
+        self.scopes
+            .iter()
+            .position(|scope| scope.is_cancelled_at(self.at))
+    }
+
+    /// Notes what comes up to the cancel of the scope at a place: the subtasks that end heard, and an
+    /// expiry, if the scope expires.
+    pub fn cancel(
+        &mut self,
+        alloc: Global,
+        table: &Table,
+        explored: &Explored,
+        place: usize,
+    ) -> Result<(), AllocError> {
+        let Some(early) = self.scopes.get(place).and_then(|scope| scope.early) else {
+            return Ok(());
+        };
+        let Some(node) = self.node(explored, early.look) else {
+            return Ok(());
+        };
+        let (Some(seen), Some(scope)) = (node.own.scope(number(place)), self.scopes.get_mut(place))
+        else {
+            return Ok(());
+        };
+        let mut starts = scope.all_starts(alloc, table, seen)?;
+        starts.reverse();
+        scope.early = None;
+        scope.is_due = early.expires;
+        self.waiting = starts;
+        Ok(())
+    }
+
+    /// The scope that expires before the next step, though its owner sees it later.
+    pub fn expiring(&mut self) -> Option<u32> {
+        for scope in self.scopes.iter_mut() {
+            if scope.is_due {
+                scope.is_due = false;
+                scope.is_late = true;
+                return Some(scope.birth);
+            }
+        }
+        None
+    }
+}
+
 impl PlayedScope {
+    /// Does its cancel come after this number of steps of its owner?
+    pub fn is_cancelled_at(&self, steps: usize) -> bool {
+        match self.early {
+            Some(early) => early.is_due(steps, self.births.len()),
+            None => false,
+        }
+    }
+
     /// The way of a subtask, if the joiner is told of it.
     fn way(&self, child: u32) -> Option<u32> {
-        match self.ways.get(child as usize) {
-            Some(way) => *way,
-            None => None,
+        way_at(self.ways.as_slice(), child)
+    }
+
+    /// The birth numbers of the subtasks that were forked and that nobody hears.
+    pub fn unheard(&self, alloc: Global) -> Result<Vec<u32>, AllocError> {
+        let mut found = Vec::new(alloc);
+        for (child, birth) in self.births.as_slice().iter().enumerate() {
+            if self.way(number(child)).is_none() {
+                found.push(*birth)?;
+            }
         }
+        Ok(found)
     }
 
     /// Notes that a subtask is played. Returns whether it wasn't before.

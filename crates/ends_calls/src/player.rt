@@ -1,12 +1,14 @@
 //! Finds the events that lead to an end, one at a time.
 //!
 //! The subtasks of a scope do nothing until their owner looks. Then those whose end it sees run
-//! from their beginning to their end, one after the other. The others run once their scope is
-//! cancelled and its `close` waits for them. Nobody sees what they do, so a scope that they open
+//! from their beginning to their end, one after the other. If it will see that the scope is cancelled,
+//! they run as soon as they are forked, and no further subtask starts. The others run once their scope
+//! is cancelled and its `close` waits for them. Nobody sees what they do, so a scope that they open
 //! expires before they fork, if it can. Its subtasks then never start, and the trace is shorter.
 
 use crate::aim::{FirstSteps, Leg, Role};
 use crate::frames::is_at_once;
+use crate::mark::Mark;
 use crate::own::Held;
 use crate::played::{Played, Start, scope_at};
 use crate::table::{Explored, Label, Table};
@@ -29,6 +31,8 @@ enum Job {
         owner: u32,
         living: Option<Vec<u32>>,
     },
+    /// Tasks that nobody hears, which run ahead of a cancel, the next one last.
+    Ahead(Vec<u32>),
 }
 
 /// A run that is being made.
@@ -43,6 +47,12 @@ pub struct Player<'a> {
     coming: Vec<Event>,
     /// Is the run not as it was planned?
     is_wrong: bool,
+    /// Does each cancel come as early as it can?
+    hurries: bool,
+    /// May the subtasks of the root run ahead of a cancel?
+    may_run_ahead: bool,
+    /// Did they, just now?
+    is_at_mark: bool,
     /// The tasks that lead to the one that the run is about, the root's last.
     legs: Vec<Leg>,
     /// The birth number of the task that the run is about.
@@ -161,10 +171,11 @@ fn look(top: &Played, explored: &Explored, instr: Instr) -> Option<(u32, Option<
 fn expiring(top: &Played, explored: &Explored, instr: Instr) -> Option<u32> {
     let (place, _) = look(top, explored, instr)?;
     let (before, after) = scope_at(&top.before(explored)?.own, &top.after(explored)?.own, place)?;
-    if before.facts.expired || !after.facts.expired {
+    let scope = top.scopes.get(place as usize)?;
+    if scope.is_late || before.facts.expired || !after.facts.expired {
         return None;
     }
-    Some(top.scopes.get(place as usize)?.birth)
+    Some(scope.birth)
 }
 
 impl<'a> Player<'a> {
@@ -177,6 +188,8 @@ impl<'a> Player<'a> {
         way: u32,
     ) -> Result<Player<'a>, AllocError> {
         let mut player = Player::idle(alloc, setting, table, root);
+        player.hurries = true;
+        player.may_run_ahead = true;
         let start = Start {
             call: None,
             way,
@@ -184,6 +197,38 @@ impl<'a> Player<'a> {
         };
         player.start(alloc, start)?;
         Ok(player)
+    }
+
+    /// A run up to the end of one of the root's ways, from a mark on, if it goes by there.
+    pub fn resume(
+        alloc: Global,
+        setting: &'a Setting,
+        table: &'a Table,
+        root: &'a Explored,
+        way: u32,
+        mark: &Mark,
+    ) -> Result<Option<Player<'a>>, AllocError> {
+        match mark.resumed(alloc, table, root, setting.interrupts, way)? {
+            None => Ok(None),
+            Some(top) => {
+                let mut player = Player::idle(alloc, setting, table, root);
+                player.hurries = true;
+                player.jobs.push(Job::Task(top))?;
+                Ok(Some(player))
+            }
+        }
+    }
+
+    /// What the root has done so far, if the run has stopped at a mark. It goes on after that.
+    pub fn mark(&mut self, alloc: Global) -> Result<Option<Mark>, AllocError> {
+        if !self.is_at_mark {
+            return Ok(None);
+        }
+        self.is_at_mark = false;
+        match self.jobs.last() {
+            Some(Job::Task(top)) => Mark::of(alloc, top),
+            _ => Ok(None),
+        }
     }
 
     /// A player with nothing to play.
@@ -200,6 +245,9 @@ impl<'a> Player<'a> {
             jobs: Vec::new(alloc),
             coming: Vec::new(alloc),
             is_wrong: false,
+            hurries: false,
+            may_run_ahead: false,
+            is_at_mark: false,
             legs: Vec::new(alloc),
             target: None,
             first: None,
@@ -390,6 +438,10 @@ impl<'a> Player<'a> {
         let interrupts = self.setting.interrupts;
         match top.opening(alloc, self.table, explored, interrupts, birth)? {
             Some(scope) => {
+                let mut scope = scope;
+                if !self.hurries {
+                    scope.early = None;
+                }
                 top.scopes.push(scope)?;
             }
             None => self.is_wrong = true,
@@ -450,6 +502,49 @@ impl<'a> Player<'a> {
         }
     }
 
+    /// Lets the subtasks of the root's only scope run ahead that nobody hears.
+    fn begin_ahead(&mut self, alloc: Global, top: Played) -> Result<(), AllocError> {
+        let tasks = match top.scopes.first() {
+            Some(scope) => scope.unheard(alloc)?,
+            None => Vec::new(alloc),
+        };
+        self.may_run_ahead = false;
+        self.jobs.push(Job::Task(top))?;
+        self.jobs.push(Job::Ahead(tasks))?;
+        Ok(())
+    }
+
+    /// Goes on with tasks that run ahead. A task stops before its last step, and where it waits.
+    fn go_ahead(&mut self, world: &World, tasks: Vec<u32>) -> Result<(), AllocError> {
+        let mut tasks = tasks;
+        let Some(t) = tasks.last().copied() else {
+            self.is_at_mark = true;
+            return Ok(());
+        };
+        let ends = matches!(
+            instr_of(self.setting, world, t),
+            None | Some(Instr::Ret | Instr::Fail)
+        );
+        match turn_of(self.setting, world, t) {
+            Turn::Steps if !ends => self.step(world, t)?,
+            _ => {
+                let _ = tasks.pop();
+            }
+        }
+        self.jobs.push(Job::Ahead(tasks))?;
+        Ok(())
+    }
+
+    /// Lets a task step that nobody hears, or a scope expire that it has just opened.
+    fn step(&mut self, world: &World, t: u32) -> Result<(), AllocError> {
+        let event = match idle_scope(self.setting, world, t) {
+            Some(s) => Event::Expire(s),
+            None => Event::Step(t),
+        };
+        self.coming.push(event)?;
+        Ok(())
+    }
+
     /// Goes on with a task at its next instruction.
     fn go_on(
         &mut self,
@@ -463,13 +558,18 @@ impl<'a> Player<'a> {
         if top.aim.is_some() && top.is_at_end() {
             return self.go_deeper(alloc, &top);
         }
-        if is_at_once(instr) {
-            self.coming.push(Event::Step(top.birth))?;
-        } else if top.is_at_end() {
+        if top.is_at_end() {
             self.coming.push(Event::Step(top.birth))?;
             return Ok(());
         } else if top.is_ready {
             return self.act(alloc, world, top, explored, instr);
+        } else if let Some(place) = top.due() {
+            if self.may_run_ahead && self.jobs.is_empty() && top.scopes.len() == 1 {
+                return self.begin_ahead(alloc, top);
+            }
+            top.cancel(alloc, self.table, explored, place)?;
+        } else if let Some(s) = top.expiring() {
+            self.coming.push(Event::Expire(s))?;
         } else {
             self.prepare(alloc, &mut top, explored, instr)?;
             top.is_ready = true;
@@ -505,13 +605,7 @@ impl<'a> Player<'a> {
         t: u32,
     ) -> Result<(), AllocError> {
         match turn_of(self.setting, world, t) {
-            Turn::Steps => {
-                let event = match idle_scope(self.setting, world, t) {
-                    Some(s) => Event::Expire(s),
-                    None => Event::Step(t),
-                };
-                self.coming.push(event)?;
-            }
+            Turn::Steps => self.step(world, t)?,
             Turn::IsOver => {
                 let _ = living_ones.pop();
             }
@@ -553,11 +647,42 @@ impl<'a> Player<'a> {
         Ok(())
     }
 
+    /// The task whose instruction comes next, if nothing else comes before it.
+    fn next_task(&self) -> Option<u32> {
+        match self.jobs.last()? {
+            Job::Task(top) => {
+                let goes_deeper = top.aim.is_some() && top.is_at_end();
+                if top.waiting.is_empty() && !goes_deeper {
+                    Some(top.birth)
+                } else {
+                    None
+                }
+            }
+            Job::Close { living, .. } => match living {
+                Some(tasks) => tasks.last().copied(),
+                None => None,
+            },
+            Job::Ahead(tasks) => tasks.last().copied(),
+        }
+    }
+
+    /// The next event, if it is a step by an instruction that changes only the frame of its task.
+    fn at_once(&self, world: &World) -> Option<Event> {
+        let t = self.next_task()?;
+        let instr = instr_of(self.setting, world, t)?;
+        if is_at_once(instr) {
+            Some(Event::Step(t))
+        } else {
+            None
+        }
+    }
+
     /// Goes on with the innermost job.
     fn turn(&mut self, alloc: Global, world: &World) -> Result<(), AllocError> {
         match self.jobs.pop() {
             None => Ok(()),
             Some(Job::Task(top)) => self.play(alloc, world, top),
+            Some(Job::Ahead(tasks)) => self.go_ahead(world, tasks),
             Some(
                 Job::Close {
                     scope,
@@ -568,14 +693,14 @@ impl<'a> Player<'a> {
         }
     }
 
-    /// The next event, if the run isn't over and goes as it was planned. The events before it have
-    /// led to this state.
+    /// The next event, if the run isn't over or at a mark, and goes as it was planned. The events before
+    /// it have led to this state.
     pub fn next(&mut self, alloc: Global, config: &Config) -> Result<Option<Event>, AllocError> {
         let Some(world) = config.position.world() else {
             return Ok(None);
         };
         for _ in 0..u64::MAX {
-            if self.is_wrong {
+            if self.is_wrong || self.is_at_mark {
                 break;
             }
             if let Some(event) = self.coming.pop() {
@@ -590,7 +715,12 @@ impl<'a> Player<'a> {
             if self.jobs.is_empty() {
                 break;
             }
-            self.turn(alloc, world)?;
+            match self.at_once(world) {
+                Some(event) => {
+                    self.coming.push(event)?;
+                }
+                None => self.turn(alloc, world)?,
+            }
         }
         Ok(None)
     }

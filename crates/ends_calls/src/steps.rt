@@ -62,11 +62,12 @@ impl Steps {
         place: u32,
         scope: Seen,
         value: i64,
+        label: Label,
     ) -> Result<(), AllocError> {
         let mut next = own.with_scope(alloc, place, scope)?;
         let to = next_place(&next.frame);
         push_and_go(&mut next.frame, to, 0, value);
-        self.add(next, Label::Plain)
+        self.add(next, label)
     }
 
     /// Adds the state after a jump, with this scope at a place.
@@ -77,10 +78,11 @@ impl Steps {
         place: u32,
         scope: Seen,
         to: u32,
+        label: Label,
     ) -> Result<(), AllocError> {
         let mut next = own.with_scope(alloc, place, scope)?;
         next.frame.goes(to, 0);
-        self.add(next, Label::Plain)
+        self.add(next, label)
     }
 }
 
@@ -143,7 +145,7 @@ fn looked(
     steps: &mut Steps,
 ) -> Result<(), AllocError> {
     for one in cancelled_by(alloc, around.table, scope, around.left(own))? {
-        steps.add_value(alloc, own, place, one.scope, 1)?;
+        steps.add_value(alloc, own, place, one.scope, 1, Label::Plain)?;
     }
     if !around.may_expire(scope) {
         return Ok(());
@@ -153,7 +155,14 @@ fn looked(
         expired: true,
         ..scope.facts
     };
-    steps.add_value(alloc, own, place, scope.with(alloc, facts)?, 1)
+    steps.add_value(
+        alloc,
+        own,
+        place,
+        scope.with(alloc, facts)?,
+        1,
+        Label::Plain,
+    )
 }
 
 fn cancelled(
@@ -166,12 +175,13 @@ fn cancelled(
 ) -> Result<(), AllocError> {
     let knowledge = scope.facts.knowledge;
     if knowledge == Knowledge::Heard || may_go_on(around.table, scope) {
-        steps.add_value(alloc, own, place, scope.copied(alloc)?, 0)?;
+        let label = Label::Open { scope: place };
+        steps.add_value(alloc, own, place, scope.copied(alloc)?, 0, label)?;
     }
     match knowledge {
         Knowledge::Unseen => looked(alloc, around, own, place, scope, steps),
         Knowledge::ByJoiner | Knowledge::Late => {
-            steps.add_value(alloc, own, place, scope.copied(alloc)?, 1)
+            steps.add_value(alloc, own, place, scope.copied(alloc)?, 1, Label::Plain)
         }
         Knowledge::Heard => Ok(()),
     }
@@ -248,7 +258,7 @@ fn cased_by(
     };
     let next = decided(around.table, next);
     if some_fits(alloc, around.table, &next, around.left(own))? {
-        steps.add_jump(alloc, own, place, next, to)?;
+        steps.add_jump(alloc, own, place, next, to, Label::Plain)?;
     }
     Ok(())
 }
@@ -292,7 +302,11 @@ fn passed(
     };
     if some_fits(alloc, around.table, &next, around.left(own))? {
         let to = next_place(&own.frame);
-        steps.add_jump(alloc, own, place, next, to)?;
+        let label = Label::Lives {
+            scope: place,
+            part: child,
+        };
+        steps.add_jump(alloc, own, place, next, to, label)?;
     }
     Ok(())
 }
@@ -350,7 +364,7 @@ fn got(
                 runs: with_part(alloc, scope.runs.as_slice(), child, only)?,
             };
             if some_fits(alloc, around.table, &next, around.left(own))? {
-                steps.add_value(alloc, own, place, next, value_of(it.end))?;
+                steps.add_value(alloc, own, place, next, value_of(it.end), Label::Plain)?;
             }
         }
         way = way.saturating_add(1);
@@ -396,7 +410,7 @@ fn tallied(
                 ..scope.facts
             };
             let next = scope.with(alloc, facts)?;
-            steps.add_value(alloc, own, place, next, i64::from(count))?;
+            steps.add_value(alloc, own, place, next, i64::from(count), Label::Plain)?;
         }
     }
     Ok(())
@@ -429,7 +443,7 @@ fn totalled(
                 ..scope.facts
             };
             let next = scope.with(alloc, facts)?;
-            steps.add_value(alloc, own, place, next, total)?;
+            steps.add_value(alloc, own, place, next, total, Label::Plain)?;
         }
     }
     Ok(())

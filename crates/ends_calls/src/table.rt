@@ -12,6 +12,10 @@ pub enum Label {
     Plain,
     /// An interrupt comes just before the step.
     Pays,
+    /// The step shows that this scope isn't cancelled yet.
+    Open { scope: u32 },
+    /// The step shows that this part hasn't ended yet.
+    Lives { scope: u32, part: u32 },
     /// The step shows that this part failed first.
     First { scope: u32, part: u32 },
 }

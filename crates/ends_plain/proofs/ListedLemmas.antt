@@ -42,10 +42,10 @@ shown_more g first found f all here e c = by (Contains-append_cases found (f ∷
 at_same : (states : List Config) (k : ℕ) (x d : Config) → k < length states → x ≡ slice_index_or states k x → slice_index_or states k d ≡ x
 at_same states k x d less is = get_or_default states k d x less ∙ sym is
 
-pub shown_here : (g : Setting) (first x y : Config) (f : Found) → IsWay (next g) (tries g) first f.trace.items y → x ≡ y → f.end ≡ shown x.position → is_end f.end ≡ true → IsShownBy g first f
+pub shown_here : (g : Setting) (first x y : Config) (f : Found) → IsWay (next g) (tries g) first f.trace y → x ≡ y → f.end ≡ shown x.position → is_end f.end ≡ true → IsShownBy g first f
 shown_here g first x y f way is shows ends = record {
   config = x;
-  way = way_of_tries g first x f.trace.items (subst (λ z. IsWay (next g) (tries g) first f.trace.items z) (sym is) way);
+  way = way_of_tries g first x f.trace (subst (λ z. IsWay (next g) (tries g) first f.trace z) (sym is) way);
   shows = sym shows;
   ends = ends;
 }
@@ -80,11 +80,11 @@ has_skipped states k x ends within is all here j d less e = by (split j k less)
 -- ---- an end of a way
 
 -- a way of coming events that leads to an end
-pub end_of_way : (g : Setting) (config : Config) (f : Found) → IsWay (next g) (can g) (start g) f.trace.items config → shown config.position ≡ f.end → is_end f.end ≡ true → IsEndOf g f
+pub end_of_way : (g : Setting) (config : Config) (f : Found) → IsWay (next g) (can g) (start g) f.trace config → shown config.position ≡ f.end → is_end f.end ≡ true → IsEndOf g f
 end_of_way g config f way shows ends =
-    let at : config.position ≡ after g.program f.trace.items = ap (λ (x : Config). x.position) (sym way.leads) ∙ position_after g (start g) f.trace.items in
+    let at : config.position ≡ after g.program f.trace = ap (λ (x : Config). x.position) (sym way.leads) ∙ position_after g (start g) f.trace in
     record {
-      allowed = allowed g (start g) f.trace.items way.can_all;
+      allowed = allowed g (start g) f.trace way.can_all;
       comes = ap shown (sym at) ∙ shows;
       ends = ends;
     }
@@ -104,7 +104,7 @@ ends_more g found f all here e c = by (Contains-append_cases found (f ∷ []) e 
 -- what a trace from the start shows is an end
 pub end_of_trace : (g : Setting) (first : Config) (f : Found) → first ≡ start g → IsShownBy g first f → IsEndOf g f
 end_of_trace g first f begins here =
-    let way : IsWay (next g) (can g) (start g) f.trace.items here.config = subst (λ x. IsWay (next g) (can g) x f.trace.items here.config) begins here.way in
+    let way : IsWay (next g) (can g) (start g) f.trace here.config = subst (λ x. IsWay (next g) (can g) x f.trace here.config) begins here.way in
     end_of_way g here.config f way here.shows here.ends
 
 pub sound : (g : Setting) (first : Config) (found : List Found) → first ≡ start g → AreShown g first found → AreEnds g found

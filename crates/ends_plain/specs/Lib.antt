@@ -4,3 +4,4 @@ pub mod Explored
 pub mod Listed
 pub mod Named
 pub mod Own
+pub mod Traces

@@ -23,7 +23,7 @@ is_faulty f = is_fault_end f.end
 
 -- it is an end of the program, and its trace leads to it
 abbrev pub IsEndOf : Setting → Found → Type 0
-IsEndOf g f = IsEnd g.program g.expiries g.interrupts f.trace.items f.end
+IsEndOf g f = IsEnd g.program g.expiries g.interrupts f.trace f.end
 
 abbrev pub AreEnds : Setting → List Found → Type 0
 AreEnds g found = (f : Found) → Contains found f → IsEndOf g f
@@ -31,7 +31,7 @@ AreEnds g found = (f : Found) → Contains found f → IsEndOf g f
 -- its trace leads from the first state to one that shows the end
 pub record IsShownBy (g : Setting) (first : Config) (f : Found) : Type 0 where
   pub config : Config
-  pub way : IsWay (next g) (can g) first f.trace.items config
+  pub way : IsWay (next g) (can g) first f.trace config
   pub shows : shown config.position ≡ f.end
   pub ends : is_end f.end ≡ true
 

@@ -2,6 +2,7 @@
 
 ghost use Rattle.std.specs.Prelude.{◌≡◌, OnOk, IfOk};
 
+use crate::trace::Trace;
 use std::alloc::{AllocError, Global};
 use sts_code::Program;
 use sts_model::Event;
@@ -73,7 +74,7 @@ impl Config {
 #[derive(Drop)]
 pub struct Found {
     pub end: PlainState,
-    pub trace: Vec<Event>,
+    pub trace: Trace,
 }
 
 /// The ends that were found, each once, among `states` states. If `whole` is true, these are the

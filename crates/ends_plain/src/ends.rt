@@ -9,6 +9,7 @@ ghost use Rattle.ends_plain.specs.Listed.{ends_of, AreShown, HasShown, is_fault_
 
 use crate::config::{Asked, Config, Found};
 use crate::shorter::shortened;
+use crate::trace::trace_of;
 use ends_search::search::{Space, restored, trace};
 use std::alloc::{AllocError, Global};
 use sts_plain::PlainState;
@@ -83,7 +84,8 @@ fn list_end(
     let config = restored(alloc, asked, space, place)?;
     let end = config.position.state();
     if is_new(found.as_slice(), end) {
-        let trace = trace(alloc, asked, space, place)?;
+        let events = trace(alloc, asked, space, place)?;
+        let trace = trace_of(alloc, events.as_slice())?;
         let one = shortened(alloc, &asked.setting, &space.first, Found { end, trace })?;
         found.push(one)?;
     }

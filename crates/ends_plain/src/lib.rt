@@ -14,4 +14,5 @@ pub mod reading;
 pub mod sample;
 pub mod schedule;
 pub mod shorter;
+pub mod trace;
 pub mod walk;

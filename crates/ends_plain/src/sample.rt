@@ -7,6 +7,7 @@ use crate::config::{Config, Found, Setting};
 use crate::ends::is_end_at;
 use crate::moves::events_of;
 use crate::schedule::Schedule;
+use crate::trace::Trace;
 use rand_core::SeedableRng;
 use rand_xoshiro::Xoshiro256PlusPlus;
 use std::alloc::{AllocError, Global};
@@ -49,7 +50,7 @@ fn walk(
     ensures { IfOk result (λ found. IfSome found (IsEndOf setting.now)) }
 {
     let mut config = Config::start(alloc, setting)?;
-    let mut trace = Vec::new(alloc);
+    let mut trace = Trace::new(alloc);
     for moment in 0..longest.saturating_add(1) {
         let end = config.position.state();
         if is_end_at(end) {

@@ -8,6 +8,7 @@ use crate::config::{Config, Found, Setting};
 use crate::ends::is_end_at;
 use crate::events::may_interrupt;
 use crate::own::has_own_step;
+use crate::trace::Trace;
 use ends_search::machine::StateMachine;
 use std::alloc::{AllocError, Global};
 use sts_model::Event;
@@ -48,7 +49,7 @@ fn walked(
     ensures { IfOk result (λ found. IfSome found (IsShownBy setting.now first.now)) }
 {
     let mut config = first.copied(alloc)?;
-    let mut trace = Vec::new(alloc);
+    let mut trace = Trace::new(alloc);
     for next in events {
         let Some(event) = coming(&config, setting, *next) else {
             return Ok(None);
@@ -150,8 +151,9 @@ pub fn shortened(
         → IfOk result (IsShownBy setting.now first.now) }
     ensures end { IfOk result (λ one. one.end ≡ found.end) }
 {
-    let own = own_steps(alloc, setting, first, found.trace.as_slice())?;
-    let events = needed(alloc, found.trace.as_slice(), own.as_slice())?;
+    let all = found.trace.events(alloc)?;
+    let own = own_steps(alloc, setting, first, all.as_slice())?;
+    let events = needed(alloc, all.as_slice(), own.as_slice())?;
     let Some(one) = walked(alloc, setting, first, events.as_slice())? else {
         return Ok(found);
     };

@@ -34,7 +34,7 @@ unheard_words is_heard = if is_heard then [] else codes "unheard "
 -- `2 after 9 events: charge(10): unheard success 10`
 abbrev pub call_line : List ℕ → Program → ℕ → CallEnd → List ℕ
 call_line text p place c =
-    head_words place c.trace.items ++ (codes ": " ++ (call_words text p c ++ (codes ": "
+    head_words place (length c.trace.items) ++ (codes ": " ++ (call_words text p c ++ (codes ": "
     ++ (unheard_words c.is_heard ++ end_line text c.end))))
 
 -- the lines of these ends, the first of which is at this place

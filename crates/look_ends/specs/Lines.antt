@@ -5,7 +5,6 @@ use Rattle.std.specs.Prelude.{if◌then◌else◌, codes, length, slice_get, Opt
 use Rattle.std.specs.List.{list_any}
 use Rattle.std.specs.Fmt.{decimal}
 use Rattle.sts_code.specs.Program.{Program}
-use Rattle.sts_model.specs.declared.event.Event.{Event}
 use Rattle.sts_plain.specs.declared.misstep.PlainState.{PlainState}
 use Rattle.sts_plain.specs.declared.misstep.PlainState.TheVariants as plain
 use Rattle.ends_plain.specs.declared.config.Found.{Found}
@@ -15,13 +14,13 @@ use Rattle.look_ends.specs.States.{state_line}
 -- ---- an end
 
 -- the number of the end at this place, which is counted from 0, and the length of its trace
-abbrev pub head_words : ℕ → List Event → List ℕ
-head_words place trace =
-    decimal (place + 1) ++ codes " after " ++ decimal (length trace) ++ codes " events"
+abbrev pub head_words : ℕ → ℕ → List ℕ
+head_words place events =
+    decimal (place + 1) ++ codes " after " ++ decimal events ++ codes " events"
 
 -- `1 after 14 events: success 42`
 abbrev pub found_line : List ℕ → Program → ℕ → Found → List ℕ
-found_line text p place f = head_words place f.trace.items ++ codes ": " ++ state_line text p f.end
+found_line text p place f = head_words place (length f.trace) ++ codes ": " ++ state_line text p f.end
 
 -- the lines of these ends, the first of which is at this place
 abbrev pub found_lines : List ℕ → Program → List Found → ℕ → List ℕ
@@ -36,7 +35,7 @@ share_words times schedules =
 -- `1 after 14 events, in 183 of 200 schedules: success 42`
 abbrev pub sampled_line : List ℕ → Program → ℕ → Found → ℕ → ℕ → List ℕ
 sampled_line text p place f times schedules =
-    head_words place f.trace.items ++ (share_words times schedules ++ state_line text p f.end)
+    head_words place (length f.trace) ++ (share_words times schedules ++ state_line text p f.end)
 
 abbrev pub times_or_none : Option ℕ → ℕ
 times_or_none None = 0

@@ -37,7 +37,7 @@ alone o = record { output = o; trace = [] }
 
 abbrev pub events_of : Option Found → List Event
 events_of None = []
-events_of (Some f) = f.trace.items
+events_of (Some f) = f.trace
 
 -- the trace of the end whose number is asked for, the first one having number 1
 abbrev pub trace_of : Option ℕ → List Found → List Event

@@ -101,7 +101,7 @@ fn say_call_line(
     ensures { OnOk result (out.new.items ≡ out.old.items
         ++ def.call_line told.entry.names.now told.entry.program.now place call.now) }
 {
-    say_head(alloc, out, place, call.trace.as_slice())?;
+    say_head(alloc, out, place, call.trace.len())?;
     say(out, ": ")?;
     say_call(alloc, out, told, call)?;
     say(out, ": ")?;

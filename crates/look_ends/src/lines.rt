@@ -8,7 +8,6 @@ use crate::states::{Told, say_state};
 use ends_plain::config::Found;
 use look_text::say;
 use std::alloc::{AllocError, Global};
-use sts_model::Event;
 
 /// Appends a number.
 pub(crate) fn say_number(alloc: Global, out: &mut Vec<u8>, n: u64) -> Result<(), AllocError>
@@ -31,14 +30,14 @@ pub(crate) fn say_head(
     alloc: Global,
     out: &mut Vec<u8>,
     place: usize,
-    trace: &[Event],
+    events: usize,
 ) -> Result<(), AllocError>
     requires { place + 1 < 2 ^ 64 }
-    ensures { OnOk result (out.new.items ≡ out.old.items ++ def.head_words place trace.now) }
+    ensures { OnOk result (out.new.items ≡ out.old.items ++ def.head_words place events) }
 {
     say_number(alloc, out, place as u64 + 1)?;
     say(out, " after ")?;
-    say_number(alloc, out, trace.len() as u64)?;
+    say_number(alloc, out, events as u64)?;
     say(out, " events")
 }
 
@@ -57,7 +56,7 @@ pub(crate) fn say_all(
         ++ def.found_lines told.entry.names.now told.entry.program.now found.now 0) }
 {
     for k in 0..found.len() {
-        say_head(alloc, out, k, found[k].trace.as_slice())?;
+        say_head(alloc, out, k, found[k].trace.len())?;
         say(out, ": ")?;
         say_state(alloc, out, told, found[k].end)?;
     }
@@ -90,7 +89,7 @@ fn say_sampled(
         ++ def.sampled_line told.entry.names.now told.entry.program.now place one.now times
         schedules) }
 {
-    say_head(alloc, out, place, one.trace.as_slice())?;
+    say_head(alloc, out, place, one.trace.len())?;
     say_share(alloc, out, times, schedules)?;
     say_state(alloc, out, told, one.end)
 }

@@ -52,7 +52,7 @@ fn copied_trace(alloc: Global, one: Option<&Found>) -> Result<Vec<Event>, AllocE
 {
     match one {
         None => Ok(Vec::new(alloc)),
-        Some(one) => Vec::from_slice(alloc, one.trace.as_slice()),
+        Some(one) => one.trace.events(alloc),
     }
 }
 

@@ -40,7 +40,7 @@ run text p (plain.Fault kind t f pc) = placed text f pc (faulted text p kind t f
 -- the end at a place, which has the next number, and the length of its trace
 abbrev pub found_end : List ℕ → Program → ℕ → Found → Data
 found_end text p place f = object_of (
-    (codes "after", count (length f.trace.items)) ∷
+    (codes "after", count (length f.trace)) ∷
     (codes "end", count (place + 1)) ∷
     (codes "run", run text p f.end) ∷
     (codes "version", version) ∷ [])
@@ -54,7 +54,7 @@ found_lines text p (f ∷ fs) place =
 -- the same, and how often random schedules came to it
 abbrev pub sampled_end : List ℕ → Program → ℕ → Found → ℕ → Data
 sampled_end text p place f times = object_of (
-    (codes "after", count (length f.trace.items)) ∷
+    (codes "after", count (length f.trace)) ∷
     (codes "end", count (place + 1)) ∷
     (codes "run", run text p f.end) ∷
     (codes "times", count times) ∷

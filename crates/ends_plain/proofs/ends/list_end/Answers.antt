@@ -1,13 +1,13 @@
 use Rattle.std.proofs.Common.{◌≡◌, ◌<◌, ◌∙◌, length, arith, sym, ap, false}
 use Rattle.std.specs.Prelude.{slice_index_or}
 use Rattle.std.proofs.lemmas.List.{get_or_default}
-use Rattle.ends_search.specs.Search.{origin_at, no_origin, states_of}
+use Rattle.ends_search.specs.Search.{IsWay, origin_at, no_origin, states_of}
 use Rattle.ends_search.specs.declared.origin.Origin.{Origin}
 use Rattle.ends_plain.specs.declared.config.Found.{Found}
-use Rattle.ends_plain.specs.Configs.{next, is_last}
+use Rattle.ends_plain.specs.Configs.{next, tries, is_last}
 use Rattle.ends_plain.specs.Listed.{ends_of}
 use Rattle.ends_plain.proofs.ListedLemmas.{shown_more, shown_here, has_pushed, has_skipped}
-use Rattle.ends_plain.proofs.ends.list_end.Goals.{then-is_new+in_ok-trace+in_ok-one+in_ok-push, else-is_new}
+use Rattle.ends_plain.proofs.ends.list_end.Goals.{then-is_new+in_ok-events+in_ok-trace+in_ok-one+in_ok-push, else-is_new}
 use Rattle.ends_plain.proofs.ends.list_end.Goals as goal
 
 pub returns-then-not-marked-clause-all : goal.returns-then-not-marked-clause-all
@@ -33,11 +33,12 @@ returns-clause-shown c =
     let x = c.in_ok-config.config in
     let found = c.args.found.now.items in
     elim c.if-is_new.branch [
-      | then-is_new+in_ok-trace+in_ok-one+in_ok-push w ↦
+      | then-is_new+in_ok-events+in_ok-trace+in_ok-one+in_ok-push w ↦
           let f : Found = record { end = c.state-end.result; trace = w.in_ok-trace.trace } in
           let one = w.in_ok-one.one in
+          let way : IsWay (next g) (tries g) s.first f.trace (slice_index_or states place s.first) = rw (w.in_ok-trace.ensures, w.as_slice.ensures.value) w.in_ok-events.ensures in
           rw (w.found-is, w.in_ok-push.ensures.items) (
-          shown_more g s.first found one c.requires.shown (w.in_ok-one.ensures.shown (shown_here g s.first x (slice_index_or states place s.first) f w.in_ok-trace.ensures c.in_ok-config.ensures c.state-end.ensures (c.is_new.ensures.yes w.if-is_new.true)))
+          shown_more g s.first found one c.requires.shown (w.in_ok-one.ensures.shown (shown_here g s.first x (slice_index_or states place s.first) f way c.in_ok-config.ensures c.state-end.ensures (c.is_new.ensures.yes w.if-is_new.true)))
           )
       | else-is_new w ↦ rw w.found-is c.requires.shown
     ]
@@ -53,7 +54,7 @@ returns-clause-all c =
     let within : place < length states = omega (arith, c.requires.within, c.requires.space.searched.traced.as_many) in
     let is : x ≡ slice_index_or states place x = c.in_ok-config.ensures ∙ get_or_default states place s.first x within in
     elim c.if-is_new.branch [
-      | then-is_new+in_ok-trace+in_ok-one+in_ok-push w ↦
+      | then-is_new+in_ok-events+in_ok-trace+in_ok-one+in_ok-push w ↦
           let one = w.in_ok-one.one in
           rw (w.found-is, w.in_ok-push.ensures.items) (
           has_pushed states place x found one within is c.requires.before (w.in_ok-one.ensures.end ∙ c.state-end.ensures)

@@ -15,4 +15,4 @@ loop-moment-preserved c =
     let g = c.args.setting.now in
     let e = c.in-Some.event in
     let comes = c.in_ok-events.ensures.only e (rw c.as_slice.ensures.value at c.in-Some.ensures) in
-    rw (c.in_ok-push.ensures.items, c.in_ok-apply_event.ensures) (way_more g (start g) c.loop-moment.config c.loop-moment.trace.items e c.loop-moment.invariant comes)
+    rw (c.in_ok-push.ensures, c.in_ok-apply_event.ensures) (way_more g (start g) c.loop-moment.config c.loop-moment.trace e c.loop-moment.invariant comes)

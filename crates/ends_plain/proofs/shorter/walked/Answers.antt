@@ -13,4 +13,4 @@ returns-then-is_end_at c = record {
 pub loop-next-preserved : goal.loop-next-preserved
 loop-next-preserved c =
     let e = c.in-Some.event in
-    rw (c.in_ok-push.ensures.items, c.in_ok-apply_event.ensures) (way_more c.args.setting.now c.args.first.now c.loop-next.config c.loop-next.trace.items e c.loop-next.invariant c.in-Some.ensures)
+    rw (c.in_ok-push.ensures, c.in_ok-apply_event.ensures) (way_more c.args.setting.now c.args.first.now c.loop-next.config c.loop-next.trace e c.loop-next.invariant c.in-Some.ensures)

@@ -1,0 +1,100 @@
+//! Runs of the root that begin alike.
+//!
+//! Before a scope of the root is cancelled, the subtasks that nobody hears run ahead, up to their last
+//! step. All this is the same for each end that the same subtasks lead to. So the run is marked there,
+//! and a run to another end may go on from the mark.
+
+use crate::played::{Played, PlayedScope, Start};
+use crate::table::{Explored, Table};
+use std::alloc::{AllocError, Global};
+
+/// What the root has done up to a cancel of its only open scope.
+#[derive(Drop)]
+pub struct Mark {
+    /// The places of the states of the root, the first one first.
+    path: Vec<u32>,
+    /// How many steps it took before it opened the scope.
+    opened: usize,
+    /// The birth number of the scope.
+    birth: u32,
+    /// The birth numbers of its subtasks.
+    births: Vec<u32>,
+    /// Which of them ended heard.
+    played: Vec<bool>,
+    /// The way of each subtask that ends heard.
+    ways: Vec<Option<u32>>,
+}
+
+/// Does a subtask do in a run what it did in another one? It ended by its way, or it ran ahead.
+fn does_same(played: bool, before: Option<u32>, now: Option<u32>) -> bool {
+    if played || before.is_none() {
+        now == before
+    } else {
+        // (it didn't begin)
+        true
+    }
+}
+
+impl Mark {
+    /// The root before a cancel of its only open scope.
+    pub fn of(alloc: Global, top: &Played) -> Result<Option<Mark>, AllocError> {
+        let Some(scope) = top.scopes.first() else {
+            return Ok(None);
+        };
+        let mut path = Vec::from_slice(alloc, top.path.as_slice())?;
+        path.truncate(top.at.saturating_add(1));
+        Ok(Some(Mark {
+            path,
+            opened: scope.opened,
+            birth: scope.birth,
+            births: Vec::from_slice(alloc, scope.births.as_slice())?,
+            played: Vec::from_slice(alloc, scope.played.as_slice())?,
+            ways: Vec::from_slice(alloc, scope.ways.as_slice())?,
+        }))
+    }
+
+    /// Do the subtasks of a scope what those that were forked did before the mark?
+    fn fits(&self, scope: &PlayedScope) -> bool {
+        self.played.iter().enumerate().all(|(place, played)| {
+            let before = self.ways.get(place).copied().unwrap_or(None);
+            let now = scope.ways.get(place).copied().unwrap_or(None);
+            does_same(*played, before, now)
+        })
+    }
+
+    /// The root at the mark, on one of its ways, if it can go on from there.
+    pub fn resumed(
+        &self,
+        alloc: Global,
+        table: &Table,
+        root: &Explored,
+        interrupts: u32,
+        way: u32,
+    ) -> Result<Option<Played>, AllocError> {
+        let start = Start {
+            call: None,
+            way,
+            birth: 0,
+        };
+        let Some(played) = Played::begin(alloc, root, start)? else {
+            return Ok(None);
+        };
+        let mut top = played;
+        if !top.path.as_slice().starts_with(self.path.as_slice()) {
+            return Ok(None);
+        }
+        top.at = self.opened;
+        let Some(opened) = top.opening(alloc, table, root, interrupts, self.birth)? else {
+            return Ok(None);
+        };
+        let mut scope = opened;
+        scope.births = Vec::from_slice(alloc, self.births.as_slice())?;
+        scope.played = Vec::from_slice(alloc, self.played.as_slice())?;
+        top.at = self.path.len().saturating_sub(1);
+        if !scope.is_cancelled_at(top.at) || !self.fits(&scope) {
+            return Ok(None);
+        }
+        top.scopes.push(scope)?;
+        Ok(Some(top))
+    }
+}
