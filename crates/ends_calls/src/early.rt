@@ -72,7 +72,7 @@ fn expires(knowledge: Knowledge) -> Option<bool> {
 
 /// The cancel of the scope that the next step opens at a place, if the owner sees one before it closes
 /// the scope. Its subtasks have these ways.
-pub fn early(
+pub fn early_cancel(
     top: &Played,
     explored: &Explored,
     place: u32,

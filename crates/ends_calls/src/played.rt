@@ -2,7 +2,7 @@
 
 use crate::aim::{Aim, Role, restricted};
 use crate::call::{Way, number};
-use crate::early::{Early, early, way_at};
+use crate::early::{Early, early_cancel, way_at};
 use crate::joiners::is_trigger;
 use crate::own::Own;
 use crate::part::part_at;
@@ -221,7 +221,7 @@ impl Played {
         let Some(ways) = pick(alloc, table, &scope, left)? else {
             return Ok(None);
         };
-        let early = early(self, explored, place, close, ways.as_slice());
+        let early = early_cancel(self, explored, place, close, ways.as_slice());
         Ok(Some(PlayedScope {
             birth,
             opened: self.at,

@@ -36,7 +36,7 @@ returns-clause-shown c =
       | then-is_new+in_ok-events+in_ok-trace+in_ok-one+in_ok-push w ↦
           let f : Found = record { end = c.state-end.result; trace = w.in_ok-trace.trace } in
           let one = w.in_ok-one.one in
-          let way : IsWay (next g) (tries g) s.first f.trace (slice_index_or states place s.first) = rw (w.in_ok-trace.ensures, w.as_slice.ensures.value) w.in_ok-events.ensures in
+          let way : IsWay (next g) (tries g) s.first f.trace (slice_index_or states place s.first) = rw (w.in_ok-trace.ensures, w.as_slice-then-is_new.ensures.value) w.in_ok-events.ensures in
           rw (w.found-is, w.in_ok-push.ensures.items) (
           shown_more g s.first found one c.requires.shown (w.in_ok-one.ensures.shown (shown_here g s.first x (slice_index_or states place s.first) f way c.in_ok-config.ensures c.state-end.ensures (c.is_new.ensures.yes w.if-is_new.true)))
           )
