@@ -162,7 +162,7 @@ fn listed(
             is_closed = false;
             break;
         }
-        let one = traced(
+        match traced(
             alloc,
             setting,
             search,
@@ -170,8 +170,7 @@ fn listed(
             number(way),
             longest,
             &mut events,
-        )?;
-        match one {
+        )? {
             Some(one) => {
                 is_closed = is_closed && is_end_of(root, way, one.end);
                 found = with_end(found, one)?;
