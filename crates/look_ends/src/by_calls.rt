@@ -128,7 +128,8 @@ pub(crate) fn by_calls<P: Progress>(
     ensures sound { IfOk result (λ r. AreEnds setting.now r.found.items) }
     ensures complete { IfOk result (λ r. r.whole ≡ true → AreAllOf setting.now r.found.items) }
 {
-    if !is_faultless(alloc, setting, is_refused, limits)? {
+    let faultless = is_faultless(alloc, setting, is_refused, limits)?;
+    if !faultless {
         return some_ends(alloc, setting, limits);
     }
     let longest = if is_refused {
