@@ -263,15 +263,7 @@ fn listed(
             is_closed = false;
             break;
         }
-        let next = traced(
-            alloc,
-            setting,
-            search,
-            root,
-            number(way),
-            shared,
-            longest,
-        )?;
+        let next = traced(alloc, setting, search, root, number(way), shared, longest)?;
         shared = next.shared;
         match next.found {
             Some(one) => {
