@@ -26,12 +26,12 @@ def without_generics(text):
 
 
 def owner_of(kind, head):
-    """Returns the name that comes before those of a block's functions: that of the type, or of the trait."""
+    """Returns the name that comes before those of a block's functions: that of the type, and then that of the trait."""
     head = without_generics(head).split("{")[0].split(" where ")[0].strip().lstrip("!")
-    if kind == "impl" and " for " in head:
-        head = head.split(" for ")[1]
-    name = re.split(r"[:\s(]+", head.replace("&", "").replace("'", "").strip())[0] if kind == "trait" else head
-    return re.sub(r"\W.*", "", name.split("::")[-1].strip("&' "))
+    if kind == "trait":
+        return re.sub(r"\W.*", "", re.split(r"[:\s(]+", head.replace("&", "").replace("'", "").strip())[0])
+    names = [re.sub(r"\W.*", "", it.split("::")[-1].strip("&' ")) for it in reversed(head.split(" for "))]
+    return "".join(it[:1].upper() + it[1:] for it in names)
 
 
 def of_file(path, module):

@@ -101,6 +101,24 @@ impl<'p> Machine<'p> {
         }
     }
 
+    /// Takes a step of a task that can step, and answers whether it can step then.
+    #[inline(always)]
+    fn take_step(&mut self, t: u32) -> bool
+        requires { live_can_step self.old.program self.old.live t ≡ true }
+        ensures program { self.new.program ≡ self.old.program }
+        ensures live { self.new.live ≡ live_apply self.old.program self.old.live (Event.Step t) }
+        ensures steps { self.new.steps ≡ self.old.steps + 1 }
+        ensures can_step { result ≡ live_can_step self.new.program self.new.live t }
+    {
+        let program = self.verified.program();
+        let frame = self.store.frame(t);
+        let code = code(program, frame);
+        let instr = &code[frame.pc as usize];
+        let can_step = perform(&mut self.store, program, code, t, instr);
+        self.steps += 1;
+        can_step
+    }
+
     /// Applies an event that counts.
     #[inline(always)]
     fn take(&mut self, event: Event)
@@ -113,11 +131,7 @@ impl<'p> Machine<'p> {
         let program = self.verified.program();
         match event {
             Event::Step(t) => {
-                let frame = self.store.frame(t);
-                let code = code(program, frame);
-                let instr = &code[frame.pc as usize];
-                perform(&mut self.store, program, code, t, instr);
-                self.steps += 1;
+                self.take_step(t);
             }
             Event::Interrupt(t) => interrupt(&mut self.store, program, t),
             Event::Expire(s) => expire(&mut self.store, program, s),
@@ -149,6 +163,25 @@ impl<'p> Machine<'p> {
         }
         self.take(event);
         Turned::Stepped
+    }
+
+    /// Takes a step of a task that can step, as `turn` does. Answers whether it can step then.
+    #[inline(always)]
+    pub fn step(&mut self, task: u32) -> bool
+        requires { live_can_step self.old.program self.old.live task ≡ true }
+        ensures program { self.new.program ≡ self.old.program }
+        ensures live { self.new.live
+            ≡ live_apply self.old.program self.old.live (Event.Step task) }
+        ensures steps { self.new.steps ≡ self.old.steps + 1 }
+        ensures can_step { result ≡ live_can_step self.new.program self.new.live task }
+        ensures stands { (events : List AnyEvent) → Stands self.old events
+            → Stands self.new (events ++ Event.Step task ∷ []) }
+        ensures runs_well { (events : List AnyEvent) (budget : AnyBudgets)
+            → Stands self.old events → IsBudgetOf self.old.program (main_of self.old.program) budget
+            → RunsWell self.old.program budget (events ++ Event.Step task ∷ []) }
+    {
+        self.laws();
+        self.take_step(task)
     }
 
     /// A task that can step, or `None` if and only if there is no such task.

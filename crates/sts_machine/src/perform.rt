@@ -12,13 +12,13 @@ ghost use Rattle.sts_model.specs.World.{instr_at};
 ghost use Rattle.sts_rules.specs.declared.budget.Budgets.{Budgets as AnyBudgets};
 ghost use Rattle.laws_live.specs.Effect.{live_effect};
 ghost use Rattle.laws_live.specs.Reading.{lives_in};
-ghost use Rattle.laws_live.specs.Waiting.{live_stand_at};
+ghost use Rattle.laws_live.specs.Waiting.{live_can_step, live_stand_at};
 ghost use Rattle.laws_live.specs.Fine.{IsLiveFine};
 ghost use Rattle.laws_live.specs.Order.{InOrder};
 ghost use Rattle.sts_store.specs.Parts.{frame_of, live_of, stand_in, unseen_of};
 
 use crate::effect::effect;
-use crate::stands::{say_stand, say_stand_if_near};
+use crate::stands::{can_go_on, say_stand, say_stand_if_near};
 use laws_live::{effects_move_one, idle_stand_free};
 use sts_code::{Instr, Program};
 use sts_frames::is_local;
@@ -70,9 +70,16 @@ fn local_step(store: &mut Store, program: &Program, code: &[Instr], t: u32, inst
     may_wait_next(next)
 }
 
-/// Does the next instruction of a living task, a local one. It must be no misuse.
+/// Does the next instruction of a living task, a local one, and answers whether the task can step
+/// then. It must be no misuse.
 #[inline(always)]
-fn perform_local(store: &mut Store, program: &Program, code: &[Instr], t: u32, instr: &Instr)
+fn perform_local(
+    store: &mut Store,
+    program: &Program,
+    code: &[Instr],
+    t: u32,
+    instr: &Instr,
+) -> bool
     requires lives { lives_in (live_of store.old) t ≡ true }
     requires own_code { code.now ≡ world.code program.now (frame_of store.old t) }
     requires short { length code.now ≤ MAX_INSTRUCTIONS }
@@ -88,16 +95,24 @@ fn perform_local(store: &mut Store, program: &Program, code: &[Instr], t: u32, i
     ensures standing { AreStanding program.now (live_of store.new) (unseen_of store.new) }
     ensures room { (b : AnyBudgets) → HasRoomOf b (live_of store.old) (unseen_of store.old)
         → HasRoomOf b (live_of store.new) (unseen_of store.new) }
+    ensures can_step { result ≡ live_can_step program.now (live_of store.new) t }
 {
     effects_move_one();
     idle_stand_free();
     let is_near = local_step(store, program, code, t, instr);
-    say_stand_if_near(store, program, t, is_near);
+    say_stand_if_near(store, program, t, is_near)
 }
 
-/// Does the next instruction of a living task. It must be no misuse, and there must be room for it.
+/// Does the next instruction of a living task, and answers whether the task can step then. It must
+/// be no misuse, and there must be room for it.
 #[inline(always)]
-pub(crate) fn perform(store: &mut Store, program: &Program, code: &[Instr], t: u32, instr: &Instr)
+pub(crate) fn perform(
+    store: &mut Store,
+    program: &Program,
+    code: &[Instr],
+    t: u32,
+    instr: &Instr,
+) -> bool
     requires lives { lives_in (live_of store.old) t ≡ true }
     requires own_code { code.now ≡ world.code program.now (frame_of store.old t) }
     requires short { length code.now ≤ MAX_INSTRUCTIONS }
@@ -113,16 +128,17 @@ pub(crate) fn perform(store: &mut Store, program: &Program, code: &[Instr], t: u
     ensures standing { AreStanding program.now (live_of store.new) (unseen_of store.new) }
     ensures room { (b : AnyBudgets) → HasRoomOf b (live_of store.old) (unseen_of store.old)
         → HasRoomOf b (live_of store.new) (unseen_of store.new) }
+    ensures can_step { result ≡ live_can_step program.now (live_of store.new) t }
 {
     if is_local(*instr) {
-        perform_local(store, program, code, t, instr);
-        return;
+        return perform_local(store, program, code, t, instr);
     }
     effects_move_one();
     idle_stand_free();
     effect(store, program, code, t, instr);
     if ends_task(instr) {
-        return;
+        return false;
     }
-    say_stand(store, program, t, may_wait(instr));
+    let stand = say_stand(store, program, t, may_wait(instr));
+    can_go_on(store, program, t, stand)
 }

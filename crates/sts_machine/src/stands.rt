@@ -6,7 +6,8 @@ ghost use Rattle.sts_machine.specs.Standing.{AreStanding, AreStandingBut, is_fre
 ghost use Rattle.sts_model.specs.declared.event.Stand.TheVariants.{Free as StandsFree};
 ghost use Rattle.sts_rules.specs.declared.budget.Budgets.{Budgets as AnyBudgets};
 ghost use Rattle.laws_live.specs.Reading.{lives_in};
-ghost use Rattle.laws_live.specs.Waiting.{live_stand_at, live_stands_at_close, live_stands_at_join};
+ghost use Rattle.laws_live.specs.Waiting.{live_can_step, live_stand_at, live_stands_at_close};
+ghost use Rattle.laws_live.specs.Waiting.{live_stands_at_join};
 ghost use Rattle.sts_store.specs.Parts.{live_of, stand_in, unseen_of};
 ghost use Rattle.laws_live.specs.Order.{InOrder};
 
@@ -65,10 +66,10 @@ fn is_free(stand: Stand) -> bool
     matches!(stand, Stand::Free)
 }
 
-/// Records at which scope a living task is. For a task that can't have waited no scope is recorded,
-/// so it needs no new record.
+/// Records at which scope a living task is, and answers that. For a task that can't have waited no
+/// scope is recorded, so it needs no new record.
 #[inline(always)]
-pub(crate) fn say_stand(store: &mut Store, program: &Program, t: u32, waited: bool)
+pub(crate) fn say_stand(store: &mut Store, program: &Program, t: u32, waited: bool) -> Stand
     requires lives { lives_in (live_of store.old) t ≡ true }
     requires order { InOrder (live_of store.old) }
     requires others { AreStandingBut program.now (live_of store.old) (unseen_of store.old) t }
@@ -79,18 +80,36 @@ pub(crate) fn say_stand(store: &mut Store, program: &Program, t: u32, waited: bo
     ensures standing { AreStanding program.now (live_of store.new) (unseen_of store.new) }
     ensures room { (b : AnyBudgets) → HasRoomOf b (live_of store.old) (unseen_of store.old)
         → HasRoomOf b (live_of store.new) (unseen_of store.new) }
+    ensures stand { result ≡ live_stand_at program.now (live_of store.new) t }
 {
     stands_are_owned();
     let stand = stand_at(store, program, t);
     if waited || !is_free(stand) {
         store.stand(t, stand);
     }
+    stand
 }
 
-/// Records at which scope a living task is that was at none before. `is_near` says whether its next
-/// instruction may be a `join` or a `close`. If not, it is at none, as is recorded already.
+/// Whether a living task can step that is at this scope, or at none. A task that is at none can.
 #[inline(always)]
-pub(crate) fn say_stand_if_near(store: &mut Store, program: &Program, t: u32, is_near: bool)
+pub(crate) fn can_go_on(store: &Store, program: &Program, t: u32, stand: Stand) -> bool
+    requires lives { lives_in (live_of store.now) t ≡ true }
+    requires standing { AreStanding program.now (live_of store.now) (unseen_of store.now) }
+    requires stand { stand ≡ live_stand_at program.now (live_of store.now) t }
+    ensures { result ≡ live_can_step program.now (live_of store.now) t }
+{
+    let _ = program;
+    if is_free(stand) {
+        return true;
+    }
+    store.can_step(t)
+}
+
+/// Records at which scope a living task is that was at none before, and answers whether it can step.
+/// `is_near` says whether its next instruction may be a `join` or a `close`. If not, it is at none,
+/// as is recorded already.
+#[inline(always)]
+pub(crate) fn say_stand_if_near(store: &mut Store, program: &Program, t: u32, is_near: bool) -> bool
     requires lives { lives_in (live_of store.old) t ≡ true }
     requires order { InOrder (live_of store.old) }
     requires others { AreStandingBut program.now (live_of store.old) (unseen_of store.old) t }
@@ -101,8 +120,11 @@ pub(crate) fn say_stand_if_near(store: &mut Store, program: &Program, t: u32, is
     ensures standing { AreStanding program.now (live_of store.new) (unseen_of store.new) }
     ensures room { (b : AnyBudgets) → HasRoomOf b (live_of store.old) (unseen_of store.old)
         → HasRoomOf b (live_of store.new) (unseen_of store.new) }
+    ensures can_step { result ≡ live_can_step program.now (live_of store.new) t }
 {
-    if is_near {
-        say_stand(store, program, t, false);
+    if !is_near {
+        return true;
     }
+    let stand = say_stand(store, program, t, false);
+    can_go_on(store, program, t, stand)
 }

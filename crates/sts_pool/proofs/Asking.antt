@@ -3,8 +3,6 @@ use Rattle.std.proofs.Common.{◌≡◌, ℕ, zero, suc, ◌+◌, List, [], ◌�
 use Rattle.std.specs.Prelude.{IfErr, IfNone, IfSome, OnErr, Result, Ok, Err, is_some, option_map}
 use Rattle.sts_code.specs.Program.{Program}
 use Rattle.sts_machine.specs.Slice.{steps_of}
-use Rattle.sts_machine.specs.declared.turned.Turned.{Turned}
-use Rattle.sts_machine.specs.declared.turned.Turned.TheVariants.{Stepped, Idle}
 use Rattle.sts_model.specs.declared.event.End.{End}
 use Rattle.sts_model.specs.declared.event.Event.{Event}
 use Rattle.sts_model.specs.declared.event.Event.TheVariants.{Step}
@@ -194,11 +192,10 @@ module _ {O : Type 0} (gives : O → ℕ → Option Event → O → Type 0) (p :
       subst (λ z. IsAsked gives p w first z now false) (sym same)
       (record { program = is.program; written = is.written; events = is.events; journal = is.journal; gave = is.gave; spent = λ e. absurd (cc) })
 
-  -- after a turn
-  pub turned_asked : (b x : BookSeen) (now : O) (s : Bool) (t : ℕ) (turned : Turned) → x.program ≡ b.program → (turned ≡ Stepped → Records b x (Step t ∷ [])) → (turned ≡ Idle → x ≡ b) → IsAsked gives p w first b now s → IsAsked gives p w first x now false
-  turned_asked b x now s t Stepped same records idle is =
-      more_asked b x now now s (Step t ∷ []) same (records refl) (λ o events journal before. outside.step events now t before) is
-  turned_asked b x now s t Idle same records idle is = stays_asked b x now s (idle refl) is
+  -- after a step
+  pub stepped_asked : (b x : BookSeen) (now : O) (s : Bool) (t : ℕ) → x.program ≡ b.program → Records b x (Step t ∷ []) → IsAsked gives p w first b now s → IsAsked gives p w first x now false
+  stepped_asked b x now s t same records is =
+      more_asked b x now now s (Step t ∷ []) same records (λ o events journal before. outside.step events now t before) is
 
   -- after steps of a task
   pub ran_asked : (b x : BookSeen) (now : O) (s : Bool) (c t : ℕ) → x.program ≡ b.program → Records b x (steps_of c t) → IsAsked gives p w first b now s → IsAsked gives p w first x now false

@@ -249,6 +249,11 @@ picks_alike a b None same picks = λ t. same t ∙ picks t
 pub free_parts : (can : Bool) (out : List ℕ) (t : ℕ) → (can && not (among out t)) ≡ true → (can ≡ true) × (among out t ≡ false)
 free_parts can out t free = let both = and_parts can (not (among out t)) free in (both.0, not-true _ both.1)
 
+-- a task that isn't out is free if it can step
+pub still_free : (r can : Bool) (out : List ℕ) (t : ℕ) → r ≡ can → among out t ≡ false → r ≡ (can && not (among out t))
+still_free r true out t e absent = e ∙ sym (not_from_false (among out t) absent)
+still_free r false out t e absent = e
+
 -- a task may not turn if it is out
 pub out_no_turn : (can out : Bool) → out ≡ true → (can && not out) ≡ false
 out_no_turn can out is = and_right can (not out) (not_from_true out is)

@@ -124,6 +124,14 @@ one_step p v t before now steps can =
     let one = cond-true {A = ℕ} (live_can_step p v t) 1 0 can in
     omega (arith, steps, one)
 
+pub counted_step : (m : Seen) (t now : ℕ) → live_can_step m.program m.live t ≡ true → now ≡ m.steps + 1 → now ≡ m.steps + live_steps_in m.program m.live (event.Step t)
+counted_step m t now can steps =
+    let one = cond-true {A = ℕ} (live_can_step m.program m.live t) 1 0 can in
+    omega (arith, steps, one)
+
+pub counts_one : (t before now : ℕ) → now ≡ before + 1 → now ≡ before + count_by is_step (event.Step t ∷ [])
+counts_one t before now steps = omega (arith, steps)
+
 -- those of a slice are
 pub all_steps : (c t before now : ℕ) → now ≡ before + c → now ≡ before + count_by is_step (steps_of c t)
 all_steps c t before now steps =

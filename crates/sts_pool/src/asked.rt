@@ -2,7 +2,7 @@
 
 ghost use Rattle.std.specs.Prelude.{◌≡◌, ◌+◌, ◌<◌, [], IfSome, is_some, false, true};
 ghost use Rattle.sts_pool.specs.Asked.{HasGiven};
-ghost use Rattle.sts_pool.specs.Book.{IsJournal};
+ghost use Rattle.sts_pool.specs.Book.{IsJournal, is_free};
 
 use crate::book::{Book, OutsideFull};
 use crate::gate::Outside;
@@ -87,6 +87,7 @@ impl<'p, O: Outside, B: Runs<O>> Asked<'p, O, B> {
         ensures given { result ≡ false → HasGiven O.gives B.outside self.new }
         ensures room { result ≡ true → self.old.outside < MAX_OUTSIDE }
         ensures more { result ≡ true → self.new.outside ≡ self.old.outside + 1 }
+        ensures none { result ≡ false → self.new ≡ self.old }
     {
         if self.book.is_full() {
             self.is_spent = true;
@@ -108,14 +109,17 @@ impl<'p, O: Outside, B: Runs<O>> Asked<'p, O, B> {
     }
 
     /// Records the events from outside that are due, until there is none or the book is full.
+    /// Answers whether there was one.
     #[inline(always)]
-    pub(crate) fn ask(&mut self)
-        ensures { HasGiven O.gives B.outside self.new }
+    pub(crate) fn ask(&mut self) -> bool
+        ensures given { HasGiven O.gives B.outside self.new }
+        ensures none { result ≡ false → self.new ≡ self.old }
     {
         if !self.records_next() {
-            return;
+            return false;
         }
         self.ask_on();
+        true
     }
 
     /// Goes on with that after the first event.
@@ -136,11 +140,37 @@ impl<'p, O: Outside, B: Runs<O>> Asked<'p, O, B> {
         self.ask();
     }
 
-    /// Takes a step of a task that can step and isn't out, and records it.
+    /// Takes a step of a task that can step and isn't out, and records it. Then asks. Answers
+    /// whether the task can step after that.
     #[inline(always)]
-    pub(crate) fn turn(&mut self, task: u32) -> Turned {
+    fn turn(&mut self, task: u32) -> bool
+        requires { is_free self.old task ≡ true }
+        ensures { result ≡ true → is_free self.new task ≡ true }
+    {
         self.is_spent = false;
-        self.book.turn(task)
+        if !self.book.step(task) {
+            return false;
+        }
+        if self.ask() {
+            return self.book.is_at_hand(task);
+        }
+        true
+    }
+
+    /// Takes up to `most` steps of a task, as long as it can step and isn't out, and records them.
+    /// Asks before each. Answers whether it took all and the task can step.
+    #[inline(always)]
+    pub(crate) fn turns(&mut self, task: u32, most: u32) -> bool {
+        self.ask();
+        if !self.book.is_at_hand(task) {
+            return false;
+        }
+        for _ in 0..most {
+            if !self.turn(task) {
+                return false;
+            }
+        }
+        true
     }
 
     /// Does local steps of a task that isn't out, and records them. Answers how many.

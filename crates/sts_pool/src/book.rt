@@ -170,6 +170,21 @@ impl<'p> Book<'p> {
         }
     }
 
+    /// Takes a step of a task that can step and isn't out, and records it. Answers whether it can
+    /// step then.
+    #[inline(always)]
+    pub(crate) fn step(&mut self, task: u32) -> bool
+        requires { is_free self.old task ≡ true }
+        ensures free { result ≡ is_free self.new task }
+        ensures journal { Records self.old self.new (Event.Step task ∷ []) }
+        ensures program { self.new.program ≡ self.old.program }
+        ensures out { self.new.out ≡ self.old.out }
+    {
+        let can_step = self.machine.step(task);
+        self.journal.push(Event::Step(task));
+        can_step
+    }
+
     /// Does local steps of a task that can step and isn't out, in place, until the limit or the
     /// first other step. Records them, and answers how many. Of another task it does none.
     pub fn run_here(&mut self, task: u32, limit: u32) -> u32

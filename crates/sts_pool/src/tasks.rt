@@ -3,7 +3,7 @@
 use crate::asked::{Asked, Runs};
 use crate::gate::Outside;
 use arrayvec::ArrayVec;
-use sts_machine::{Slice, Turned};
+use sts_machine::Slice;
 use sts_waits::{Back, Tasks};
 
 /// The slices that a worker takes at one hold of the lock: one, or some of tasks born one after the
@@ -43,8 +43,8 @@ impl<'p, O: Outside, B: Runs<O>> Tasks for Asked<'p, O, B> {
     }
 
     #[inline(always)]
-    fn turn(&mut self, task: u32) -> bool {
-        Asked::turn(self, task) == Turned::Stepped
+    fn turns(&mut self, task: u32, most: u32) -> bool {
+        Asked::turns(self, task, most)
     }
 
     fn run_here(&mut self, task: u32, limit: u32) -> u32 {

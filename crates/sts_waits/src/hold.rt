@@ -103,18 +103,6 @@ impl Waits {
         }
     }
 
-    /// Does up to `most` turns of a task, until one is no step. Answers whether all of them were
-    /// steps.
-    fn turns<T: Tasks>(&self, tasks: &mut T, task: u32, most: u32) -> bool {
-        for _ in 0..most {
-            tasks.ask();
-            if !tasks.turn(task) {
-                return false;
-            }
-        }
-        true
-    }
-
     /// Does a task's steps under the lock: turns, and local instructions in place behind some turns
     /// in a row. Answers whether a slice of the task is to be taken, since it has a long row of local
     /// instructions. If not, the task can't step, or it had its share of this hold.
@@ -122,7 +110,7 @@ impl Waits {
         let mut left = self.in_a_hold();
         let mut turns = self.limits.in_a_row;
         while left > 0 {
-            if !self.turns(tasks, task, turns) {
+            if !tasks.turns(task, turns) {
                 return false;
             }
             let limit = self.in_place(self.has_many(tasks, task));

@@ -33,8 +33,10 @@ pub trait Tasks {
     /// Ends a claim.
     fn release(&mut self, task: u32);
 
-    /// Takes a step of a task that can step and isn't out. Answers whether it did.
-    fn turn(&mut self, task: u32) -> bool;
+    /// Takes up to `most` steps of a task, as long as it can step and isn't out. Before each it
+    /// records the events from outside that are due. Answers whether it took all and the task can
+    /// step.
+    fn turns(&mut self, task: u32, most: u32) -> bool;
 
     /// Does local steps of a task that isn't out, in place, up to the limit. Answers how many.
     fn run_here(&mut self, task: u32, limit: u32) -> u32;

@@ -230,12 +230,16 @@ impl Tasks for Run {
         self.set_out(task, false);
     }
 
-    fn turn(&mut self, task: u32) -> bool {
-        let is_step = self.is_at_hand(task);
-        if is_step {
+    fn turns(&mut self, task: u32, most: u32) -> bool {
+        for _ in 0..most {
+            self.ask();
+            if !self.is_at_hand(task) {
+                return false;
+            }
             self.takes(task, 1);
         }
-        is_step
+        self.ask();
+        self.is_at_hand(task)
     }
 
     fn run_here(&mut self, task: u32, limit: u32) -> u32 {
