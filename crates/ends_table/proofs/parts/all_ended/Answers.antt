@@ -1,4 +1,6 @@
-use Rattle.std.proofs.Common.{◌≡◌, ◌≤◌, ◌∙◌, ap, map, arith, length, take}
+use Rattle.std.proofs.Common.{◌≡◌, List, ◌∙◌, ap, subst, map, arith, take}
+use Rattle.std.specs.Result.{IfOk}
+use Rattle.laws_calls.specs.declared.table.Part.{Part}
 use Rattle.std.proofs.lemmas.List.{take_all}
 use Rattle.laws_calls.specs.Steps.{ended}
 use Rattle.sts_repeats.specs.Spread.{spread}
@@ -14,4 +16,5 @@ pub returns : goal.returns
 returns c =
     let runs = c.runs-run-items.result.now in
     let all : take c.loop-run.run-index runs ≡ runs = take_all c.loop-run.run-index runs (omega arith) in
-    c.of.ensures ∙ c.loop-run.invariant ∙ ap (λ xs. map ended (spread xs)) all ∙ ap (map ended) c.runs-run-items.ensures
+    let same : spread c.loop-run.after.items ≡ map ended c.args.parts.now = c.loop-run.invariant ∙ ap (λ xs. map ended (spread xs)) all ∙ ap (map ended) c.runs-run-items.ensures in
+    subst (λ (ps : List Part). IfOk c.of.result (λ xs. xs ≡ ps)) same c.of.ensures
