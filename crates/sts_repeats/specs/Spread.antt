@@ -6,7 +6,7 @@ abbrev pub spread : {X : Type 0} → List (Run X) → List X
 spread [] = []
 spread (run ∷ runs) = run.value ∷ replicate run.more run.value ++ spread runs
 
--- the value at an index is one of the i-th run, and so many equal ones are before it
+-- the value at an index is one of the i-th run, behind `before` equal ones
 pub record IsAt {X : Type 0} (runs : List (Run X)) (at i before : ℕ) : Type 0 where
   pub run : Run X
   pub there : slice_get runs i ≡ Some run

@@ -12,7 +12,7 @@ use std::rc::Rc;
 use sts_same::copied::Copied;
 use sts_same::same::{Same, same_slices};
 
-/// Values of which a number can be made that equal ones have in common.
+/// Values that have a number. Equal ones have the same number.
 pub trait Printed {
     /// The hash of one value more.
     fn print(&self, hash: u64) -> u64;

@@ -104,7 +104,7 @@ fn joined<T: Same>(runs: &[Run<T>], value: &T, more: usize) -> Option<usize>
     Some(last.more + more + 1)
 }
 
-/// Appends a value and so many equal ones.
+/// Appends a value, and `more` equal ones.
 pub fn push_run<T: Same + Drop>(
     runs: &mut Vec<Run<T>>,
     value: T,
@@ -138,7 +138,7 @@ fn push_equal<T: Same + Drop>(
     Ok(())
 }
 
-/// Appends copies of runs, of which the first may be like the last one.
+/// Appends copies of runs. The first may join the last run.
 fn push_runs<T: Same + Copied>(
     alloc: Global,
     runs: &mut Vec<Run<T>>,
