@@ -390,11 +390,26 @@ FLAKY = (
     "total s1 / close s1 / ret / bad: / close s1 / fail / late: / close s1 / load 0 / push 7 / add / fail / "
     "intr: / close s1 / load 0 / push 8 / add / fail / end"
 )
+# It succeeds or it fails, whichever of its two subtasks is first.
+RACING = (
+    "func one 0 / push 1 / ret / end / func two 0 / push 0 / ret / end / func racing 1 / open s1 any / fork s1 one _ / fork s1 two _ / "
+    "join s1 bad - intr / close s1 / jz lost / load 0 / ret / lost: / push 9 / fail / bad: / close s1 / fail / intr: / close s1 / push 80 / fail / end"
+)
 JOINERS = ("all", "awaitok", "any", "awaitall", "until failed 3", "until success 3", "until atleast 40")
+EQUAL = (1000, 2000, 3000)
+
+
+def equal(text, called, timed, count):
+    """A main that forks so many equal subtasks under `all`."""
+    return lines(f"{text} / {forks('main 0', '', 'all', timed, count, called, '')}")
+
+
 # By the name of a text whose ends are searched: the text, and how many interrupts may come.
 ENDS = {
     **{f"200 flaky subtasks, {joiner} timed": (lines(f"{FLAKY} / {forks('main 0', '', joiner, True, 200, 'flaky')}"), 1) for joiner in JOINERS},
-    "3000 equal subtasks, all": (lines("func kid 1 / load 0 / ret / end / " + forks("main 0", "", "all", False, 3000, "kid", "")), 0),
+    **{f"{count} equal subtasks, all": (equal("func kid 1 / load 0 / ret / end", "kid", False, count), 0) for count in EQUAL},
+    **{f"{count} equal racing subtasks, all": (equal(RACING, "racing", False, count), 0) for count in EQUAL},
+    **{f"{count} equal flaky subtasks, all timed": (equal(FLAKY, "flaky", True, count), 1) for count in EQUAL},
     "8 groups of 8 of 8, all timed": (levels((8, 8, 8)), 2),
     "50 groups of 50, all timed": (levels((50, 50)), 2),
 }

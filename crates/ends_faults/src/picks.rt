@@ -47,7 +47,7 @@ fn without(alloc: Global, kind: Kind, part: &Part) -> Result<Part, AllocError>
 {
     let ways = other_ways(alloc, kind, part.ways.as_slice())?;
     Ok(Part {
-        ways: Shared::new(alloc, ways, 0)?,
+        ways: Shared::new(alloc, ways)?,
         is_open: part.is_open,
         is_early: part.is_early,
     })

@@ -47,5 +47,5 @@ pub fn joins_wrongly(frame: &Frame, failed: Option<u32>, timeout: Option<u32>, s
 pub fn may_close(seen: &Seen) -> bool
     ensures { result ≡ true → misuse.is_opened seen.now.phase ≡ true → seen.now.parts ≡ [] }
 {
-    !seen.phase.is_opened() || seen.parts.as_slice().is_empty()
+    !seen.phase.is_opened() || seen.parts.is_empty()
 }

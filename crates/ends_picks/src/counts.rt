@@ -5,12 +5,16 @@ ghost use Rattle.std.specs.List.{list_any, list_all};
 ghost use Rattle.ends_picks.specs.Bounds as bounds;
 ghost use Rattle.laws_calls.specs.Steps as def;
 ghost use Rattle.laws_calls.specs.Triggers as triggers;
+ghost use Rattle.laws_calls.specs.declared.table.Part.{Part};
 ghost use Rattle.laws_calls.specs.declared.table.Way.{Way};
+ghost use Rattle.sts_repeats.specs.declared.runs.Run.{Run};
 
 use crate::joiners::{is_trigger, limit, most};
 use laws_calls::table::{Knowledge, Part, Seen, Way};
 use sts_code::Joiner;
 use sts_model::Phase;
+use sts_repeats::repeats::Repeats;
+use sts_repeats::runs::Run;
 
 /// Is there a way that doesn't count?
 fn has_other(joiner: Joiner, ways: &[Way]) -> bool
@@ -48,24 +52,31 @@ fn can_be(part: &Part) -> bool
 }
 
 /// How many parts have ended by ends that count.
-pub fn sure_count(joiner: Joiner, parts: &[Part]) -> usize
+pub fn sure_count(joiner: Joiner, parts: &Repeats<Part>) -> usize
     ensures { result ≡ count_by (def.is_sure joiner) parts.now }
 {
-    parts.iter().filter(|part| is_sure(joiner, part)).count()
+    parts.count(|part| is_sure(joiner, part))
 }
 
 /// How many parts may end by ends that count.
-fn greatest_count(joiner: Joiner, parts: &[Part]) -> usize
+fn greatest_count(joiner: Joiner, parts: &Repeats<Part>) -> usize
     ensures { result ≡ count_by (bounds.can_count joiner) parts.now }
 {
-    parts.iter().filter(|part| can_count(joiner, part)).count()
+    parts.count(|part| can_count(joiner, part))
+}
+
+/// Has each run a state that is possible?
+fn runs_can_be(runs: &[Run<Part>]) -> bool
+    ensures { result ≡ list_all (λ (run : Run Part). bounds.can_be run.value) runs.now }
+{
+    runs.iter().all(|run| can_be(&run.value))
 }
 
 /// Has each part a state that is possible?
-fn all_can_be(parts: &[Part]) -> bool
+fn all_can_be(parts: &Repeats<Part>) -> bool
     ensures { result ≡ list_all bounds.can_be parts.now }
 {
-    parts.iter().all(|part| can_be(part))
+    runs_can_be(parts.runs())
 }
 
 /// May the number of ends that count be one from `least` to `greatest`?
@@ -91,7 +102,7 @@ pub fn counts_fit(
 pub fn may_fit(seen: &Seen) -> bool
     ensures { result ≡ bounds.may_fit seen.now }
 {
-    let parts = seen.parts.as_slice();
+    let parts = &seen.parts;
     all_can_be(parts)
         && counts_fit(
             seen.knowledge,

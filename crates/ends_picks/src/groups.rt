@@ -14,6 +14,7 @@ use crate::ranges::Range;
 use laws_calls::table::{Part, Way};
 use sts_code::{Joiner, Kind};
 use sts_model::End;
+use sts_repeats::repeats::Repeats;
 
 /// A group of states of a subtask.
 #[derive(Clone, Copy)]
@@ -109,27 +110,21 @@ fn may_be_out(joiner: Joiner, group: Group, part: &Part) -> bool
 }
 
 /// How many parts may be in the group.
-fn count_in(joiner: Joiner, group: Group, parts: &[Part]) -> usize
+fn count_in(joiner: Joiner, group: Group, parts: &Repeats<Part>) -> usize
     ensures { result ≡ count_by (groups.may_be_in joiner group) parts.now }
 {
-    parts
-        .iter()
-        .filter(|part| may_be_in(joiner, group, part))
-        .count()
+    parts.count(|part| may_be_in(joiner, group, part))
 }
 
 /// How many parts may be out of the group.
-fn count_out(joiner: Joiner, group: Group, parts: &[Part]) -> usize
+fn count_out(joiner: Joiner, group: Group, parts: &Repeats<Part>) -> usize
     ensures { result ≡ count_by (groups.may_be_out joiner group) parts.now }
 {
-    parts
-        .iter()
-        .filter(|part| may_be_out(joiner, group, part))
-        .count()
+    parts.count(|part| may_be_out(joiner, group, part))
 }
 
 /// How many parts are in the group, at least and at most.
-pub fn range_of(joiner: Joiner, group: Group, parts: &[Part]) -> Range
+pub fn range_of(joiner: Joiner, group: Group, parts: &Repeats<Part>) -> Range
     ensures { (pick : List (Option End)) → Picks parts.now pick
         → IsIn result (count_by (groups.is_in joiner group) pick) }
 {

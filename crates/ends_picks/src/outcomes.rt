@@ -320,8 +320,8 @@ pub fn outcomes(alloc: Global, seen: &Seen) -> Result<Vec<Outcome>, Failure>
         → Among found.items (def.outcome_of seen.now pick)) }
 {
     let mut found = of_no_parts(alloc)?;
-    for part in seen.parts.as_slice() {
-        found = extended(alloc, seen, found.as_slice(), part)?;
+    for i in 0..seen.parts.len() {
+        found = extended(alloc, seen, found.as_slice(), seen.parts.at(i))?;
     }
     Ok(found)
 }

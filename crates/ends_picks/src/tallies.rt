@@ -42,7 +42,7 @@ fn counting(seen: &Seen) -> Range
         → IsIn result (count_by (groups.is_in seen.now.joiner Counting) pick) }
 {
     let allowed = allowed(seen.knowledge, seen.phase, seen.joiner);
-    let range = range_of(seen.joiner, Group::Counting, seen.parts.as_slice());
+    let range = range_of(seen.joiner, Group::Counting, &seen.parts);
     range.meet(allowed)
 }
 
@@ -58,7 +58,7 @@ fn ended(seen: &Seen, succeeds: bool) -> Range
     ensures { (pick : List (Option End)) → Fits seen.now pick
         → IsIn result (count_by (groups.is_in seen.now.joiner (Of (groups.kind_of succeeds))) pick) }
 {
-    let parts = seen.parts.as_slice();
+    let parts = &seen.parts;
     let others = range_of(seen.joiner, Group::Counted(!succeeds), parts);
     let counting = counting(seen);
     let counted = counting.minus(others);
@@ -76,7 +76,7 @@ fn of_kind(seen: &Seen, kind: Kind) -> Range
     match kind {
         Kind::S => ended(seen, true),
         Kind::F => ended(seen, false),
-        Kind::U => range_of(seen.joiner, Group::Of(Kind::U), seen.parts.as_slice()),
+        Kind::U => range_of(seen.joiner, Group::Of(Kind::U), &seen.parts),
     }
 }
 
@@ -126,6 +126,6 @@ pub fn tallies_fit(seen: &Seen) -> bool
     let successes = tally_range(seen, Kind::S);
     let failures = tally_range(seen, Kind::F);
     let unavailable = tally_range(seen, Kind::U);
-    let parts = seen.parts.as_slice();
+    let parts = &seen.parts;
     have_sum(successes, failures, unavailable, parts.len())
 }

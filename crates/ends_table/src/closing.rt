@@ -32,8 +32,8 @@ const OF_STATE: usize = 1_400;
 /// A scope without parts takes this number of bytes.
 const OF_SCOPE: usize = 150;
 
-/// A part takes this number of bytes.
-const OF_PART: usize = 20;
+/// A run of equal parts takes this number of bytes.
+const OF_RUN: usize = 32;
 
 /// The births that are left to each state of a row while the row is made.
 const PLENTY: u32 = u32::MAX;
@@ -72,8 +72,8 @@ fn size_of(seen: &Seen) -> usize {
     if seen.parts.is_shared() {
         return OF_SCOPE;
     }
-    let parts = seen.parts.as_slice().len().saturating_mul(OF_PART);
-    parts.saturating_add(OF_SCOPE)
+    let runs = seen.parts.runs().len().saturating_mul(OF_RUN);
+    runs.saturating_add(OF_SCOPE)
 }
 
 /// About how many bytes a state takes.
@@ -267,7 +267,7 @@ impl Open {
             call: self.call,
             births,
             states,
-            ways: Shared::new(alloc, self.ways, 0)?,
+            ways: Shared::new(alloc, self.ways)?,
         })
     }
 }

@@ -1,18 +1,13 @@
 //! Numbers that equal states share, and most others don't. The states of a row are in rising order
 //! of them, so that one is found by halving. They are only hints, with no contract.
 
-use laws_calls::table::{Held, Own, Part, Seen};
+use laws_calls::table::{Held, Own, Seen};
 use std::alloc::AllocError;
-use sts_model::{Bound, End, Entry, Frame};
+use sts_model::{Bound, Entry, Frame};
+use sts_repeats::repeats::mixed;
 
 /// The hash of no numbers.
 const SEED: u64 = 0xcbf2_9ce4_8422_2325;
-
-/// The hash of one number more.
-fn mixed(hash: u64, n: u64) -> u64 {
-    let product = (hash ^ n).wrapping_mul(0x9e37_79b9_7f4a_7c15);
-    product ^ (product >> 32)
-}
 
 fn with_values(hash: u64, values: &[i64]) -> u64 {
     let mut hash = mixed(hash, values.len() as u64);
@@ -61,27 +56,6 @@ fn with_slots(hash: u64, slots: &[Held]) -> u64 {
     hash
 }
 
-fn with_end(hash: u64, end: End) -> u64 {
-    match end {
-        End::Success(value) => mixed(hash, value.cast_unsigned()),
-        End::Failed(code) => mixed(hash, !code.cast_unsigned()),
-    }
-}
-
-/// A part by the number of its ways, and by the first and the last one.
-pub fn with_part(hash: u64, part: &Part) -> u64 {
-    let ways = part.ways.as_slice();
-    let flags = 2 * u64::from(part.is_open) + u64::from(part.is_early);
-    let mut hash = mixed(hash, 4 * (ways.len() as u64 & 0xffff) + flags);
-    if let Some(way) = ways.first() {
-        hash = with_end(hash, way.end);
-    }
-    if let Some(way) = ways.last() {
-        hash = with_end(hash, way.end);
-    }
-    hash
-}
-
 fn with_bounds(hash: u64, bounds: &[Bound]) -> u64 {
     let mut hash = hash;
     for bound in bounds {
@@ -116,15 +90,6 @@ fn with_scope(hash: u64, seen: &Seen) -> u64 {
     hash = with_answers(hash, seen);
     hash = with_bounds(hash, seen.environment.as_slice());
     mixed(hash, seen.parts.print())
-}
-
-/// The number of a list of parts.
-pub fn print_of(parts: &[Part]) -> u64 {
-    let mut hash = SEED;
-    for part in parts {
-        hash = with_part(hash, part);
-    }
-    hash
 }
 
 /// The fingerprint of a state.

@@ -8,14 +8,12 @@ ghost use Rattle.laws_calls.specs.declared.table.Seen.{Seen};
 ghost use Rattle.sts_code.specs.Program.{routine};
 
 use crate::beginning::first_state;
-use crate::fingerprints::with_part;
 use crate::frames::stepped;
 use crate::places::{number, owned, set_held, with_scope};
 use crate::reached::leads_after;
 use crate::rows::row_of;
 use crate::stop::Stop;
 use ends_picks::joiners::is_cancelled;
-use laws_calls::copies::copy_list;
 use laws_calls::shared::Shared;
 use laws_calls::table::{Call, Held, Outside, Own, Part, Row, Seen, Way};
 use std::alloc::{AllocError, Global};
@@ -86,11 +84,8 @@ fn with_new_part(alloc: Global, seen: &Seen, ways: &Shared<Way>) -> Result<Seen,
         is_open: true,
         is_early: !seen.has_failure,
     };
-    let print = with_part(seen.parts.print(), &part);
-    let mut parts = copy_list(alloc, seen.parts.as_slice())?;
-    parts.push(part)?;
     let mut after = seen.copied(alloc)?;
-    after.parts = Shared::new(alloc, parts, print)?;
+    after.parts = seen.parts.pushed(alloc, part)?;
     Ok(after)
 }
 
@@ -108,7 +103,7 @@ fn forked(
     ensures { IfOk result (λ o. o
         ≡ def.forked program.now own.now place seen.now ways.now function handle) }
 {
-    let count = number(seen.parts.as_slice().len())?;
+    let count = number(seen.parts.len())?;
     let after = with_new_part(alloc, seen, ways)?;
     let frame = stepped(&own.frame, args(program, function) as usize)?;
     let mut next = with_scope(alloc, own, place, after, frame)?;
@@ -182,7 +177,7 @@ pub fn born_by_fork(
 fn no_ways(alloc: Global) -> Result<Shared<Way>, AllocError>
     ensures { IfOk result (λ ways. ways ≡ []) }
 {
-    Shared::new(alloc, Items::new(alloc), 0)
+    Shared::new(alloc, Items::new(alloc))
 }
 
 /// The state after a `fork` in a scope that is known to be cancelled.

@@ -14,7 +14,7 @@ use crate::frames::{answered, jumped};
 use crate::looks::with_knowledge;
 use crate::missing::Missing;
 use crate::parts::{all_ended, has_open, only};
-use crate::places::{number, shared, with_part};
+use crate::places::{number, with_part};
 use crate::reached::leads_with;
 use crate::stop::Stop;
 use ends_picks::joiners::{
@@ -48,7 +48,7 @@ fn after_all(alloc: Global, seen: &Seen) -> Result<Seen, AllocError>
         knowledge: Knowledge::Heard,
         asked: seen.asked,
         has_failure: seen.has_failure,
-        parts: shared(alloc, all_ended(alloc, seen.parts.as_slice())?)?,
+        parts: all_ended(alloc, &seen.parts)?,
     })
 }
 
@@ -81,7 +81,7 @@ pub fn attempted(
 ) -> Result<(), Stop>
     ensures { OnOk result (led.AttemptLeads states.now own.now place seen.now to) }
 {
-    if !is_unseen(seen.knowledge) || !has_open(seen.parts.as_slice()) {
+    if !is_unseen(seen.knowledge) || !has_open(&seen.parts) {
         return Ok(());
     }
     let mut after = seen.copied(alloc)?;
@@ -127,7 +127,7 @@ fn decided(
     ensures { OnOk result (led.DecidedLeads states.now own.now place seen.now failed i part.now
         end) }
 {
-    let count = number(seen.parts.as_slice().len())?;
+    let count = number(seen.parts.len())?;
     let answer = answer_by(seen.joiner, end, count);
     let after = with_part(alloc, seen, i, only(alloc, end, part)?)?;
     joined(alloc, states, own, place, after, answer, failed)
@@ -194,7 +194,7 @@ fn by_each(
         → triggers.is_trigger seen.now.joiner e ≡ true
         → led.DecidedLeads states.now own.now place seen.now failed i part e) }
 {
-    let parts = seen.parts.as_slice();
+    let parts = &seen.parts;
     let count = number(parts.len())?;
     let mut missing = Missing::new(alloc);
     for i in 0..count {
@@ -205,7 +205,7 @@ fn by_each(
             place,
             seen,
             i,
-            &parts[i as usize],
+            parts.at(i as usize),
             failed,
         );
         missing.note(step)?;
@@ -246,7 +246,7 @@ fn by_none(
     ensures { OnOk result (def.Leads states.now (def.joined own.now place seen
         (joining.result_of seen.joiner [] (length seen.parts)) failed)) }
 {
-    let count = number(seen.parts.as_slice().len())?;
+    let count = number(seen.parts.len())?;
     let answer = answer_by_none(seen.joiner, count);
     joined(alloc, states, own, place, seen, answer, failed)
 }
@@ -284,7 +284,7 @@ fn heard(
         → def.Leads states.now (def.joined own.now place (def.after_all seen.now)
         (joining.result_of seen.now.joiner [] (length seen.now.parts)) failed)) }
 {
-    let has_parts = !seen.parts.as_slice().is_empty();
+    let has_parts = !seen.parts.is_empty();
     if is_cancelled(seen.knowledge) || (is_any(seen.joiner) && has_parts) {
         return Ok(());
     }
@@ -355,7 +355,7 @@ fn each_first(
         → led.FirstLeads states.now own.now place seen.now failed i part e) }
 {
     let after = after_all(alloc, seen)?;
-    let parts = seen.parts.as_slice();
+    let parts = &seen.parts;
     let count = number(parts.len())?;
     let mut missing = Missing::new(alloc);
     for i in 0..count {
@@ -366,7 +366,7 @@ fn each_first(
             place,
             &after,
             i,
-            &parts[i as usize],
+            parts.at(i as usize),
             failed,
         );
         missing.note(step)?;

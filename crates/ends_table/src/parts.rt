@@ -6,6 +6,7 @@ ghost use Rattle.ends_table.specs.Led as led;
 ghost use Rattle.laws_calls.specs.Steps as def;
 ghost use Rattle.laws_calls.specs.declared.table.Part.{Part};
 ghost use Rattle.laws_calls.specs.declared.table.Way.{Way};
+ghost use Rattle.sts_repeats.specs.declared.runs.Run.{Run};
 
 use crate::places::with_part;
 use ends_picks::counts::sure_count;
@@ -15,6 +16,8 @@ use laws_calls::table::{Knowledge, Part, Seen, Way};
 use std::alloc::{AllocError, Global};
 use sts_code::Joiner;
 use sts_model::{End, Items};
+use sts_repeats::repeats::Repeats;
+use sts_repeats::runs::{Run, push_run};
 use sts_same::copied::Copied;
 
 /// The part has ended by this end.
@@ -24,7 +27,7 @@ pub fn only(alloc: Global, end: End, part: &Part) -> Result<Part, AllocError>
     let mut ways = Items::new(alloc);
     ways.push(Way { end })?;
     Ok(Part {
-        ways: Shared::new(alloc, ways, 0)?,
+        ways: Shared::new(alloc, ways)?,
         is_open: false,
         is_early: part.is_early,
     })
@@ -42,21 +45,28 @@ fn ended(part: &Part) -> Result<Part, AllocError>
 }
 
 /// Each part has ended.
-pub fn all_ended(alloc: Global, parts: &[Part]) -> Result<Items<Part>, AllocError>
+pub fn all_ended(alloc: Global, parts: &Repeats<Part>) -> Result<Repeats<Part>, AllocError>
     ensures { IfOk result (λ xs. xs ≡ map def.ended parts.now) }
 {
-    let mut after = Items::new(alloc);
-    for part in parts {
-        after.push(ended(part)?)?;
+    let mut after = Vec::new(alloc);
+    for run in parts.runs() {
+        push_run(&mut after, ended(&run.value)?, run.more)?;
     }
-    Ok(after)
+    Repeats::of(alloc, after)
+}
+
+/// May a part of some run be unavailable?
+fn has_open_run(runs: &[Run<Part>]) -> bool
+    ensures { result ≡ list_any (λ (run : Run Part). run.value.is_open) runs.now }
+{
+    runs.iter().any(|run| run.value.is_open)
 }
 
 /// May some part be unavailable?
-pub fn has_open(parts: &[Part]) -> bool
+pub fn has_open(parts: &Repeats<Part>) -> bool
     ensures { result ≡ list_any (λ (part : Part). part.is_open) parts.now }
 {
-    parts.iter().any(|part| part.is_open)
+    has_open_run(parts.runs())
 }
 
 /// Is the end of this kind?
@@ -102,7 +112,7 @@ fn settled(seen: Seen) -> Seen
     ensures { result ≡ def.settled seen }
 {
     let mut seen = seen;
-    let count = sure_count(seen.joiner, seen.parts.as_slice());
+    let count = sure_count(seen.joiner, &seen.parts);
     if is_unseen(seen.knowledge) && most(seen.joiner) as usize <= count {
         seen.knowledge = Knowledge::ByJoiner;
     }
@@ -135,7 +145,7 @@ pub fn told(
 {
     let ways = split(alloc, seen.joiner, counting, succeeds, part.ways.as_slice())?;
     let part = Part {
-        ways: Shared::new(alloc, ways, 0)?,
+        ways: Shared::new(alloc, ways)?,
         is_open: false,
         is_early: part.is_early,
     };
@@ -157,7 +167,7 @@ pub fn missed(
         (Knowledge::Unseen, false) => {}
         (Knowledge::Unseen, true) => after.is_early = false,
         _ => {
-            after.ways = Shared::new(alloc, Items::new(alloc), 0)?;
+            after.ways = Shared::new(alloc, Items::new(alloc))?;
             after.is_open = true;
         }
     }

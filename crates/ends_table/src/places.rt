@@ -1,17 +1,15 @@
 //! The open scopes of a state, its slots, and what they hold.
 
-ghost use Rattle.std.specs.Prelude.{◌≡◌, ◌+◌, ◌<◌, Some, IfOk, length, slice_get, slice_set};
+ghost use Rattle.std.specs.Prelude.{◌≡◌, ◌+◌, ◌<◌, Some, IfOk, length, slice_get};
 ghost use Rattle.laws_calls.specs.Steps as def;
 ghost use Rattle.laws_calls.specs.Tasks as tasks;
 
-use crate::fingerprints::print_of;
 use crate::stop::Stop;
 use laws_calls::copies::{copy_list, copy_with};
-use laws_calls::shared::Shared;
 use laws_calls::table::{Held, Own, Part, Seen};
 use std::alloc::{AllocError, Global};
 use sts_code::LAST_SLOT;
-use sts_model::{Frame, Items};
+use sts_model::Frame;
 use sts_same::copied::copy_items;
 
 /// A number of 32 bits.
@@ -92,7 +90,7 @@ pub fn known(own: &Own, handle: u8) -> Result<(u32, &Seen, u32, &Part), Stop>
 fn part_at(seen: &Seen, part: u32) -> Result<&Part, Stop>
     ensures { IfOk result (λ found. slice_get seen.now.parts part ≡ Some found.now) }
 {
-    match seen.parts.as_slice().get(part as usize) {
+    match seen.parts.get(part as usize) {
         Some(found) => Ok(found),
         None => Err(Stop::Unknown),
     }
@@ -131,27 +129,6 @@ pub fn with_scope(
     })
 }
 
-/// Parts as a list that copies share.
-pub fn shared(alloc: Global, parts: Items<Part>) -> Result<Shared<Part>, AllocError>
-    ensures { IfOk result (λ xs. xs ≡ parts) }
-{
-    let print = print_of(parts.as_slice());
-    Shared::new(alloc, parts, print)
-}
-
-/// The parts with another one at an index.
-fn parts_with(
-    alloc: Global,
-    parts: &[Part],
-    i: usize,
-    part: Part,
-) -> Result<Shared<Part>, AllocError>
-    requires { i < length parts.now }
-    ensures { IfOk result (λ xs. xs ≡ slice_set parts.now i part) }
-{
-    shared(alloc, copy_with(alloc, parts, i, part)?)
-}
-
 /// The scope with another part.
 pub fn with_part(alloc: Global, seen: &Seen, i: u32, part: Part) -> Result<Seen, AllocError>
     requires { i < length seen.now.parts }
@@ -165,6 +142,6 @@ pub fn with_part(alloc: Global, seen: &Seen, i: u32, part: Part) -> Result<Seen,
         knowledge: seen.knowledge,
         asked: seen.asked,
         has_failure: seen.has_failure,
-        parts: parts_with(alloc, seen.parts.as_slice(), i as usize, part)?,
+        parts: seen.parts.with(alloc, i as usize, part)?,
     })
 }

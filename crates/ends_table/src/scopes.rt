@@ -8,13 +8,14 @@ ghost use Rattle.sts_model.specs.declared.record.Entry.TheVariants as entry;
 
 use crate::bindings::bindings;
 use crate::frames::{left, stepped};
-use crate::places::{number, set_held, shared};
+use crate::places::{number, set_held};
 use crate::stop::Stop;
 use laws_calls::copies::{copy_behind, push_copies};
 use laws_calls::table::{Asked, Call, Held, Knowledge, Own, Seen};
 use std::alloc::{AllocError, Global};
 use sts_code::{Joiner, MAX_ENTRIES};
 use sts_model::{Entry, Frame, Items, Phase};
+use sts_repeats::repeats::Repeats;
 
 /// A scope that was opened just now.
 fn fresh(
@@ -40,7 +41,7 @@ fn fresh(
             total: None,
         },
         has_failure: false,
-        parts: shared(alloc, Items::new(alloc))?,
+        parts: Repeats::new(alloc)?,
     })
 }
 

@@ -95,8 +95,7 @@ impl Same for Seen {
             && same_looks(self, other)
             && same_asked(self.asked, other.asked)
             && same_bounds(self.environment.as_slice(), other.environment.as_slice())
-            && self.parts.print() == other.parts.print()
-            && same_slices(self.parts.as_slice(), other.parts.as_slice())
+            && self.parts.same(&other.parts)
     }
 }
 

@@ -11,9 +11,6 @@ use sts_model::Items;
 #[derive(Drop)]
 pub struct Shared<T> {
     items: Rc<Items<T>, Global>,
-    /// Equal lists have the same number, and most others have another one. It is only a hint, with
-    /// no contract.
-    print: u64,
 }
 
 impl<T> Model for Shared<T> {
@@ -30,12 +27,11 @@ impl<T: Drop> Shared<T> {
     /// # Errors
     ///
     /// Memory ran out.
-    pub fn new(alloc: Global, items: Items<T>, print: u64) -> Result<Self, AllocError>
+    pub fn new(alloc: Global, items: Items<T>) -> Result<Self, AllocError>
         ensures { IfOk result (λ s. s ≡ items) }
     {
         Ok(Shared {
             items: Rc::new(alloc, items)?,
-            print,
         })
     }
 
@@ -49,7 +45,6 @@ impl<T: Drop> Shared<T> {
     {
         Ok(Shared {
             items: self.items.clone()?,
-            print: self.print,
         })
     }
 }
@@ -60,15 +55,5 @@ impl<T> Shared<T> {
         ensures { result.now ≡ self.now }
     {
         self.items.as_slice()
-    }
-
-    /// The number that equal lists have in common.
-    pub fn print(&self) -> u64 {
-        self.print
-    }
-
-    /// Does another copy share the list?
-    pub fn is_shared(&self) -> bool {
-        Rc::strong_count(&self.items) > 1
     }
 }

@@ -6,6 +6,7 @@ ghost use Rattle.laws_calls.specs.Outside.{may_flag, per_birth};
 use crate::shared::Shared;
 use sts_code::Joiner;
 use sts_model::{Bound, End, Frame, Items, Phase};
+use sts_repeats::repeats::Repeats;
 
 /// What may come to a task from outside.
 #[derive(Clone, Copy, Debug, PartialEq, Eq)]
@@ -104,7 +105,7 @@ pub struct Seen {
     /// Has its owner seen a failure?
     pub has_failure: bool,
     /// Its subtasks, in fork order.
-    pub parts: Shared<Part>,
+    pub parts: Repeats<Part>,
 }
 
 /// A state of one task. Its frame has empty slots, and no births. Its open scopes are in the order

@@ -6,5 +6,5 @@ use Rattle.ends_picks.specs.Outcomes.{outcome_of}
 use Rattle.ends_picks.proofs.outcomes.outcomes.Given as goal
 
 -- the outcomes of the parts so far
-abbrev pub invariant-loop-part : goal.invariant-loop-part
-invariant-loop-part l = (pick : List (Option End)) → Fits l.seen pick → Among l.found.items (outcome_of l.seen (take l.part-index pick))
+abbrev pub invariant-loop-i : goal.invariant-loop-i
+invariant-loop-i l = (pick : List (Option End)) → Fits l.seen pick → Among l.found.items (outcome_of l.seen (take l.i pick))

@@ -9,5 +9,5 @@ pub returns : goal.returns
 returns c pick fits =
     let x = c.args.seen.now in
     let may = subst (λ (n : ℕ). MayCount x.knowledge x.phase x.joiner n) (sym (counting_heard x.joiner pick)) fits.counts in
-    let picks = subst (λ (ps : List Part). Picks ps pick) (sym c.as_slice.ensures) fits.picks in
+    let picks = fits.picks in
     c.meet.ensures _ (c.range_of-range.ensures pick picks) (c.allowed-allowed.ensures _ may)

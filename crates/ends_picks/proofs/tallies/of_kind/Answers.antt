@@ -11,6 +11,6 @@ use Rattle.ends_picks.proofs.tallies.of_kind.Goals as goal
 
 pub returns-in-U : goal.returns-in-U
 returns-in-U c pick fits =
-    let picks = subst (λ (ps : List Part). Picks ps pick) (sym c.as_slice.ensures) fits.picks in
+    let picks = fits.picks in
     let here = subst (λ (n : ℕ). IsIn c.range_of.result n) (kind_group c.args.seen.now.joiner U pick) (c.range_of.ensures pick picks) in
     subst (λ (k : Kind). IsIn c.range_of.result (count_by (is_kind k) pick)) (sym c.in-U.is) here

@@ -9,6 +9,6 @@ use Rattle.ends_picks.proofs.tallies.tallies_fit.Goals as goal
 
 pub returns : goal.returns
 returns c pick fits =
-    let long = sym (as_long May c.args.seen.now.parts pick fits.picks) ∙ ap (λ (ps : List Part). length ps) (sym c.as_slice-parts.ensures) in
+    let long = sym (as_long May c.args.seen.now.parts pick fits.picks) ∙ sym c.len.ensures in
     c.have_sum.ensures (count_by (is_kind S) pick) (count_by (is_kind F) pick) (count_by (is_kind U) pick) (all_kinds pick ∙ long)
     (c.tally_range-successes.ensures pick fits) (c.tally_range-failures.ensures pick fits) (c.tally_range-unavailable.ensures pick fits)

@@ -10,7 +10,6 @@ returns-then-not-is_unseen c unseen some = elim c.then-not-is_unseen.branch [
       let never : true ≡ false = sym unseen ∙ sym c.is_unseen.ensures ∙ w.if-not-is_unseen.true in
       cc
   | then-not-is_unseen-via-else-not-is_unseen+then-not-has_open w ↦
-      let any_open = λ (parts : List Part). list_any (λ (part : Part). part.is_open) parts in
-      let never : true ≡ false = sym some ∙ sym (ap any_open w.as_slice.ensures) ∙ sym w.has_open.ensures ∙ w.if-not-has_open.true in
+      let never : true ≡ false = sym some ∙ sym w.has_open.ensures ∙ w.if-not-has_open.true in
       cc
 ]

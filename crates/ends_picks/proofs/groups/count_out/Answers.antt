@@ -1,0 +1,6 @@
+use Rattle.std.proofs.Common.{rules}
+use Rattle.ends_picks.specs.Groups.{may_be_out}
+use Rattle.ends_picks.proofs.groups.count_out.Goals as goal
+
+pub returns : goal.returns
+returns c = c.count.ensures (may_be_out c.args.joiner c.args.group) (λ x b k. search rules)
