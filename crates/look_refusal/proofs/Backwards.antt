@@ -8,7 +8,7 @@ use Rattle.sts_rules.specs.Around.{around}
 use Rattle.sts_rules.specs.ControlPaths.{GoesTo, Among}
 use Rattle.sts_budget.specs.Structured.{Led, from_go, from_head, from_end, bound_of}
 use Rattle.sts_budget.specs.Sums.{FitsEntries, gain, base, last_turns}
-use Rattle.sts_budget.proofs.LaidStepLemmas.{any_default}
+use Rattle.std.proofs.lemmas.List.{get_or_default}
 use Rattle.look_refusal.specs.declared.search.CostLoop.{CostLoop}
 use Rattle.look_refusal.specs.declared.search.Search.{Search}
 use Rattle.look_refusal.specs.declared.search.Spot.{Spot}
@@ -76,7 +76,7 @@ module _ (s : Search) (ready : IsReady s) (t : Trail) (trail : IsTrail s t) wher
   ends_turn_at at q d answer b spot e is told =
       let f = from_is at q spot e in
       let within : q < length s.code.now = omega (arith, f.0, spot.in_code) in
-      sym (is ∙ ap ends_turn (any_default s.code.now q d Ret within)) ∙ told
+      sym (is ∙ ap ends_turn (get_or_default s.code.now q d Ret within)) ∙ told
 
   -- ---- over an instruction that is no loop's
 
@@ -423,19 +423,19 @@ module _ (s : Search) (ready : IsReady s) (t : Trail) (trail : IsTrail s t) wher
           omega (arith, place, g.1, g.2)
 
   -- a loop opens at the head that is found
-  pub loop_opens : (at turn : Spot) (head : ℕ) (found d : Option ℕ) → IsBegin s at turn → found ≡ get_or s.layout.now.heads.items turn.place d → found ≡ Some head → OpensLoop s head
+  pub loop_opens : (at turn : Spot) (head : ℕ) (found d : Option ℕ) → IsBegin s at turn → found ≡ get_or s.layout.now.typing.now.loops.heads turn.place d → found ≡ Some head → OpensLoop s head
   loop_opens at turn head found d b is told =
       let r = around_found s ready turn.place head found d (turn_in at turn b) is told in
       (ready.good.nested turn.place head r.0 r.1).0
 
   -- the turn is one of the loop with the head that is found
-  pub turn_of_loop : (l : CostLoop) (at turn : Spot) (head : ℕ) (found d : Option ℕ) → l.head ≡ head → IsBegin s at turn → found ≡ get_or s.layout.now.heads.items turn.place d → found ≡ Some head → (turn ≡ record { place = l.head + 1; depth = min at.depth ((flow s).depth l.head) }) × (around s.code.now at.place ≡ l.head ∷ around s.code.now l.head)
+  pub turn_of_loop : (l : CostLoop) (at turn : Spot) (head : ℕ) (found d : Option ℕ) → l.head ≡ head → IsBegin s at turn → found ≡ get_or s.layout.now.typing.now.loops.heads turn.place d → found ≡ Some head → (turn ≡ record { place = l.head + 1; depth = min at.depth ((flow s).depth l.head) }) × (around s.code.now at.place ≡ l.head ∷ around s.code.now l.head)
   turn_of_loop l at turn head found d same b is told =
       let r = around_found s ready turn.place head found d (turn_in at turn b) is told in
       subst (λ h. (turn ≡ record { place = h + 1; depth = min at.depth ((flow s).depth h) }) × (around s.code.now at.place ≡ h ∷ around s.code.now h)) (sym same) (turn_inside at turn head r.0 b r.1)
 
   -- no head is found outside all loops
-  pub turn_of_none : (at turn : Spot) (found d : Option ℕ) → IsBegin s at turn → found ≡ get_or s.layout.now.heads.items turn.place d → found ≡ None → (turn ≡ record { place = 0; depth = 0 }) × (around s.code.now at.place ≡ [])
+  pub turn_of_none : (at turn : Spot) (found d : Option ℕ) → IsBegin s at turn → found ≡ get_or s.layout.now.typing.now.loops.heads turn.place d → found ≡ None → (turn ≡ record { place = 0; depth = 0 }) × (around s.code.now at.place ≡ [])
   turn_of_none at turn found d b is told = turn_outside at turn b (around_missing s ready turn.place found d (turn_in at turn b) is told)
 
   pub next_spot : (l : CostLoop) (at turn next : Spot) (v1 v2 : Shares) → IsLoop s l → turn ≡ record { place = l.head + 1; depth = min at.depth ((flow s).depth l.head) } → IsWalkedBackOut s t l turn next v1 v2 → IsSpot s next

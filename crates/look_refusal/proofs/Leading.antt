@@ -4,10 +4,9 @@ use Rattle.sts_code.specs.Facts.{targets}
 use Rattle.sts_code.specs.Program.{instr_at}
 use Rattle.sts_rules.specs.Around.{next_place, around}
 use Rattle.sts_rules.specs.ControlPaths.{GoesTo, Repeats, EndsTurn, EndsPath, Among}
-use Rattle.sts_budget.specs.Laid.{first_of}
-use Rattle.sts_budget.specs.Ready.{head_in}
+use Rattle.sts_budget.specs.Ready.{end_in, first_of, head_in}
 use Rattle.sts_budget.specs.Sums.{gain}
-use Rattle.sts_budget.proofs.LaidStepLemmas.{any_default}
+use Rattle.std.proofs.lemmas.List.{get_or_default}
 use Rattle.look_refusal.specs.declared.search.Search.{Search}
 use Rattle.sts_budget.specs.Handing.{turns_of}
 use Rattle.look_refusal.specs.Search.{IsReady, IsLoop, LeadsOn, paths, flow, ends_turn}
@@ -16,10 +15,10 @@ use Rattle.look_refusal.proofs.Instrs.{Kind, kind, goes, opens, turns, ends}
 
 module _ (s : Search) (ready : IsReady s) where
   -- the loop that a place ends
-  pub turn_end : (q : ℕ) → ends_turn (instr_at s.code.now q) ≡ true → (p : ℕ) × ((n : ℕ) × (((paths s).shape p ≡ Repeats n) × ((paths s).mate p ≡ q) × (q < length s.code.now) × (get_or s.layout.now.heads.items q None ≡ Some p)))
+  pub turn_end : (q : ℕ) → ends_turn (instr_at s.code.now q) ≡ true → (p : ℕ) × ((n : ℕ) × (((paths s).shape p ≡ Repeats n) × ((paths s).mate p ≡ q) × (q < length s.code.now) × (get_or s.layout.now.typing.now.loops.heads q None ≡ Some p)))
   turn_end q e = by (kind q (instr_at s.code.now q))
     where
-      by : Kind q (instr_at s.code.now q) → (p : ℕ) × ((n : ℕ) × (((paths s).shape p ≡ Repeats n) × ((paths s).mate p ≡ q) × (q < length s.code.now) × (get_or s.layout.now.heads.items q None ≡ Some p)))
+      by : Kind q (instr_at s.code.now q) → (p : ℕ) × ((n : ℕ) × (((paths s).shape p ≡ Repeats n) × ((paths s).mate p ≡ q) × (q < length s.code.now) × (get_or s.layout.now.typing.now.loops.heads q None ≡ Some p)))
       by (goes t p n sh) = let no : true ≡ false = sym e ∙ t in absurd (cc)
       by (opens t p sh) = let no : true ≡ false = sym e ∙ t in absurd (cc)
       by (ends t p a sh) = let no : true ≡ false = sym e ∙ t in absurd (cc)
@@ -30,16 +29,16 @@ module _ (s : Search) (ready : IsReady s) where
           let round : around s.code.now q ≡ g.0 ∷ around s.code.now g.0 = ap (around s.code.now) (sym g.1.1.1) ∙ l.5 in
           (g.0, (g.1.0, (g.1.1.0, g.1.1.1, within, ready.heads q within ∙ ap first_of round)))
 
-  pub head_is : (q p : ℕ) → get_or s.layout.now.heads.items q None ≡ Some p → head_in s.layout.now q ≡ p
+  pub head_is : (q p : ℕ) → get_or s.layout.now.typing.now.loops.heads q None ≡ Some p → head_in s.layout.now q ≡ p
   head_is q p e = ap (λ o. unwrap_or o 0) e
 
   -- the loop that opens at a place
-  pub loop_at : (h n end many : ℕ) → (paths s).shape h ≡ Repeats n → end ≡ get_or s.layout.now.mates.items h 0 → many ≡ turns_of (instr_at s.code.now h) → IsLoop s (record { head = h; end = end; turns = many })
-  loop_at h n end many e mates counts =
+  pub loop_at : (h n end many : ℕ) → (paths s).shape h ≡ Repeats n → end ≡ end_in s.layout.now h → many ≡ turns_of (instr_at s.code.now h) → IsLoop s (record { head = h; end = end; turns = many })
+  loop_at h n end many e ends counts =
       let l = ready.good.loop h n e in
       let t = ready.known.times h n e in
       let same : many ≡ n = counts ∙ ap turns_of t in
-      let mate : (paths s).mate h ≡ end = sym (ready.mates h n t) ∙ sym mates in
+      let mate : (paths s).mate h ≡ end = sym (ready.ends h n t) ∙ sym ends in
       record {
         head = omega (arith, l.1, l.2);
         end = omega (arith, l.2);
@@ -50,14 +49,14 @@ module _ (s : Search) (ready : IsReady s) where
       }
 
   -- the innermost loop around a place
-  pub around_head : (pc head : ℕ) → pc < length s.code.now → get_or s.layout.now.heads.items pc None ≡ Some head → (ps : List ℕ) × (around s.code.now pc ≡ head ∷ ps)
+  pub around_head : (pc head : ℕ) → pc < length s.code.now → get_or s.layout.now.typing.now.loops.heads pc None ≡ Some head → (ps : List ℕ) × (around s.code.now pc ≡ head ∷ ps)
   around_head pc head within e = by (around s.code.now pc) refl
     where
       by : (hs : List ℕ) → around s.code.now pc ≡ hs → (ps : List ℕ) × (around s.code.now pc ≡ head ∷ ps)
       by [] is = let no : Some head ≡ None = sym e ∙ ready.heads pc within ∙ ap first_of is in absurd (cc)
       by (x ∷ xs) is = let o : Some head ≡ Some x = sym e ∙ ready.heads pc within ∙ ap first_of is in let same : x ≡ head = cc in (xs, is ∙ ap (λ y. y ∷ xs) same)
 
-  pub around_none : (pc : ℕ) → pc < length s.code.now → get_or s.layout.now.heads.items pc None ≡ None → around s.code.now pc ≡ []
+  pub around_none : (pc : ℕ) → pc < length s.code.now → get_or s.layout.now.typing.now.loops.heads pc None ≡ None → around s.code.now pc ≡ []
   around_none pc within e = by (around s.code.now pc) refl
     where
       by : (hs : List ℕ) → around s.code.now pc ≡ hs → around s.code.now pc ≡ []
@@ -65,14 +64,14 @@ module _ (s : Search) (ready : IsReady s) where
       by (x ∷ xs) is = let no : None ≡ Some x = sym e ∙ ready.heads pc within ∙ ap first_of is in absurd (cc)
 
   -- the head that was looked up at a place, whatever was read past the end
-  found_is : (pc : ℕ) (found d o : Option ℕ) → pc < length s.code.now → found ≡ get_or s.layout.now.heads.items pc d → found ≡ o → get_or s.layout.now.heads.items pc None ≡ o
+  found_is : (pc : ℕ) (found d o : Option ℕ) → pc < length s.code.now → found ≡ get_or s.layout.now.typing.now.loops.heads pc d → found ≡ o → get_or s.layout.now.typing.now.loops.heads pc None ≡ o
   found_is pc found d o within is told =
-      sym (is ∙ any_default s.layout.now.heads.items pc d None (omega (arith, ready.heads_long, within))) ∙ told
+      sym (is ∙ get_or_default s.layout.now.typing.now.loops.heads pc d None (omega (arith, ready.heads_long, within))) ∙ told
 
-  pub around_found : (pc head : ℕ) (found d : Option ℕ) → pc < length s.code.now → found ≡ get_or s.layout.now.heads.items pc d → found ≡ Some head → (ps : List ℕ) × (around s.code.now pc ≡ head ∷ ps)
+  pub around_found : (pc head : ℕ) (found d : Option ℕ) → pc < length s.code.now → found ≡ get_or s.layout.now.typing.now.loops.heads pc d → found ≡ Some head → (ps : List ℕ) × (around s.code.now pc ≡ head ∷ ps)
   around_found pc head found d within is told = around_head pc head within (found_is pc found d (Some head) within is told)
 
-  pub around_missing : (pc : ℕ) (found d : Option ℕ) → pc < length s.code.now → found ≡ get_or s.layout.now.heads.items pc d → found ≡ None → around s.code.now pc ≡ []
+  pub around_missing : (pc : ℕ) (found d : Option ℕ) → pc < length s.code.now → found ≡ get_or s.layout.now.typing.now.loops.heads pc d → found ≡ None → around s.code.now pc ≡ []
   around_missing pc found d within is told = around_none pc within (found_is pc found d None within is told)
 
   -- the way from a place to a place after it

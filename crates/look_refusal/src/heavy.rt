@@ -19,6 +19,7 @@ use std::alloc::{AllocError, Global};
 use sts_budget::{Resource, lay_out, limit_of, own_of};
 use sts_code::{Program, code_of};
 use sts_rules::{Budgets, filled};
+use sts_types::typing_of;
 
 /// A point of a control path: its place, its weight, and the share of each place of the function.
 /// The weight of steps is that of the whole path that ends there. A share is what the steps of the
@@ -81,7 +82,8 @@ fn heaviest_after(
         (IsHeavy program.now function resource)) }
 {
     let code = code_of(program, function as usize);
-    let layout = lay_out(alloc, program, function as usize)?;
+    let typing = typing_of(alloc, program, function)?;
+    let layout = lay_out(&typing);
     let search = Search {
         resource,
         earlier,

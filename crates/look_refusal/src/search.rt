@@ -5,7 +5,7 @@ ghost use Rattle.sts_budget.specs.Ready.{IsLaidFor, head_in};
 ghost use Rattle.sts_code.specs.Program.{instr_at};
 ghost use Rattle.look_refusal.specs.Search as def;
 
-use sts_budget::{Layout, Resource, added_of, change_of, depth_of, names_at, source_of, turns_of};
+use sts_budget::{Layout, Resource, added_of, change_of, depth_of, end_of, source_of, turns_of};
 use sts_code::{Instr, MAX_ENTRIES};
 use sts_rules::Budgets;
 
@@ -15,7 +15,7 @@ pub struct Search<'s> {
     pub resource: Resource,
     pub earlier: &'s [Budgets],
     pub code: &'s [Instr],
-    pub layout: &'s Layout,
+    pub layout: &'s Layout<'s>,
 }
 
 /// A place of the code, and the number of its open entries that the sum goes over, from the
@@ -41,7 +41,7 @@ pub(crate) fn depth_at(search: &Search<'_>, pc: usize) -> usize
     ensures value { result ≡ (def.flow search.now).depth pc }
     ensures bound { result ≤ MAX_ENTRIES }
 {
-    depth_of(search.resource, names_at(search.layout, pc))
+    depth_of(search.resource, search.layout.typing.entries(pc))
 }
 
 /// The number of entries that the sum goes over before the instruction.
@@ -50,9 +50,9 @@ pub(crate) fn depth_before(search: &Search<'_>, pc: usize, depth: usize) -> usiz
     requires in_code { pc < length search.now.code.now }
     ensures { result ≡ (def.flow search.now).source pc depth }
 {
-    let names = names_at(search.layout, pc);
-    let change = change_of(search.resource, search.earlier, search.code[pc], names);
-    source_of(change, depth_of(search.resource, names), depth)
+    let entries = search.layout.typing.entries(pc);
+    let change = change_of(search.resource, search.earlier, search.code[pc], entries);
+    source_of(change, depth_of(search.resource, entries), depth)
 }
 
 /// The amount that the instruction adds to the sum.
@@ -61,9 +61,9 @@ pub(crate) fn added_at(search: &Search<'_>, pc: usize, depth: usize) -> u128
     requires in_code { pc < length search.now.code.now }
     ensures { result ≡ (def.flow search.now).added pc depth }
 {
-    let names = names_at(search.layout, pc);
-    let change = change_of(search.resource, search.earlier, search.code[pc], names);
-    added_of(change, depth_of(search.resource, names), depth) as u128
+    let entries = search.layout.typing.entries(pc);
+    let change = change_of(search.resource, search.earlier, search.code[pc], entries);
+    added_of(change, depth_of(search.resource, entries), depth) as u128
 }
 
 /// Does the instruction end a loop's turn?
@@ -100,7 +100,7 @@ pub(crate) fn loop_from(search: &Search<'_>, head: u32) -> CostLoop
 {
     CostLoop {
         head,
-        end: search.layout.mates[head as usize],
+        end: end_of(search.layout, head as usize),
         turns: turns_of(search.code[head as usize]),
     }
 }
@@ -115,7 +115,7 @@ pub(crate) fn loop_to(search: &Search<'_>, end: u32) -> CostLoop
     ensures before { result.head < end }
     ensures right { def.IsLoop search.now result }
 {
-    match search.layout.heads[end as usize] {
+    match search.layout.typing.head(end as usize) {
         Some(head) => loop_from(search, head),
         None => unreachable!(),
     }

@@ -28,7 +28,7 @@ fn full_at(search: &Search<'_>, trail: &Trail, fulls: &[u128], pc: u32) -> Optio
         (λ full. full ≡ trails.full_in search.now trail.now pc) }
 {
     let turn = sum_at(trail, pc as usize, depth_at(search, pc as usize));
-    match search.layout.heads[pc as usize] {
+    match search.layout.typing.head(pc as usize) {
         Some(head) => {
             let around = loop_from(search, head);
             let turns = around.turns as u128 - 1;

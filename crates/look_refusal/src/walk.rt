@@ -119,7 +119,7 @@ pub(crate) fn back_to_beginning(search: &Search<'_>, trail: &Trail, to: Spot, sh
     let mut at = to;
     loop {
         let turn = back(search, trail, at, 1, shares);
-        match search.layout.heads[turn.place as usize] {
+        match search.layout.typing.head(turn.place as usize) {
             Some(head) => at = back_out(search, trail, loop_from(search, head), turn, shares),
             None => return,
         }

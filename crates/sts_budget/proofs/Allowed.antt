@@ -1,6 +1,6 @@
 -- The facts of an instruction that follow if no cause holds at it.
 use Rattle.std.proofs.Common.{◌≡◌, ℕ, ◌<◌, ◌⊎◌, inl, inr, List, [], ◌∷◌, ◌++◌, length, Bool, true}
-use Rattle.std.proofs.Common.{false, cond, not, ◌||◌, Option, Some, None, Ok, find, refl, sym, ap}
+use Rattle.std.proofs.Common.{false, cond, ◌||◌, Option, Some, None, Ok, find, refl, sym, ap}
 use Rattle.std.proofs.Common.{◌∙◌}
 use Rattle.std.specs.List.{list_any}
 use Rattle.std.proofs.lemmas.Bool.{leb-false, not-false, or_parts}

@@ -1,6 +1,6 @@
 -- The facts of a function's code that follow from the program checks.
-use Rattle.std.proofs.Common.{◌≡◌, ℕ, zero, suc, ◌<◌, ◌≤◌, [], length, take, Bool}
-use Rattle.std.proofs.Common.{true, false, Option, None, ◌||◌, not, nat_lt, ◌==◌, refl}
+use Rattle.std.proofs.Common.{◌≡◌, ℕ, zero, suc, ◌<◌, ◌≤◌, [], length, take}
+use Rattle.std.proofs.Common.{false, Option, None, ◌||◌, not, nat_lt, ◌==◌}
 use Rattle.std.proofs.Common.{arith}
 use Rattle.std.proofs.lemmas.Bool.{leb-false, ltb-false, or_parts}
 use Rattle.sts_code.specs.Checks as def

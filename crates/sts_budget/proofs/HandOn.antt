@@ -20,24 +20,25 @@ use Rattle.sts_budget.specs.declared.change.Resource.{Resource}
 use Rattle.sts_budget.specs.declared.change.Resource.TheVariants.{Steps}
 use Rattle.sts_budget.specs.declared.layout.Layout.{Layout}
 use Rattle.sts_budget.specs.Change.{source_of, added_of, change_of, depth_of, own_step}
-use Rattle.sts_budget.specs.Handing.{is_quiet, turns_of, value_by, handed_value}
-use Rattle.sts_budget.specs.Laid.{first_of}
-use Rattle.sts_budget.specs.Ready.{IsLaidFor, names_in, head_in, flows_in}
+use Rattle.sts_budget.specs.Handing.{is_quiet, is_ordinary, turns_of, value_by, handed_value}
+use Rattle.sts_budget.specs.Layout.{goes_straight_on}
+use Rattle.sts_budget.specs.Ready.{IsLaidFor, first_of, names_in, head_in, flows_in}
 use Rattle.sts_budget.specs.Structured.{bound_of}
 use Rattle.sts_budget.specs.Sums.{Flows, FitsEntries, Stands}
 use Rattle.sts_budget.specs.Table.{read, New, Handed, over_go, over_loop, IsSpread, IsPartial}
-use Rattle.sts_budget.specs.Table.{IsSent, IsStopped, HandsTooMuch, Passes}
-use Rattle.sts_budget.proofs.LaidStepLemmas.{any_default}
-use Rattle.sts_budget.proofs.Sorts.{Sort, sort, is_times, is_next, is_end, goes_on, GoesOn}
+use Rattle.sts_budget.specs.Table.{IsCarried, IsSent, IsStopped, HandsTooMuch, Passes}
+use Rattle.std.proofs.lemmas.List.{get_or_default}
+use Rattle.sts_budget.proofs.Sorts.{Sort, sort, is_times, is_next, is_end, goes_on, GoesOn, straight}
 use Rattle.sts_budget.proofs.TypedLemmas.{next_of}
 use Rattle.sts_budget.proofs.SumsLemmas.{IsSourced, go_stands, loop_stands}
 use Rattle.sts_budget.proofs.Forward.{among_cases, partial_more, sourced}
 use Rattle.sts_budget.proofs.FourKindLemmas.{fits}
+use Rattle.sts_budget.proofs.HandedValues.{value_of_ordinary}
 
 -- an instruction of the code, which is not quiet
 pub not_quiet : (code : List Instr) (pc : ℕ) (b : Bool) → pc < length code → b ≡ is_quiet (get_or code pc (Push (pos 0))) → b ≡ false → (get_or code pc (Push (pos 0)) ≡ instr_at code pc) × (is_quiet (instr_at code pc) ≡ false)
 not_quiet code pc b within is isnt =
-    let at : get_or code pc (Push (pos 0)) ≡ instr_at code pc = any_default code pc _ Ret within in
+    let at : get_or code pc (Push (pos 0)) ≡ instr_at code pc = get_or_default code pc _ Ret within in
     (at, sym (ap is_quiet at) ∙ sym is ∙ isnt)
 
 -- any program, for definitions that don't depend on it
@@ -57,6 +58,11 @@ next_counts _ earlier ns d = refl
 value_goes : (k : Resource) (earlier : List Budgets) (code : List Instr) (l : Layout) (best : ℕ → ℕ → ℕ) (pc : ℕ) (i : Instr) (d : ℕ) → GoesOn any_program code pc i → value_by k earlier code l best pc i d ≡ best pc (source_of (change_of k earlier i (names_in l pc)) (depth_of k (names_in l pc)) d) + added_of (change_of k earlier i (names_in l pc)) (depth_of k (names_in l pc)) d
 value_goes k earlier code l best pc Next d goes = (let z : EndsTurn ≡ GoesTo (targets Next ++ next_place pc Next) = goes.shape in absurd (cc))
 value_goes k earlier code l best pc _ d goes = refl
+
+-- the only one of a single place
+only : (at q : ℕ) → Among (at ∷ []) q → q ≡ at
+only at q (inl e) = sym e
+only at q (inr out_of) = absurd out_of
 
 -- nothing new comes from a quiet instruction
 quiet_none : (c : Skeleton) (f : Flows) (head : ℕ → ℕ) (best : ℕ → ℕ → ℕ) (pc : ℕ) (i : Instr) → is_quiet i ≡ true → (q d m : ℕ) → New c f head best pc (shape_of pc i) q d m → ⊥
@@ -156,6 +162,20 @@ module _ (k : Resource) (earlier : List Budgets) (code : List Instr) (l : Layout
       | inl a ↦ absurd (out _ (new_of (read before) pc (instr_at code pc) refl (sort any_program code pc (instr_at code pc)) quiet q d a))
       | inr no_way ↦ sent.same q d no_way
     ];
+  }
+
+  -- an instruction that only counts a step, and goes on to the next place
+  pub carried_spread : (n pc : ℕ) (before after : List (List ℕ)) → ((q : ℕ) → depth_of k (names_in l q) < n) → is_quiet (instr_at code pc) ≡ false → is_ordinary (instr_at code pc) ≡ true → goes_straight_on (instr_at code pc) ≡ true → IsCarried n pc (own_step k) before after → IsSpread c f (head_in l) pc before after
+  carried_spread n pc before after fits quiet ordinary goes h = record {
+    long = h.long;
+    raised = λ q d m lt low w. (
+        let new = new_is (read before) pc (instr_at code pc) refl (sort any_program code pc (instr_at code pc)) quiet q d m w in
+        let few = fits q in
+        let value = sym (value_of_ordinary k earlier code l (read before) pc d (instr_at code pc) ordinary) ∙ new.1 in
+        let here = only (pc + 1) q (subst (λ ps. Among ps q) (sym (straight (instr_at code pc) pc goes)) new.0) in
+        let less : d < n = omega (arith, few, low) in
+        subst (λ p. read after p d ≡ max (read before p d) m) (sym here) (h.raised d less ∙ ap (max (read before (pc + 1) d)) value));
+    same = λ q d lt low out. h.same q d (λ e. out _ (new_of (read before) pc (instr_at code pc) refl (sort any_program code pc (instr_at code pc)) quiet q d (subst (λ ps. Among ps q) (straight (instr_at code pc) pc goes) (inl (sym e)))));
   }
 
   pub stopped_over : (n pc most : ℕ) (values : List ℕ) (before : List (List ℕ)) → ((q : ℕ) → depth_of k (names_in l q) < n) → pc < length code → is_quiet (instr_at code pc) ≡ false → ((d : ℕ) → d < n → get_or values d 0 ≡ min (handed_value k earlier code l (read before) pc d) 18446744073709551615)

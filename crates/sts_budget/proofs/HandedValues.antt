@@ -14,13 +14,13 @@ use Rattle.sts_budget.specs.Handing.{is_ordinary, value_by, handed_value}
 use Rattle.sts_budget.specs.Layout.{EntryNames}
 use Rattle.sts_budget.specs.Ready.{names_in}
 use Rattle.sts_budget.specs.Table.{read}
-use Rattle.sts_budget.proofs.LaidStepLemmas.{any_default}
+use Rattle.std.proofs.lemmas.List.{get_or_default}
 
 value_of_other : (k : Resource) (earlier : List Budgets) (code : List Instr) (l : Layout) (best : ℕ → ℕ → ℕ) (pc d : ℕ) (i : Instr) → (i ≡ Next → ⊥) → value_by k earlier code l best pc i d ≡ best pc (source_of (change_of k earlier i (names_in l pc)) (depth_of k (names_in l pc)) d) + added_of (change_of k earlier i (names_in l pc)) (depth_of k (names_in l pc)) d
 value_of_other k earlier code l best pc d Next h = absurd (h refl)
 value_of_other k earlier code l best pc d _ h = refl
 
-value_of_ordinary : (k : Resource) (earlier : List Budgets) (code : List Instr) (l : Layout) (best : ℕ → ℕ → ℕ) (pc d : ℕ) (i : Instr) → is_ordinary i ≡ true → value_by k earlier code l best pc i d ≡ best pc d + own_step k
+pub value_of_ordinary : (k : Resource) (earlier : List Budgets) (code : List Instr) (l : Layout) (best : ℕ → ℕ → ℕ) (pc d : ℕ) (i : Instr) → is_ordinary i ≡ true → value_by k earlier code l best pc i d ≡ best pc d + own_step k
 value_of_ordinary Steps earlier code l best pc d (Push v) h = refl
 value_of_ordinary Steps earlier code l best pc d _ h = cc
 value_of_ordinary Tasks earlier code l best pc d (Push v) h = refl
@@ -32,7 +32,7 @@ value_of_ordinary Binds earlier code l best pc d _ h = cc
 
 module _ (k : Resource) (earlier : List Budgets) (code : List Instr) (l : Layout) (best : List (List ℕ)) (pc d : ℕ) (within : pc < length best) (i : Instr) (instr : i ≡ instr_at code pc) (row : List ℕ) (reads : row ≡ get_or best pc row) where
   here : row ≡ get_or best pc []
-  here = reads ∙ any_default best pc row [] within
+  here = reads ∙ get_or_default best pc row [] within
 
   -- it counts one step, and changes nothing else
   pub hands_own : (own v : ℕ) → is_ordinary i ≡ true → own ≡ own_step k → v ≡ min (get_or row d 0 + own) 18446744073709551615 → v ≡ min (handed_value k earlier code l (read best) pc d) 18446744073709551615

@@ -20,14 +20,13 @@ use Rattle.sts_budget.specs.declared.change.Resource.{Resource}
 use Rattle.sts_budget.specs.declared.layout.Layout.{Layout}
 use Rattle.sts_budget.specs.Change.{own_step, own_of, limit_of, cause_of, depth_of, IsMost}
 use Rattle.sts_budget.specs.Handing.{base_of, bases_after}
-use Rattle.sts_budget.specs.Laid.{first_of}
 use Rattle.sts_budget.specs.Last.{HasBases, IsTop}
-use Rattle.sts_budget.specs.Ready.{IsLaidFor, names_in, head_in, flows_in}
+use Rattle.sts_budget.specs.Ready.{IsLaidFor, first_of, names_in, head_in, flows_in}
 use Rattle.sts_budget.specs.Structured.{bound_of}
 use Rattle.sts_budget.specs.Sums.{Flows, full, turn_base, gain}
 use Rattle.sts_budget.specs.Table.{read, IsPartial, Passes}
 use Rattle.sts_budget.specs.declared.change.Resource.TheVariants.{Steps, Tasks, Scopes, Binds}
-use Rattle.sts_budget.proofs.LaidStepLemmas.{any_default}
+use Rattle.std.proofs.lemmas.List.{get_or_default}
 use Rattle.sts_budget.proofs.Forward.{is_table}
 use Rattle.sts_budget.proofs.FourKindLemmas.{stands_exceeds, top_is_most}
 use Rattle.sts_budget.proofs.HandOn.{fits_here, heads_right, counts_times, counts_next}
@@ -67,23 +66,23 @@ module _ (k : Resource) (earlier : List Budgets) (code : List Instr) (l : Layout
   table : IsTable c f (read rows)
   table = is_table c (around code) ready.good f (fits_here k earlier code l ready) (head_in l) (heads_right k earlier code l ready) rows whole ready.led
 
-  pub head_small : (pc : ℕ) → pc < length code → (bases : List ℕ) → HasBases k earlier code l rows pc bases → (o d : Option ℕ) → o ≡ get_or l.heads.items pc d → IfSome o (λ h. h < length bases)
+  pub head_small : (pc : ℕ) → pc < length code → (bases : List ℕ) → HasBases k earlier code l rows pc bases → (o d : Option ℕ) → o ≡ get_or l.typing.now.loops.heads pc d → IfSome o (λ h. h < length bases)
   head_small pc lt bases b None d e = search rules
   head_small pc lt bases b (Some h) d e = by (around code pc) refl
     where
       head : Some h ≡ first_of (around code pc)
-      head = e ∙ any_default l.heads.items pc d None (omega (arith, ready.heads_long)) ∙ ready.heads pc lt
+      head = e ∙ get_or_default l.typing.now.loops.heads pc d None (omega (arith, ready.heads_long)) ∙ ready.heads pc lt
 
       by : (hs : List ℕ) → around code pc ≡ hs → h < length bases
       by [] is = let z : Some h ≡ None = head ∙ ap first_of is in absurd (cc)
       by (x ∷ xs) is = let z : Some h ≡ Some x = head ∙ ap first_of is in let same : h ≡ x = cc in let less = ready.good.lesser pc x xs is in omega (arith, b.long)
 
   -- the greatest sum of a place
-  pub full_is : (pc : ℕ) → pc < length code → (bases : List ℕ) → HasBases k earlier code l rows pc bases → (o d : Option ℕ) → o ≡ get_or l.heads.items pc d → base_of bases o + read rows pc (depth_of k (names_in l pc)) ≡ here pc
+  pub full_is : (pc : ℕ) → pc < length code → (bases : List ℕ) → HasBases k earlier code l rows pc bases → (o d : Option ℕ) → o ≡ get_or l.typing.now.loops.heads pc d → base_of bases o + read rows pc (depth_of k (names_in l pc)) ≡ here pc
   full_is pc lt bases b o d e = by (around code pc) refl
     where
       head : o ≡ first_of (around code pc)
-      head = e ∙ any_default l.heads.items pc d None (omega (arith, ready.heads_long)) ∙ ready.heads pc lt
+      head = e ∙ get_or_default l.typing.now.loops.heads pc d None (omega (arith, ready.heads_long)) ∙ ready.heads pc lt
 
       by : (hs : List ℕ) → around code pc ≡ hs → base_of bases o + read rows pc (depth_of k (names_in l pc)) ≡ here pc
       by [] is =

@@ -8,10 +8,8 @@ pub mod Named
 pub mod EntryLemmas
 pub mod FourKindLemmas
 pub mod Forward
-pub mod LaidLemmas
+pub mod Carried
 pub mod CheckedLemmas
-pub mod Listed
-pub mod LaidStepLemmas
 pub mod Rows
 pub mod HandOn
 pub mod HandedValues

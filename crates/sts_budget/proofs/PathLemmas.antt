@@ -1,10 +1,14 @@
 -- The laws of the budgets, from structured code.
 use Rattle.std.proofs.Common.{◌≡◌, ℕ, ◌+◌, ◌<◌, List, [], ◌∷◌, length, Some, None, Bool, true}
-use Rattle.std.proofs.Common.{false, ◌==◌, cond, ltb, refl, sym, ap, ◌∙◌, subst, arith, inl, inr}
-use Rattle.std.proofs.lemmas.Bool.{lt-ltb, eqb-false}
+use Rattle.std.proofs.Common.{false, ◌==◌, cond, ltb, refl, sym, ap, ◌∙◌, subst, arith, inl, inr, ◌≤◌, ◌⊎◌}
+use Rattle.std.proofs.lemmas.Bool.{cases_lt, lt-ltb, eqb-false}
 use Rattle.sts_code.specs.Program.{Program, routine, instr_at}
 use Rattle.sts_code.specs.Checks.{program_fault}
+use Rattle.sts_code.specs.declared.instr.Instr.TheVariants.{Times}
 use Rattle.sts_rules.specs.Around.{around}
+use Rattle.sts_rules.specs.TypeState.{TypeState}
+use Rattle.sts_budget.specs.Known.{NamesRight}
+use Rattle.sts_budget.specs.TypedNames.{names as typed_names}
 use Rattle.sts_rules.specs.Refusal.{IsWellTyped}
 use Rattle.sts_rules.specs.declared.budget.Budgets.{Budgets}
 use Rattle.sts_rules.specs.ControlPaths.{GoesTo, OpenEntry, step, go}
@@ -17,9 +21,8 @@ use Rattle.sts_budget.specs.Change.{position_of}
 use Rattle.sts_budget.proofs.StructuredLemmas.{at_points, comes_inside}
 use Rattle.sts_budget.proofs.EntryLemmas.{names, front, front_all, front_forked, length_forked, long}
 use Rattle.sts_budget.proofs.FourKindLemmas.{comes_names}
-use Rattle.sts_budget.proofs.TypedLemmas.{structured}
+use Rattle.sts_budget.proofs.TypedLemmas.{structured, fits}
 use Rattle.sts_budget.proofs.Named.{knows_names}
-use Rattle.sts_budget.proofs.LaidLemmas.{names_here, names_right}
 use Rattle.sts_budget.proofs.CheckedLemmas.{is_checked}
 
 position_low : (x : ℕ) (ns : EntryNames) → HasScope x ns → position_of x ns < length ns
@@ -31,6 +34,21 @@ position_low x (Some s ∷ ns) h = by (s == x) refl (position_low x ns)
     by : (b : Bool) → s == x ≡ b → (HasScope x ns → position_of x ns < length ns) → cond b (length ns) (position_of x ns) < length (Some s ∷ ns)
     by true e ih = omega arith
     by false e ih = elim h [ inl same ↦ (let k : s ≡ x = cc in absurd (eqb-false s x e k)) | inr r ↦ (let q = ih r in omega arith) ]
+
+-- the names in the only typestate of each place
+module _ (p : Program) (f : ℕ) (accepted : IsWellTyped p f) (some_code : 0 < length (routine p f).code) (bounds : (pc n : ℕ) → instr_at (routine p f).code pc ≡ Times n → 0 < n) where
+  abbrev names_here : ℕ → EntryNames
+  names_here pc = elim (cases_lt pc (length (routine p f).code)) [ inl lt ↦ typed_names (accepted pc lt).state.entries | inr ge ↦ [] ]
+
+  names_right : NamesRight p f names_here
+  names_right pc s r = by (cases_lt pc (length (routine p f).code))
+    where
+      within : pc < length (routine p f).code
+      within = (fits p f accepted some_code bounds [] pc s r).1
+
+      by : (o : (pc < length (routine p f).code) ⊎ (length (routine p f).code ≤ pc)) → typed_names s.entries ≡ elim o [ inl lt ↦ typed_names (accepted pc lt).state.entries | inr ge ↦ [] ]
+      by (inl lt) = ap (λ (x : TypeState). typed_names x.entries) ((accepted pc lt).alone.1 s r)
+      by (inr ge) = absurd (omega (arith, within))
 
 pub lie_on_paths : (p : Program) (f : ℕ) (earlier : List Budgets) → program_fault p.routines ≡ None → f < length p.routines → IsWellTyped p f → PointsLieOnPaths earlier (routine p f).code
 lie_on_paths p f earlier fine within typed = λ pc loops before es r.

@@ -1,27 +1,17 @@
--- The sums of a path at its end, and the facts of a layout.
-use Rattle.std.proofs.Common.{◌≡◌, ℕ, ◌<◌, List, length, sym, ap, ◌∙◌, arith}
-use Rattle.std.specs.Prelude.{None}
-use Rattle.sts_code.specs.Checks.{program_fault}
-use Rattle.sts_code.specs.Program.{Program, routine}
+-- The sums of a path at its end.
+use Rattle.std.proofs.Common.{◌≡◌, ℕ, List, length, sym, ap, ◌∙◌}
 use Rattle.sts_code.specs.declared.instr.Instr.{Instr}
-use Rattle.sts_rules.specs.Refusal.{IsWellTyped}
 use Rattle.sts_rules.specs.declared.budget.Budgets.{Budgets}
-use Rattle.sts_rules.specs.Budget.{skeleton, Measure, entries_sum, shape_of, steps_of}
-use Rattle.sts_rules.specs.ControlPaths.{Loops, OpenEntry, Comes, EndsPath}
+use Rattle.sts_rules.specs.Budget.{skeleton, Measure, entries_sum}
+use Rattle.sts_rules.specs.ControlPaths.{Loops, OpenEntry, Comes}
 use Rattle.sts_budget.specs.declared.change.Resource.TheVariants.{Steps}
-use Rattle.sts_budget.specs.declared.layout.Layout.{Layout}
 use Rattle.sts_budget.specs.Flowing.{flows, flows_by}
-use Rattle.sts_budget.specs.Known.{KnowsNames, NamesRight}
-use Rattle.sts_budget.specs.Laid.{IsLaidOut, IsRight, listed}
+use Rattle.sts_budget.specs.Known.{KnowsNames}
 use Rattle.sts_budget.specs.Layout.{EntryNames}
-use Rattle.sts_budget.specs.Ready.{names_in, IsLaidFor}
 use Rattle.sts_budget.specs.Structured.{IsStructured}
 use Rattle.sts_budget.specs.Sums.{Sums}
-use Rattle.sts_budget.proofs.CheckedLemmas.{IsChecked, is_checked}
 use Rattle.sts_budget.proofs.EntryLemmas.{front_all, long}
 use Rattle.sts_budget.proofs.FourKindLemmas.{from_sums, from_steps, comes_names}
-use Rattle.sts_budget.proofs.LaidLemmas.{is_written}
-use Rattle.sts_budget.proofs.TypedLemmas.{fits}
 
 module _ (earlier : List Budgets) (code : List Instr) (round : ℕ → List ℕ) (good : IsStructured (skeleton earlier code) round) (names_at : ℕ → EntryNames) (known : KnowsNames code (skeleton earlier code) round names_at) where
   pub stands : (m : Measure) (pc : ℕ) (loops : Loops) (sum : ℕ) → Sums (skeleton earlier code) (flows_by m code names_at) (length (names_at pc)) pc loops sum → (before : ℕ) × ((es : List OpenEntry) × (Comes (skeleton earlier code) pc loops before es × (entries_sum m es ≡ sum)))
@@ -33,13 +23,3 @@ module _ (earlier : List Budgets) (code : List Instr) (round : ℕ → List ℕ)
 
   pub steps_come : (pc : ℕ) (loops : Loops) (sum : ℕ) → Sums (skeleton earlier code) (flows Steps earlier code names_at) 0 pc loops sum → (es : List OpenEntry) × Comes (skeleton earlier code) pc loops sum es
   steps_come pc loops sum h = from_steps earlier code round good names_at known 0 pc loops sum h
-
--- the names of a layout are those of the typestates
-pub names_right : (p : Program) (f : ℕ) (earlier : List Budgets) (l : Layout) → program_fault p.routines ≡ None → f < length p.routines → IsWellTyped p f → IsLaidOut p f l → NamesRight p f (names_in l)
-names_right p f earlier l fine in_program typed laid pc s r = (right pc (fits p f typed c.some_code c.bounds earlier pc s r).1).name s r
-  where
-    c : IsChecked p f
-    c = is_checked p f fine in_program
-
-    right : (pc : ℕ) → pc < length (routine p f).code → IsRight p f l.heads.items (listed l.lists.items l.which.items) pc
-    right pc lt = laid.0.right pc lt (is_written p f typed c.some_code c.bounds (length (routine p f).code) pc (omega arith) lt)

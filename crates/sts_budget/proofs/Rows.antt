@@ -9,7 +9,7 @@ use Rattle.sts_budget.specs.Row.{IsRaised, IsOver}
 use Rattle.sts_budget.specs.Table.{read, IsRaisedAt, IsSent, IsStopped}
 use Rattle.sts_budget.proofs.Sorts.{among_of, among_left, among_right}
 use Rattle.sts_budget.proofs.Forward.{among_cases}
-use Rattle.sts_budget.proofs.LaidStepLemmas.{among_at}
+use Rattle.sts_budget.proofs.Sorts.{among_at}
 
 -- one more of the values below i + 1
 pub set_below : (P : ℕ → ℕ → Type 0) (xs : List ℕ) (i v : ℕ) → i < length xs → ((d : ℕ) → d < i → P d (get_or xs d 0)) → P i v → (d : ℕ) → d < i + 1 → P d (get_or (set xs i v) d 0)

@@ -2,7 +2,7 @@
 -- instruction.
 use Rattle.std.proofs.Common.{◌≡◌, ℕ, ◌+◌, ◌-◌, ◌⊎◌, inl, inr, List, [], ◌∷◌, ◌++◌, drop, map, true}
 use Rattle.std.proofs.Common.{false, cond, ◌==◌, Option, Some, None, refl, sym, ap, ◌∙◌, subst}
-use Rattle.std.proofs.Common.{slice_set}
+use Rattle.std.proofs.Common.{slice_set, zero, suc, ◌<◌, length, get_or, arith}
 use Rattle.sts_code.specs.Program.{Program}
 use Rattle.sts_code.specs.declared.instr.Instr.{Instr}
 use Rattle.sts_code.specs.declared.instr.Instr.TheVariants.{Push, Pop, Dup, Swap, Load, Store, Add}
@@ -26,7 +26,7 @@ use Rattle.sts_rules.specs.Edges.{follows, moved, with_slot, with_known, with_ph
 use Rattle.sts_rules.specs.Edges.{raised, after_ok, joiner_of, cleared, join_follows}
 use Rattle.sts_rules.specs.ControlPaths.{GoesTo, EndsPath, Among}
 use Rattle.sts_rules.specs.Budget.{shape_of}
-use Rattle.sts_budget.specs.Layout.{names_after}
+use Rattle.sts_budget.specs.Layout.{names_after, goes_straight_on}
 use Rattle.sts_budget.specs.TypedNames.{name_of, names}
 
 name_kept : (x : ℕ) (phase : TypedPhase) (e : TypedEntry) → name_of (phase_set x phase e) ≡ name_of e
@@ -86,6 +86,22 @@ among_left (x ∷ xs) ys to (inr a) = inr (among_left xs ys to a)
 pub among_right : (xs ys : List ℕ) (to : ℕ) → Among ys to → Among (xs ++ ys) to
 among_right [] ys to a = a
 among_right (x ∷ xs) ys to a = inr (among_right xs ys to a)
+
+pub among_at : (xs : List ℕ) (i d : ℕ) → i < length xs → Among xs (get_or xs i d)
+among_at [] i d lt = absurd (omega arith)
+among_at (x ∷ xs) zero d lt = inl refl
+among_at (x ∷ xs) (suc i) d lt = inr (among_at xs i d (omega arith))
+
+-- an instruction that goes straight on leads only to the next place
+pub straight : (i : Instr) (pc : ℕ) → goes_straight_on i ≡ true → (pc + 1) ∷ [] ≡ targets i ++ next_place pc i
+straight (Div to) pc e = absurd (cc)
+straight (Jmp to) pc e = absurd (cc)
+straight (Jz to) pc e = absurd (cc)
+straight (Join x a b c) pc e = absurd (cc)
+straight (Case h a b) pc e = absurd (cc)
+straight Ret pc e = absurd (cc)
+straight Fail pc e = absurd (cc)
+straight _ pc e = refl
 
 slot_loops : (h : Option ℕ) (k : SlotKind) (s : TypeState) → (with_slot h k s).loops ≡ s.loops
 slot_loops None k s = refl

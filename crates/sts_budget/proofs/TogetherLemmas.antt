@@ -1,9 +1,11 @@
 -- The passes of all resources at once, resource by resource.
 use Rattle.std.proofs.Common.{◌≡◌, ℕ, ◌+◌, ◌<◌, ◌≤◌, List, [], length, get_or, refl, sym, subst}
-use Rattle.std.proofs.Common.{arith, take, replicate}
+use Rattle.std.proofs.Common.{arith, take, replicate, ap, ◌∙◌}
+use Rattle.std.proofs.lemmas.List.{length-map}
 use Rattle.sts_code.specs.declared.instr.Instr.{Instr}
 use Rattle.sts_rules.specs.Budget.{skeleton}
 use Rattle.sts_rules.specs.declared.budget.Budgets.{Budgets}
+use Rattle.sts_rules.specs.declared.typing.TypedEntry.{TypedEntry}
 use Rattle.sts_budget.specs.declared.change.Resource.{Resource}
 use Rattle.sts_budget.specs.declared.change.Resource.TheVariants.{Steps, Tasks, Scopes, Binds}
 use Rattle.sts_budget.specs.declared.greatest.Top.{Top}
@@ -15,6 +17,7 @@ use Rattle.sts_budget.specs.Ready.{IsLaidFor, flows_in, names_in}
 use Rattle.sts_budget.specs.Row.{IsRaised}
 use Rattle.sts_budget.specs.Table.{IsPartial, IsRaisedAt, IsSent}
 use Rattle.sts_budget.specs.Together.{over_open, width, most}
+use Rattle.sts_budget.specs.TypedNames.{name_of, names}
 use Rattle.sts_budget.proofs.LastTurns.{limit_small, own_within, bases_none, top_none, finished}
 use Rattle.sts_budget.proofs.Rows.{sent_more}
 
@@ -24,6 +27,17 @@ each P a b c d Steps = a
 each P a b c d Tasks = b
 each P a b c d Scopes = c
 each P a b c d Binds = d
+
+-- as many names as entries
+pub named_long : (es : List TypedEntry) → length (names es) ≡ length es
+named_long es = length-map es name_of
+
+pub as_many : (n : ℕ) (es fs : List TypedEntry) → n ≡ length es → es ≡ fs → n ≡ length (names fs)
+as_many n es fs long same = long ∙ ap length same ∙ sym (named_long fs)
+
+pub depth_named : (k : Resource) (n : ℕ) (es : List TypedEntry) → (k ≡ Steps → ⊥) → n ≡ length es → n ≡ depth_of k (names es)
+depth_named Steps n es other long = absurd (other refl)
+depth_named _ n es other long = as_many n es es long refl
 
 pub open_depth : (k : Resource) (ns : EntryNames) → over_open k (length ns) ≡ depth_of k ns
 open_depth Steps ns = refl

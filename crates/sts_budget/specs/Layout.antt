@@ -1,10 +1,12 @@
 -- The open entries by their names only (this project's own).
-use Rattle.std.specs.Prelude.{◌≡◌, ℕ, ◌<◌, ◌⊎◌, List, [], ◌∷◌, length, drop, Option, Some, None}
-use Rattle.std.specs.Prelude.{Bool, true, false}
+use Rattle.std.specs.Prelude.{◌≡◌, ℕ, ◌<◌, ◌≤◌, ◌⊎◌, List, [], ◌∷◌, length, drop, Option, Some}
+use Rattle.std.specs.Prelude.{None, Bool, true, false, slice_index_or}
 use Rattle.sts_code.specs.declared.instr.Instr.{Instr}
 use Rattle.sts_code.specs.declared.limits.TheConstants.{MAX_ENTRIES}
 use Rattle.sts_code.specs.declared.instr.Instr.TheVariants.{Div, Jmp, Jz, Open, Fork, Join, Close}
 use Rattle.sts_code.specs.declared.instr.Instr.TheVariants.{Case, Bind, Unbind, Ret, Fail}
+use Rattle.sts_types.specs.Arrivals.{none}
+use Rattle.sts_types.specs.Typing.{Typing}
 
 -- the names of the open entries, the innermost first: a scope's name is its slot, and a binding has
 -- none
@@ -18,14 +20,6 @@ names_after (Bind key) ns = None ∷ ns
 names_after (Close slot) ns = drop 1 ns
 names_after Unbind ns = drop 1 ns
 names_after _ ns = ns
-
--- does the instruction open and close nothing?
-abbrev pub keeps_names : Instr → Bool
-keeps_names (Open slot joiner timed) = false
-keeps_names (Bind key) = false
-keeps_names (Close slot) = false
-keeps_names Unbind = false
-keeps_names _ = true
 
 -- does the instruction only go on to the next place?
 abbrev pub goes_straight_on : Instr → Bool
@@ -50,8 +44,8 @@ FitsNames Unbind ns = 0 < length ns
 FitsNames (Fork slot function handle) ns = HasScope slot ns
 FitsNames _ ns = Unit {0}
 
--- there is room for the entry that an instruction opens
-abbrev pub HasEntryRoom : Instr → EntryNames → Type 0
-HasEntryRoom (Open slot joiner timed) ns = length ns < MAX_ENTRIES
-HasEntryRoom (Bind key) ns = length ns < MAX_ENTRIES
-HasEntryRoom _ ns = Unit {0}
+-- no place has more open entries than this number, which is at most the limit
+abbrev pub IsDeepest : Typing → ℕ → Type 0
+IsDeepest t deepest =
+    ((pc : ℕ) → length (slice_index_or t.states pc none).entries ≤ deepest)
+    × (deepest ≤ MAX_ENTRIES)

@@ -1,7 +1,6 @@
 pub mod Change
 pub mod Flowing
 pub mod Known
-pub mod Laid
 pub mod Layout
 pub mod Structured
 pub mod Sums

@@ -46,6 +46,13 @@ pub record IsPartial (c : Skeleton) (f : Flows) (k : ℕ) (rows : List (List ℕ
   pub greatest : (pc d : ℕ) → pc < c.size → d ≤ f.depth pc
       → MaxOf (Handed c f (read rows) k pc d) (read rows pc d)
 
+-- the row after the place pc is raised to the first n sums of pc, each with `own` more
+pub record IsCarried (n pc own : ℕ) (before after : List (List ℕ)) : Type 0 where
+  pub long : length after ≡ length before
+  pub raised : (d : ℕ) → d < n
+      → read after (pc + 1) d ≡ max (read before (pc + 1) d) (read before pc d + own)
+  pub same : (q d : ℕ) → (q ≡ pc + 1 → ⊥) → read after q d ≡ read before q d
+
 -- the row at a place is raised to the values
 abbrev pub IsRaisedAt : List ℕ → (low most to : ℕ) → (before after : List (List ℕ)) → Type 0
 IsRaisedAt values low most to before after =

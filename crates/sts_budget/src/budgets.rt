@@ -9,6 +9,7 @@ ghost use Rattle.sts_budget.specs.Outcome.{IsFound, IsNumber};
 ghost use Rattle.sts_budget.specs.Pass.{IsSet};
 ghost use Rattle.sts_budget.specs.Ready.{IsLaidFor};
 ghost use Rattle.sts_budget.specs.Together.{AreMost};
+ghost use Rattle.sts_types.specs.Typing.{IsTyping};
 
 use crate::change::Resource;
 use crate::greatest::{greatest, most_of};
@@ -18,6 +19,7 @@ use crate::together::{Source, budgets_together};
 use std::alloc::{AllocError, Global};
 use sts_code::{Program, code_of};
 use sts_rules::{Budgets, Cause};
+use sts_types::{Typing, typing_of};
 
 /// Why a function has no budgets.
 #[derive(Clone, Copy, Debug, PartialEq, Eq)]
@@ -55,8 +57,32 @@ pub fn budget(
     requires earlier { AreBudgets program.now earlier.now }
     ensures { IsFound earlier.now (routine program.now function).code result }
 {
+    // (Its contract says that the program passed the checks. So a `u32` counts its functions.)
+    code_of(program, function);
+    let typing = typing_of(alloc, program, function as u32)?;
+    typed_budget(alloc, program, function, earlier, &typing)
+}
+
+/// The budgets of a function by its typing, given those of the functions before it.
+///
+/// # Errors
+///
+/// The lowest-numbered cause from V17 to V20 that holds, or memory ran out.
+pub fn typed_budget(
+    alloc: Global,
+    program: &Program,
+    function: usize,
+    earlier: &[Budgets],
+    typing: &Typing,
+) -> Result<Budgets, BudgetError>
+    requires in_program { function < length program.now.routines }
+    requires typing { IsTyping program.now function typing.now }
+    requires long { length earlier.now ≡ function }
+    requires earlier { AreBudgets program.now earlier.now }
+    ensures { IsFound earlier.now (routine program.now function).code result }
+{
     let code = code_of(program, function);
-    let layout = lay_out(alloc, program, function)?;
+    let layout = lay_out(typing);
     let source = Source {
         earlier,
         code,

@@ -3,10 +3,11 @@
 ghost use Rattle.std.specs.Prelude.{◌≡◌, ◌<◌, ◌≤◌, ◌+◌, length};
 ghost use Rattle.sts_rules.specs.Budget as budget;
 ghost use Rattle.sts_budget.specs.Change as def;
+ghost use Rattle.sts_budget.specs.TypedNames.{name_of, names};
 
-use crate::layout::EntryNames;
 use sts_code::{Instr, MAX_ENTRIES};
-use sts_rules::Budgets;
+use sts_model::Stack;
+use sts_rules::{Budgets, TypedEntry};
 
 /// The resources with a budget.
 #[derive(Clone, Copy, Debug, PartialEq, Eq)]
@@ -50,13 +51,23 @@ pub fn added_of(change: SumChange, depth: usize, d: usize) -> u64
     }
 }
 
-/// The position, from the outermost, of the innermost scope in this slot.
-fn position_of(slot: u8, names: &EntryNames) -> usize
-    ensures { result ≡ def.position_of slot names.now }
+/// The slot of an entry, if it is a scope.
+fn name_of(entry: TypedEntry) -> Option<u8>
+    ensures { result ≡ name_of entry }
 {
-    let len = names.len();
+    match entry {
+        TypedEntry::Scope(scope) => Some(scope.slot),
+        TypedEntry::Binding(_) => None,
+    }
+}
+
+/// The position, from the outermost, of the innermost scope in this slot.
+fn position_of(slot: u8, entries: &Stack<TypedEntry, 16>) -> usize
+    ensures { result ≡ def.position_of slot (names entries.now) }
+{
+    let len = entries.len();
     for i in 0..len {
-        if names.get_or(i, None) == Some(slot) {
+        if name_of(entries.get_or(i, TypedEntry::default())) == Some(slot) {
             return len - 1 - i;
         }
     }
@@ -110,46 +121,51 @@ fn binding_of(resource: Resource, earlier: &[Budgets]) -> u64
 }
 
 #[inline(always)]
-fn measured(resource: Resource, earlier: &[Budgets], instr: Instr, names: &EntryNames) -> SumChange
+fn measured(
+    resource: Resource,
+    earlier: &[Budgets],
+    instr: Instr,
+    entries: &Stack<TypedEntry, 16>,
+) -> SumChange
     requires { def.ForksEarlier (length earlier.now) instr }
-    ensures { result ≡ def.measured (def.measure_of resource earlier.now) instr names.now }
+    ensures { result ≡ def.measured (def.measure_of resource earlier.now) instr (names entries.now) }
 {
     match instr {
         Instr::Open { .. } => SumChange::Opens(scope_of(resource, earlier)),
         Instr::Bind(_) => SumChange::Opens(binding_of(resource, earlier)),
         Instr::Fork { slot, function, .. } => SumChange::Adds {
-            position: position_of(slot, names),
+            position: position_of(slot, entries),
             amount: subtask_of(resource, earlier, function),
         },
         _ => SumChange::Rises(0),
     }
 }
 
-/// How the instruction changes the sums of this resource, if the open entries have these names.
+/// How the instruction changes the sums of this resource, if these entries are open.
 #[inline(always)]
 pub fn change_of(
     resource: Resource,
     earlier: &[Budgets],
     instr: Instr,
-    names: &EntryNames,
+    entries: &Stack<TypedEntry, 16>,
 ) -> SumChange
     requires { def.ForksEarlier (length earlier.now) instr }
-    ensures { result ≡ def.change_of resource earlier.now instr names.now }
+    ensures { result ≡ def.change_of resource earlier.now instr (names entries.now) }
 {
     match resource {
         Resource::Steps => SumChange::Rises(steps_of(earlier, instr)),
-        _ => measured(resource, earlier, instr, names),
+        _ => measured(resource, earlier, instr, entries),
     }
 }
 
 /// The number of entries that the sums of this resource go over.
 #[inline(always)]
-pub fn depth_of(resource: Resource, names: &EntryNames) -> usize
-    ensures value { result ≡ def.depth_of resource names.now }
+pub fn depth_of(resource: Resource, entries: &Stack<TypedEntry, 16>) -> usize
+    ensures value { result ≡ def.depth_of resource (names entries.now) }
     ensures bound { result ≤ MAX_ENTRIES }
 {
     match resource {
         Resource::Steps => 0,
-        _ => names.len(),
+        _ => entries.len(),
     }
 }

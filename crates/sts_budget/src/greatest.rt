@@ -7,12 +7,12 @@ ghost use Rattle.sts_rules.specs.Budget.{Exceeds};
 ghost use Rattle.sts_budget.specs.Change.{own_of, limit_of, cause_of, depth_of as depth, IsMost};
 ghost use Rattle.sts_budget.specs.Pass.{IsBudgetOr, IsSet, flow, low_at, paths};
 ghost use Rattle.sts_budget.specs.Last.{IsTopped};
-ghost use Rattle.sts_budget.specs.Ready.{IsLaidFor, names_in};
+ghost use Rattle.sts_budget.specs.Ready.{IsLaidFor, end_in, names_in};
 ghost use Rattle.sts_budget.specs.Handing.{base_of, bases_after};
 ghost use Rattle.sts_budget.specs.Table.{read, IsPartial, Passes};
 
 use crate::change::{Resource, depth_of};
-use crate::layout::names_at;
+use crate::layout::end_of;
 use crate::pass::{Pass, own_step, table};
 use crate::row::Row;
 use std::alloc::{AllocError, Global};
@@ -87,15 +87,15 @@ fn open_loop(bases: &mut Vec<u64>, instr: Instr, pc: usize, own: u32, full: u64,
 #[inline(always)]
 fn turn_end<const N: usize>(pass: &Pass<'_>, best: &[Row<N>], pc: usize, depth: usize) -> u32
     requires in_code { pc < length pass.now.code.now }
-    requires mates { pc < length pass.now.layout.now.mates.items }
+    requires ends { pc < length pass.now.layout.now.typing.now.loops.ends }
     requires inside { (n : ℕ) → instr_at pass.now.code.now pc ≡ Instr.Times n →
-        get_or pass.now.layout.now.mates.items pc 0 < length best.now }
+        end_in pass.now.layout.now pc < length best.now }
     requires few { depth < N }
     ensures { (n : ℕ) → instr_at pass.now.code.now pc ≡ Instr.Times n →
-        result ≡ read best.now (get_or pass.now.layout.now.mates.items pc 0) depth }
+        result ≡ read best.now (end_in pass.now.layout.now pc) depth }
 {
     match pass.code[pc] {
-        Instr::Times(_) => sum_at(best, pass.layout.mates[pc] as usize, depth),
+        Instr::Times(_) => sum_at(best, end_of(pass.layout, pc) as usize, depth),
         _ => 0,
     }
 }
@@ -133,7 +133,7 @@ pub(crate) fn add_place<const N: usize>(
     requires fits { (q : ℕ) → low_at pass.now q < N }
     requires in_code { pc < length pass.now.code.now }
     requires depth { depth ≡ low_at pass.now pc }
-    requires head { head ≡ get_or pass.now.layout.now.heads.items pc None }
+    requires head { head ≡ get_or pass.now.layout.now.typing.now.loops.heads pc None }
     requires whole { IsPartial (paths pass.now) (flow pass.now)
         (length pass.now.code.now) best.now }
     requires so_far { IsTopped pass.now best.now pc top.old }
@@ -171,8 +171,8 @@ fn greatest_by<const N: usize>(alloc: Global, pass: &Pass<'_>) -> Result<Option<
     };
     let mut top = no_top(alloc, pass.code.len())?;
     for pc in 0..pass.code.len() {
-        let depth = depth_of(pass.resource, names_at(pass.layout, pc));
-        let head = pass.layout.heads[pc];
+        let depth = depth_of(pass.resource, pass.layout.typing.entries(pc));
+        let head = pass.layout.typing.head(pc);
         if !add_place(pass, best.as_slice(), &mut top, pc, depth, head) {
             return Ok(None);
         }

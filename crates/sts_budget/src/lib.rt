@@ -11,9 +11,9 @@ pub mod pass;
 pub mod row;
 mod together;
 
-pub use budgets::{BudgetError, budget};
+pub use budgets::{BudgetError, budget, typed_budget};
 pub use change::{Resource, added_of, change_of, depth_of, source_of};
 pub use greatest::{limit_of, own_of};
-pub use layout::{Layout, lay_out, names_at, next_places};
+pub use layout::{Layout, end_of, lay_out, next_places};
 pub use pass::turns_of;
 pub use sts_rules::Budgets;

@@ -7,7 +7,6 @@ ghost use Rattle.sts_code.specs.Facts as facts;
 ghost use Rattle.sts_code.specs.Program.{instr_at};
 ghost use Rattle.sts_rules.specs.Budget.{skeleton};
 ghost use Rattle.sts_budget.specs.Change.{limit_of, own_of, own_step};
-ghost use Rattle.sts_budget.specs.Laid.{AreListed};
 ghost use Rattle.sts_budget.specs.Pass.{IsSet, flow, leads, low_at, paths};
 ghost use Rattle.sts_budget.specs.Ready.{IsLaidFor, flows_in, head_in, names_in};
 ghost use Rattle.sts_budget.specs.Row.{IsOver};
@@ -16,7 +15,7 @@ ghost use Rattle.sts_budget.specs.Table.{HandsTooMuch, Passes, read};
 ghost use Rattle.sts_budget.specs.Handing.{handed_value, is_quiet, is_ordinary, turns_of};
 
 use crate::change::{Resource, change_of, depth_of};
-use crate::layout::{Layout, goes_straight_on, names_at, next_places};
+use crate::layout::{Layout, goes_straight_on, next_places};
 use crate::row::{Row, Values, raise, risen, values_after, values_of_loop};
 use std::alloc::{AllocError, Global};
 use sts_code::{Instr, MAX_INSTRUCTIONS};
@@ -29,7 +28,7 @@ pub(crate) struct Pass<'p> {
     pub(crate) resource: Resource,
     pub(crate) earlier: &'p [Budgets],
     pub(crate) code: &'p [Instr],
-    pub(crate) layout: &'p Layout,
+    pub(crate) layout: &'p Layout<'p>,
     pub(crate) most: u32,
 }
 
@@ -61,14 +60,13 @@ fn raise_at<const N: usize>(
     pass: &Pass<'_>,
 ) -> bool
     requires inside { to < length best.old.items }
-    requires named { length pass.now.layout.now.which.items ≡ length best.old.items }
-    requires listed { AreListed pass.now.layout.now.lists.items pass.now.layout.now.which.items }
+    requires named { length pass.now.layout.now.typing.now.states ≡ length best.old.items }
     requires fits { (pc : ℕ) → low_at pass.now pc < N }
     ensures raised { IsTrue result →
         IsRaisedAt values.now (low_at pass.now to) pass.now.most to best.old.items best.new.items }
     ensures over { IsFalse result → IsOver values.now (low_at pass.now to) pass.now.most }
 {
-    let low = depth_of(pass.resource, names_at(pass.layout, to));
+    let low = depth_of(pass.resource, pass.layout.typing.entries(to));
     raise_row(best, to, values, low, pass.most)
 }
 
@@ -80,8 +78,7 @@ fn send<const N: usize>(
     pass: &Pass<'_>,
 ) -> bool
     requires inside { All (λ to. to < length best.old.items) places.now }
-    requires named { length pass.now.layout.now.which.items ≡ length best.old.items }
-    requires listed { AreListed pass.now.layout.now.lists.items pass.now.layout.now.which.items }
+    requires named { length pass.now.layout.now.typing.now.states ≡ length best.old.items }
     requires fits { (pc : ℕ) → low_at pass.now pc < N }
     ensures sent { IsTrue result →
         IsSent values.now (low_at pass.now) pass.now.most places.now best.old.items best.new.items }
@@ -106,8 +103,7 @@ fn send_on<const N: usize>(
 ) -> bool
     requires short { pc < MAX_INSTRUCTIONS }
     requires inside { All (λ to. to < length best.old.items) (leads pc instr) }
-    requires named { length pass.now.layout.now.which.items ≡ length best.old.items }
-    requires listed { AreListed pass.now.layout.now.lists.items pass.now.layout.now.which.items }
+    requires named { length pass.now.layout.now.typing.now.states ≡ length best.old.items }
     requires fits { (q : ℕ) → low_at pass.now q < N }
     ensures sent { IsTrue result →
         IsSent values.now (low_at pass.now) pass.now.most
@@ -156,7 +152,7 @@ pub(crate) fn own_step(resource: Resource) -> u32
 fn loop_values<const N: usize>(pass: &Pass<'_>, best: &[Row<N>], pc: usize) -> Values<N>
     requires in_code { pc < length pass.now.code.now }
     requires head { head_in pass.now.layout.now pc < length pass.now.code.now }
-    requires heads { length pass.now.layout.now.heads.items ≡ length pass.now.code.now }
+    requires heads { length pass.now.layout.now.typing.now.loops.heads ≡ length pass.now.code.now }
     requires rows { length best.now ≡ length pass.now.code.now }
     ensures { (d : ℕ) → d < N →
         get_or result d 0 ≡
@@ -164,7 +160,7 @@ fn loop_values<const N: usize>(pass: &Pass<'_>, best: &[Row<N>], pc: usize) -> V
         turns_of (instr_at pass.now.code.now (head_in pass.now.layout.now pc)) *
         (read best.now pc d + own_step pass.now.resource)) 18446744073709551615 }
 {
-    let head = match pass.layout.heads[pc] {
+    let head = match pass.layout.typing.head(pc) {
         Some(at) => at as usize,
         None => 0,
     };
@@ -178,7 +174,7 @@ fn loop_values<const N: usize>(pass: &Pass<'_>, best: &[Row<N>], pc: usize) -> V
 
 /// Does the instruction count one step, and change nothing else?
 #[inline(always)]
-fn is_ordinary(instr: Instr) -> bool
+pub(crate) fn is_ordinary(instr: Instr) -> bool
     ensures { result ≡ is_ordinary instr }
 {
     !matches!(
@@ -205,9 +201,9 @@ pub(crate) fn values_of<const N: usize>(pass: &Pass<'_>, best: &[Row<N>], pc: us
     match pass.code[pc] {
         Instr::Next => loop_values(pass, best, pc),
         instr => {
-            let names = names_at(pass.layout, pc);
-            let change = change_of(pass.resource, pass.earlier, instr, names);
-            values_after(change, depth_of(pass.resource, names), &best[pc])
+            let entries = pass.layout.typing.entries(pc);
+            let change = change_of(pass.resource, pass.earlier, instr, entries);
+            values_after(change, depth_of(pass.resource, entries), &best[pc])
         }
     }
 }

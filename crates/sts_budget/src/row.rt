@@ -1,6 +1,6 @@
 //! Rows of the greatest sums over the first open entries.
 
-ghost use Rattle.std.specs.Prelude.{◌≡◌, ◌<◌, ◌≤◌, ◌+◌, ◌*◌, ℕ, min, get_or, IsTrue, IsFalse};
+ghost use Rattle.std.specs.Prelude.{◌≡◌, ◌<◌, ◌≤◌, ◌+◌, ◌*◌, ℕ, max, min, get_or, IsTrue, IsFalse};
 ghost use Rattle.sts_budget.specs.Change.{source_of, added_of};
 ghost use Rattle.sts_budget.specs.Row.{IsRaised, IsOver};
 
@@ -68,6 +68,17 @@ pub(crate) fn values_of_loop<const N: usize>(
         );
     }
     values
+}
+
+/// Raises each sum of a row to that of another row.
+#[inline(always)]
+pub(crate) fn raise_all<const N: usize>(row: &mut Row<N>, other: &Row<N>)
+    ensures { (d : ℕ) → d < N →
+        get_or row.new d 0 ≡ max (get_or row.old d 0) (get_or other.now d 0) }
+{
+    for d in 0..N {
+        row[d] = row[d].max(other[d]);
+    }
 }
 
 /// Raises the sums over the first `low` entries to the values. The answer is false if one of these

@@ -1,24 +1,25 @@
 //! The budgets of all resources, found in one pass over a function.
 
 ghost use Rattle.std.specs.Prelude.{◌≡◌, ◌<◌, ◌≤◌, ◌+◌, ◌++◌, ℕ, All, IsTrue, IfOk, IfSome, length, min, get_or};
-ghost use Rattle.std.specs.Prelude.{replicate};
+ghost use Rattle.std.specs.Prelude.{replicate, true};
 ghost use Rattle.sts_code.specs.Facts as facts;
 ghost use Rattle.sts_rules.specs.Around as around;
 ghost use Rattle.sts_rules.specs.Budget.{skeleton};
 ghost use Rattle.sts_budget.specs.declared.change.Resource.{Resource};
-ghost use Rattle.sts_budget.specs.Change.{depth_of, own_of};
+ghost use Rattle.sts_budget.specs.Change.{depth_of, own_of, own_step};
+ghost use Rattle.sts_budget.specs.Handing as handing;
 ghost use Rattle.sts_budget.specs.Handing.{handed_value};
-ghost use Rattle.sts_budget.specs.Laid.{AreListed};
+ghost use Rattle.sts_budget.specs.Layout as layouts;
 ghost use Rattle.sts_budget.specs.Ready.{IsLaidFor, flows_in, head_in, names_in};
-ghost use Rattle.sts_budget.specs.Table.{IsRaisedAt, IsSent, IsSpread, IsPartial, read};
+ghost use Rattle.sts_budget.specs.Table.{IsCarried, IsRaisedAt, IsSent, IsSpread, IsPartial, read};
 ghost use Rattle.sts_budget.specs.Together.{rows_of, sums_of, over_open, width, most, AreMost};
 ghost use Rattle.sts_budget.specs.Together.{AreTopped, top_of, budget_of};
 
 use crate::change::Resource;
 use crate::greatest::{Top, add_place, most_of, no_top, own_of};
-use crate::layout::{Layout, goes_straight_on, names_at, next_places};
-use crate::pass::{Pass, is_quiet, raise_row, values_of};
-use crate::row::{Row, Values};
+use crate::layout::{Layout, goes_straight_on, next_places};
+use crate::pass::{Pass, is_ordinary, is_quiet, raise_row, values_of};
+use crate::row::{Row, Values, raise_all, risen};
 use std::alloc::{AllocError, Global};
 use sts_code::{Instr, MAX_INSTRUCTIONS};
 use sts_rules::{Budgets, filled};
@@ -29,7 +30,7 @@ use sts_rules::{Budgets, filled};
 pub(crate) struct Source<'p> {
     pub(crate) earlier: &'p [Budgets],
     pub(crate) code: &'p [Instr],
-    pub(crate) layout: &'p Layout,
+    pub(crate) layout: &'p Layout<'p>,
 }
 
 /// The tables of greatest sums, one for each resource. Steps are summed over no entry.
@@ -50,7 +51,42 @@ struct Handed<const N: usize> {
     binds: Values<N>,
 }
 
+/// Does the instruction count a step, change nothing else, and go on to the next place?
+#[inline(always)]
+fn only_steps(instr: Instr) -> bool
+    ensures ordinary { IsTrue result → handing.is_ordinary instr ≡ true }
+    ensures straight { IsTrue result → layouts.goes_straight_on instr ≡ true }
+{
+    is_ordinary(instr) && goes_straight_on(instr)
+}
+
+/// Raises the row after a place to the row of the place.
+#[inline(always)]
+fn carry<const N: usize>(rows: &mut Vec<Row<N>>, pc: usize)
+    requires { pc + 1 < length rows.old.items }
+    ensures { IsCarried N pc 0 rows.old.items rows.new.items }
+{
+    let row = rows[pc];
+    raise_all(&mut rows[pc + 1], &row);
+}
+
 impl<const N: usize> Tables<N> {
+    /// Hands on the sums of a place to the next place, with one step more. The answer is false if
+    /// the steps are over their limit.
+    #[inline(always)]
+    fn step_on(&mut self, pc: usize) -> bool
+        requires small { N ≤ 17 }
+        requires inside { (k : Resource) → pc + 1 < length (rows_of self.old k) }
+        ensures { IsTrue result → (k : Resource) →
+            IsCarried (width N k) pc (own_step k) (rows_of self.old k) (rows_of self.new k) }
+    {
+        let steps = risen(1, &self.steps[pc]);
+        carry(&mut self.tasks, pc);
+        carry(&mut self.scopes, pc);
+        carry(&mut self.binds, pc);
+        raise_row(&mut self.steps, pc + 1, &steps, 0, most_of(Resource::Steps))
+    }
+
     /// Raises the rows at a place to the values, as far as `low` entries. The answer is false if a
     /// value is over its limit.
     #[inline(always)]
@@ -79,12 +115,11 @@ impl<const N: usize> Tables<N> {
 
     /// Raises the rows at these places to the values. The answer is false if a value is over its
     /// limit.
-    fn send(&mut self, places: &[u32], values: &Handed<N>, layout: &Layout) -> bool
+    fn send(&mut self, places: &[u32], values: &Handed<N>, layout: &Layout<'_>) -> bool
         requires small { N ≤ 17 }
         requires inside { (k : Resource) → All (λ to. to < length (rows_of self.old k)) places.now }
         requires named { (k : Resource) →
-            length layout.now.which.items ≡ length (rows_of self.old k) }
-        requires listed { AreListed layout.now.lists.items layout.now.which.items }
+            length layout.now.typing.now.states ≡ length (rows_of self.old k) }
         requires fits { (pc : ℕ) → length (names_in layout.now pc) < N }
         ensures { IsTrue result → (k : Resource) → IsSent (sums_of values.now k)
             (λ pc. depth_of k (names_in layout.now pc)) (most k) places.now
@@ -92,7 +127,7 @@ impl<const N: usize> Tables<N> {
     {
         for i in 0..places.len() {
             let to = places[i] as usize;
-            if !self.raise_to(to, values, names_at(layout, to).len()) {
+            if !self.raise_to(to, values, layout.typing.entries(to).len()) {
                 return false;
             }
         }
@@ -101,14 +136,13 @@ impl<const N: usize> Tables<N> {
 
     /// Raises the rows at the places where an instruction goes on.
     #[inline(always)]
-    fn send_on(&mut self, instr: Instr, pc: usize, values: &Handed<N>, layout: &Layout) -> bool
+    fn send_on(&mut self, instr: Instr, pc: usize, values: &Handed<N>, layout: &Layout<'_>) -> bool
         requires small { N ≤ 17 }
         requires short { pc < MAX_INSTRUCTIONS }
         requires inside { (k : Resource) → All (λ to. to < length (rows_of self.old k))
             (facts.targets instr ++ around.next_place pc instr) }
         requires named { (k : Resource) →
-            length layout.now.which.items ≡ length (rows_of self.old k) }
-        requires listed { AreListed layout.now.lists.items layout.now.which.items }
+            length layout.now.typing.now.states ≡ length (rows_of self.old k) }
         requires fits { (q : ℕ) → length (names_in layout.now q) < N }
         ensures { IsTrue result → (k : Resource) → IsSent (sums_of values.now k)
             (λ q. depth_of k (names_in layout.now q)) (most k)
@@ -116,7 +150,7 @@ impl<const N: usize> Tables<N> {
             (rows_of self.old k) (rows_of self.new k) }
     {
         if goes_straight_on(instr) {
-            return self.raise_to(pc + 1, values, names_at(layout, pc + 1).len());
+            return self.raise_to(pc + 1, values, layout.typing.entries(pc + 1).len());
         }
         let places = next_places(instr, pc as u32);
         self.send(places.as_slice(), values, layout)
@@ -179,6 +213,9 @@ impl<const N: usize> Tables<N> {
         if is_quiet(source.code[pc]) {
             return true;
         }
+        if only_steps(source.code[pc]) {
+            return self.step_on(pc);
+        }
         let values = self.handed(source, pc);
         self.send_on(source.code[pc], pc, &values, source.layout)
     }
@@ -237,8 +274,8 @@ impl Tops {
         requires so_far { AreTopped source.now tables.now pc self.old }
         ensures { IsTrue result → AreTopped source.now tables.now (pc + 1) self.new }
     {
-        let depth = names_at(source.layout, pc).len();
-        let head = source.layout.heads[pc];
+        let depth = source.layout.typing.entries(pc).len();
+        let head = source.layout.typing.head(pc);
         let steps = Pass {
             resource: Resource::Steps,
             earlier: source.earlier,

@@ -1,5 +1,5 @@
 -- The edges of instructions go forward and stay inside the function.
-use Rattle.std.proofs.Common.{◌≡◌, ℕ, ◌+◌, ◌<◌, ◌≤◌, ◌⊎◌, inl, inr, Bool, true, false, ◌||◌, not}
+use Rattle.std.proofs.Common.{◌≡◌, ℕ, ◌+◌, ◌<◌, ◌≤◌, ◌⊎◌, inl, inr, Bool, true, false, ◌||◌}
 use Rattle.std.proofs.Common.{List, [], ◌∷◌, ◌++◌, map, Option, Some, None, option_map}
 use Rattle.std.proofs.Common.{option_to_list, slice_get, Ok, leb, cond, eqb-true, leb-false, refl}
 use Rattle.std.proofs.Common.{sym, ap, subst, arith}

@@ -11,7 +11,8 @@ use Rattle.sts_types.proofs.FollowLemmas.{take_there, take_missing}
 use Rattle.sts_types.specs.declared.arrival.Arrival.{Arrival}
 use Rattle.sts_types.specs.declared.arrival.Arrival.TheVariants.{Nothing, One, Several}
 use Rattle.sts_types.specs.declared.arrivals.Mark.{Mark}
-use Rattle.sts_types.specs.Arrivals.{Merged, Goes, IsMarked, arrival_of, at_height, none, state_of}
+use Rattle.sts_types.specs.Arrivals.{Merged, Goes, IsMarked, arrival_of, at_height, none, state_in}
+use Rattle.sts_types.specs.Arrivals.{state_of}
 
 one_kept : (kept added : List TypeState) (m : Arrival Mark) → IsMarked (length kept) m → arrival_of (kept ++ added) m ≡ arrival_of kept m
 one_kept kept added Nothing h = refl
@@ -62,6 +63,17 @@ read_at kept marks table place here view lt reads =
     ap (λ l. get_or l place Nothing) (sym view)
     ∙ get_or-map (arrival_of kept) marks place here Nothing (within_marks kept marks table place view lt)
     ∙ ap (arrival_of kept) (sym reads)
+
+held_at : (kept : List TypeState) (marks : List (Arrival Mark)) (place : ℕ) (s : TypeState) → get_or (map (arrival_of kept) marks) place Nothing ≡ One s → get_or (map (state_in kept) marks) place none ≡ s
+held_at kept [] place s e = cc
+held_at kept (Nothing ∷ ms) zero s e = cc
+held_at kept (One m ∷ ms) zero s e = cc
+held_at kept (Several ∷ ms) zero s e = cc
+held_at kept (m ∷ ms) (suc place) s e = held_at kept ms place s e
+
+-- the typestate of a place is the only one that has arrived there
+pub only_there : (kept : List TypeState) (marks : List (Arrival Mark)) (table : List (Arrival TypeState)) (place : ℕ) (s : TypeState) → map (arrival_of kept) marks ≡ table → get_or table place Nothing ≡ One s → get_or (map (state_in kept) marks) place none ≡ s
+only_there kept marks table place s view is = held_at kept marks place s (ap (λ l. get_or l place Nothing) view ∙ is)
 
 -- one more has arrived
 pub arrived : (kept shown : List TypeState) (marks : List (Arrival Mark)) (table : List (Arrival TypeState)) (place : ℕ) (before after : Arrival Mark) (m : Mark) (s : TypeState) → shown ≡ kept → map (arrival_of kept) marks ≡ table → place < length table → before ≡ get_or marks place before → state_of kept m ≡ s → Merged (arrival_of shown before) (state_of shown m) (arrival_of shown after) → (x : Arrival TypeState) × (Merged (get_or table place Nothing) s x × (map (arrival_of kept) (set marks place after) ≡ set table place x))

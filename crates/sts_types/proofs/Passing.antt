@@ -109,6 +109,18 @@ module _ {S C : Type 0} (f : Flow S C) (n : ℕ) (laws : IsForward f n) where
       to (One s) w = (reaches k pc s w.0, λ x r. w.1 x (below k pc x le r))
       to Several w = (w.0, (w.1.0, (reaches k pc _ w.1.1.0, reaches k pc _ w.1.1.1, w.1.1.2)))
 
+  -- after the last place, the table has the only state of each place
+  pub all_alone : (table : List (Arrival S)) → Passed f n table n → (pc : ℕ) → pc < n → (s : S) × ((get_or table pc Nothing ≡ One s) × IsAlone f pc s)
+  all_alone table at pc lt = by (get_or table pc Nothing) refl (known table n pc (omega arith) (at.holds.1 pc lt))
+    where
+      c : IsClear f pc
+      c = at.clear pc lt
+
+      by : (a : Arrival S) → get_or table pc Nothing ≡ a → Stands (Reaches f pc) a → (s : S) × ((get_or table pc Nothing ≡ One s) × IsAlone f pc s)
+      by Nothing e w = absurd (w c.state c.alone.0)
+      by (One s) e w = (s, (e, w))
+      by Several e w = absurd (w.1.1.2 (c.alone.1 w.0 w.1.1.0 ∙ sym (c.alone.1 w.1.0 w.1.1.1)))
+
   module _ (table : List (Arrival S)) (k : ℕ) (within : k < n) (at : Passed f n table k) where
     -- what the table says of a place up to k
     stands : (pc : ℕ) (a : Arrival S) → pc ≤ k → get_or table pc Nothing ≡ a → Stands (Reaches f pc) a

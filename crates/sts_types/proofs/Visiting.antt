@@ -12,18 +12,22 @@ use Rattle.sts_rules.specs.declared.typing.Cause.TheVariants.{StatesDiffer, Dead
 use Rattle.sts_rules.specs.TypeState.{TypeState, entry}
 use Rattle.sts_rules.specs.Causes.{least_cause}
 use Rattle.sts_rules.specs.Edges.{edges, follows, back_of, typing}
-use Rattle.sts_rules.specs.Flow.{TurnKeeps}
-use Rattle.sts_rules.specs.Refusal.{size, IsTypeRefusal}
+use Rattle.sts_rules.specs.Flow.{IsAlone, TurnKeeps}
+use Rattle.sts_rules.specs.Refusal.{size, IsTypeRefusal, IsWellTyped}
 use Rattle.sts_types.specs.declared.arrival.Arrival.{Arrival}
 use Rattle.sts_types.specs.declared.arrival.Arrival.TheVariants.{Nothing, One, Several}
-use Rattle.sts_types.specs.Arrivals.{Arrive, filled}
+use Rattle.sts_types.specs.Arrivals.{Arrive, filled, none}
 use Rattle.sts_types.specs.Room.{HasRoom}
 use Rattle.sts_types.proofs.Arriving.{all_places}
 use Rattle.sts_types.proofs.EdgeLemmas.{instr_there, refused_there, edges_there}
 use Rattle.sts_types.proofs.Fitting.{fits}
 use Rattle.sts_types.proofs.Laws.{laws, back_down}
 use Rattle.sts_types.specs.Passing.{Passed}
-use Rattle.sts_types.proofs.Passing.{begin, is_dead, has_two, has_edge_cause}
+use Rattle.sts_types.specs.Tables.{AreTablesOf}
+use Rattle.sts_types.specs.declared.pass.TypeError.{TypeError}
+use Rattle.sts_types.specs.declared.pass.TypeError.TheVariants.{Refused}
+use Rattle.sts_types.specs.Typing.{Typing, IsTyping, Tells}
+use Rattle.sts_types.proofs.Passing.{all_alone, clear_or_cause, begin, is_dead, has_two, has_edge_cause}
 use Rattle.sts_types.proofs.Passing.{has_turn_cause, turn_differs, turn_same, no_turn, goes_on}
 use Rattle.sts_types.proofs.RoomLemmas.{has_room}
 
@@ -63,6 +67,24 @@ begins p f code table s is some empty first =
 -- the table at the start
 pub starts : (p : Program) (f : ℕ) (code : List Instr) (table : List (Arrival TypeState)) (s : TypeState) → code ≡ (routine p f).code → 0 < length code → table ≡ set (replicate (length code) Nothing) 0 (One s) → s ≡ entry p f → Passed (typing p f) (size p f) table 0
 starts p f code table s is some begun first = subst (λ t. Passed (typing p f) (size p f) t 0) (sym begun) (begins p f code (replicate (length code) Nothing) s is some refl first)
+
+-- a function that is well typed is not refused
+pub never_refused : (p : Program) (f : ℕ) (e : TypeError) (pc : ℕ) (c : Cause) → IsWellTyped p f → Tells p f e → e ≡ Refused pc c → ⊥
+never_refused p f e pc c typed tells is =
+    let refusal : IsTypeRefusal p f pc c = subst (Tells p f) is tells in
+    clear_or_cause (typing p f) (size p f) (laws p f) pc c (typed pc refusal.0) refusal.1
+
+-- what the pass has found after the last place
+pub is_typing : (p : Program) (f : ℕ) (code : List Instr) (table : List (Arrival TypeState)) (t : Typing) → code ≡ (routine p f).code → Passed (typing p f) (size p f) table (length code) → length t.states ≡ length table → ((pc : ℕ) (s : TypeState) → get_or table pc Nothing ≡ One s → get_or t.states pc none ≡ s) → AreTablesOf code t.loops → IsTyping p f t
+is_typing p f code table t is passed long each loops = record {
+  typed = whole.clear;
+  long = long ∙ passed.holds.0;
+  alone = λ pc lt. (let a = all_alone (typing p f) (size p f) (laws p f) table whole pc lt in subst (IsAlone (typing p f) pc) (sym (each pc a.0 a.1.0)) a.1.1);
+  loops = subst (λ xs. AreTablesOf xs t.loops) is loops;
+}
+  where
+    whole : Passed (typing p f) (size p f) table (size p f)
+    whole = subst (Passed (typing p f) (size p f) table) (ap length is) passed
 
 module _ (p : Program) (f : ℕ) (code : List Instr) (is : code ≡ (routine p f).code) (table : List (Arrival TypeState)) (k : ℕ) (within : k < length code) (at : Passed (typing p f) (size p f) table k) where
   here : k < size p f

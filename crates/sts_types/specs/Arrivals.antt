@@ -46,6 +46,15 @@ none = record { height = 0; loops = []; entries = []; slots = [] }
 abbrev pub state_of : List TypeState → Mark → TypeState
 state_of kept m = at_height m.height (slice_index_or kept m.like none)
 
+-- the mark of a place; that of the first kept typestate, if not one has arrived there
+abbrev pub mark_in : Arrival Mark → Mark
+mark_in (One m) = m
+mark_in _ = record { height = 0; like = 0 }
+
+-- the typestate of a place, by its mark
+abbrev pub state_in : List TypeState → Arrival Mark → TypeState
+state_in kept a = state_of kept (mark_in a)
+
 -- the typestates that the marks at a place refer to
 abbrev pub arrival_of : List TypeState → Arrival Mark → Arrival TypeState
 arrival_of kept Nothing = Nothing

@@ -11,9 +11,11 @@ ghost use Rattle.sts_types.specs.Arrivals.{filled, none, state_of, IsAtStart};
 
 use crate::arrival::Arrival;
 use crate::follow::edge;
+use crate::loops::Tables;
 use crate::recent::{Recent, look_of};
 use crate::site::Site;
 use crate::state::TypeState;
+use crate::typing::Typing;
 use std::alloc::{AllocError, Global};
 use std::marker::Model;
 use sts_code::MAX_OPERANDS;
@@ -24,8 +26,8 @@ use sts_rules::filled;
 #[derive(Clone, Copy)]
 pub(crate) struct Mark {
     // (A byte in its place would leave seven before `like`. A read after a move waits for those.)
-    height: usize,
-    like: usize,
+    pub(crate) height: usize,
+    pub(crate) like: usize,
 }
 
 /// The typestates that have arrived at each place, and the current typestate.
@@ -305,6 +307,21 @@ impl Arrivals {
         match self.marks[place as usize] {
             Arrival::One(only) => are_same(self.kept.as_slice(), only, here),
             _ => false,
+        }
+    }
+
+    /// The typestates that have arrived, and the tables of the loops.
+    pub(crate) fn into_typing(self, loops: Tables) -> Typing
+        ensures long { length result.states ≡ length self.table }
+        ensures each { (pc : ℕ) (s : TypeState) →
+            slice_index_or self.table pc Arrival.Nothing ≡ Arrival.One s →
+            slice_index_or result.states pc none ≡ s }
+        ensures loops { result.loops ≡ loops }
+    {
+        Typing {
+            marks: self.marks,
+            kept: self.kept,
+            loops,
         }
     }
 }

@@ -22,8 +22,10 @@ mod site;
 pub mod slots;
 mod state;
 mod tables;
+mod typing;
 
 pub use edge::{edges, edges_with_loops};
-pub use pass::{TypeError, type_function};
+pub use pass::{TypeError, type_function, typed_function, typing_of};
 pub use state::{TypeState, entry};
 pub use sts_rules::Cause;
+pub use typing::Typing;

@@ -1,7 +1,7 @@
 //! One forward pass over a function, which finds its least place with a cause.
 
 ghost use Rattle.std.specs.Prelude.{◌≡◌, ◌≤◌, ◌<◌, ◌^◌, ◌↔◌, length, replicate, slice_index_or};
-ghost use Rattle.std.specs.Prelude.{slice_set, vec_len, IsTrue, OnOk, IfSome, MatchResult, All};
+ghost use Rattle.std.specs.Prelude.{slice_set, vec_len, IsTrue, OnOk, IfOk, IfSome, MatchResult, All};
 ghost use Rattle.std.specs.Prelude.{Some, ℕ, ◌+◌, ◌∷◌, [], option_to_list};
 ghost use Rattle.sts_rules.specs.Edges as def;
 ghost use Rattle.sts_rules.specs.Refusal.{IsWellTyped};
@@ -9,7 +9,7 @@ ghost use Rattle.sts_code.specs.Program.{routine, instr_at};
 ghost use Rattle.sts_types.specs.Arrivals.{Merged, Arrive, at_height};
 ghost use Rattle.sts_types.specs.Passing.{PassedTo};
 ghost use Rattle.sts_types.specs.Site.{IsSite, HasRoomAt, follows_at};
-ghost use Rattle.sts_types.specs.Typing.{Tells};
+ghost use Rattle.sts_types.specs.Typing.{IsTyping, Tells};
 
 use crate::arrival::Arrival;
 use crate::arrivals::Arrivals;
@@ -19,6 +19,7 @@ use crate::least::{least_cause, short_way};
 use crate::loops::{CodeLoops, Tables};
 use crate::site::Site;
 use crate::state::{TypeState, entry};
+use crate::typing::Typing;
 use std::alloc::{AllocError, Global};
 use sts_code::{Instr, MAX_INSTRUCTIONS, MAX_OPERANDS, Program, code_of};
 use sts_rules::Cause;
@@ -214,13 +215,49 @@ fn visit_all(
     requires code { code.now ≡ (routine program.now function).code }
     requires loops { loops.now ≡ code.now }
     requires begun { PassedTo program.now function arrivals.old.table 0 }
-    ensures { MatchResult result (λ _. IsWellTyped program.now function)
+    ensures { MatchResult result
+        (λ _. PassedTo program.now function arrivals.new.table (length code.now))
         (Tells program.now function) }
 {
     for pc in 0..loops.len() {
         visit(program, function, code, loops, pc, arrivals)?;
     }
     Ok(())
+}
+
+/// Finds the typestate at each place of the function and its loops. If a place has a cause from V1
+/// to V16, reports the first one, with the cause that is named there.
+///
+/// # Errors
+///
+/// The first place that has a cause, with the cause that is named there; or memory ran out.
+pub fn typed_function(alloc: Global, program: &Program, function: u32) -> Result<Typing, TypeError>
+    requires { function < length program.now.routines }
+    ensures { MatchResult result (IsTyping program.now function) (Tells program.now function) }
+{
+    let code = code_of(program, function as usize);
+    let tables = Tables::new(alloc, code)?;
+    let loops = CodeLoops::with_tables(code, &tables);
+    let mut arrivals = Arrivals::new(alloc, code.len(), entry(program, function))?;
+    visit_all(program, function, code, &loops, &mut arrivals)?;
+    Ok(arrivals.into_typing(tables))
+}
+
+/// The typing of a function that is known to be well typed.
+///
+/// # Errors
+///
+/// Memory ran out.
+pub fn typing_of(alloc: Global, program: &Program, function: u32) -> Result<Typing, AllocError>
+    requires in_program { function < length program.now.routines }
+    requires typed { IsWellTyped program.now function }
+    ensures { IfOk result (IsTyping program.now function) }
+{
+    match typed_function(alloc, program, function) {
+        Ok(typing) => Ok(typing),
+        Err(TypeError::Memory) => Err(AllocError),
+        Err(TypeError::Refused { .. }) => unreachable!(),
+    }
 }
 
 /// Checks that each place of the function has one typestate and no cause from V1 to V16. If not,
@@ -234,11 +271,8 @@ pub fn type_function(alloc: Global, program: &Program, function: u32) -> Result<
     ensures { MatchResult result (λ _. IsWellTyped program.now function)
         (Tells program.now function) }
 {
-    let code = code_of(program, function as usize);
-    let tables = Tables::new(alloc, code)?;
-    let loops = CodeLoops::with_tables(code, &tables);
-    let mut arrivals = Arrivals::new(alloc, code.len(), entry(program, function))?;
-    visit_all(program, function, code, &loops, &mut arrivals)
+    typed_function(alloc, program, function)?;
+    Ok(())
 }
 
 fn refused(pc: u32, cause: Cause) -> TypeError

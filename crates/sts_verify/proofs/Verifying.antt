@@ -1,7 +1,8 @@
 -- Function by function.
 use Rattle.std.proofs.Common.{◌≡◌, ℕ, zero, suc, ◌+◌, ◌<◌, ◌≤◌, ◌⊎◌, inl, inr, List, [], ◌∷◌, ◌++◌}
 use Rattle.std.proofs.Common.{length, take, get_or, Err, arith, subst, sym, ap, refl, length-append}
-use Rattle.std.proofs.Common.{length-take-le}
+use Rattle.std.proofs.Common.{length-take-le, Result, Ok, MatchResult}
+use Rattle.std.specs.Result.{IsErrAnd}
 use Rattle.std.proofs.lemmas.Bool.{cases_lt}
 use Rattle.sts_code.specs.Program.{Program, routine}
 use Rattle.sts_budget.specs.declared.budgets.BudgetError.{BudgetError}
@@ -37,6 +38,10 @@ tells p f (Refused pc cause) lt before t = (refl, (lt, t, before))
 pub typing_tells : (p : Program) (f : ℕ) (e : TypeError) → TellsOfTyping p f e → TellsOf p f e
 typing_tells p f Memory t = tt
 typing_tells p f (Refused pc cause) t = ill_typed t
+
+pub typing_refused : {A : Type 0} (p : Program) (f : ℕ) (e : TypeError) (r : Result A TypeError) (P : A → Type 0) → TellsOfTyping p f e → IsErrAnd r (λ x. x ≡ e) → MatchResult r P (TellsOf p f)
+typing_refused p f e (Ok x) P t a = absurd a
+typing_refused p f e (Err x) P t a = subst (TellsOf p f) (sym a) (typing_tells p f e t)
 
 -- a function that the search for budgets refuses
 pub budget_tells : (p : Program) (f : ℕ) (bs : List Budgets) (e : BudgetError) (count : ℕ) → IsWellTyped p f → length bs ≡ f → AreBudgets p bs → count ≡ size p f → IsFound bs (routine p f).code (Err e) → TellsOf p f (at_end count e)

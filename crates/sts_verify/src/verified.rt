@@ -8,10 +8,10 @@ ghost use Rattle.sts_verify.specs.Verifying as def;
 use crate::error::VerifyError;
 use std::alloc::Global;
 use std::marker::Model;
-use sts_budget::{BudgetError, budget};
+use sts_budget::{BudgetError, typed_budget};
 use sts_code::{MAX_INSTRUCTIONS, Program, code_of};
 use sts_rules::Budgets;
-use sts_types::{TypeError, type_function};
+use sts_types::{TypeError, typed_function};
 
 /// A program that was accepted: contracts see the program.
 #[derive(Drop)]
@@ -105,11 +105,15 @@ fn verify_function(
         (length budgets.new.items ≡ function + 1) × AreBudgets program.now budgets.new.items)
         (def.TellsOf program.now function) }
 {
-    if let Err(error) = type_function(alloc, program, function) {
-        return Err(error);
-    }
+    let typing = typed_function(alloc, program, function)?;
     let count = code_of(program, function as usize).len();
-    match budget(alloc, program, function as usize, budgets.as_slice()) {
+    match typed_budget(
+        alloc,
+        program,
+        function as usize,
+        budgets.as_slice(),
+        &typing,
+    ) {
         Ok(found) => match budgets.push(found) {
             Ok(()) => Ok(()),
             Err(_) => Err(TypeError::Memory),

@@ -1,21 +1,6 @@
-use Rattle.std.proofs.Common.{subst}
-use Rattle.sts_code.specs.Program.{routine}
-use Rattle.sts_budget.specs.declared.change.Resource.TheVariants.{Steps, Tasks, Scopes, Binds}
-use Rattle.sts_budget.specs.Outcome.{IsFound}
-use Rattle.sts_budget.proofs.ReadyLemmas.{is_ready}
-use Rattle.sts_budget.proofs.Found.{found_all}
+use Rattle.std.proofs.Common.{arith}
+use Rattle.sts_code.proofs.CheckedLemmas.{routines_are_fine}
 use Rattle.sts_budget.proofs.budgets.budget.Goals as goal
 
-pub quick_budgets-requires : goal.quick_budgets-requires
-quick_budgets-requires c = is_ready c.args.program.now c.args.function c.args.earlier.now c.code_of-code.result.now c.in_ok-layout.layout c.code_of-code.ensures.checked c.requires.in_program c.requires.typed c.requires.long c.code_of-code.ensures.value (c.in_ok-layout.ensures {u = tt})
-
-pub returns-in-Some : goal.returns-in-Some
-returns-in-Some c =
-    let found = rw c.in-Some.is at (c.in_ok-budgets.ensures {u = tt}) in
-    found_all c.args.earlier.now c.code_of-code.result.now (routine c.args.program.now c.args.function).code c.code_of-code.ensures.value c.in-Some.budgets.steps c.in-Some.budgets.tasks c.in-Some.budgets.scopes c.in-Some.budgets.binds (found Steps) (found Tasks) (found Scopes) (found Binds)
-
-pub budgets_in_turn-requires : goal.budgets_in_turn-requires
-budgets_in_turn-requires c = is_ready c.args.program.now c.args.function c.args.earlier.now c.code_of-code.result.now c.in_ok-layout.layout c.code_of-code.ensures.checked c.requires.in_program c.requires.typed c.requires.long c.code_of-code.ensures.value (c.in_ok-layout.ensures {u = tt})
-
-pub returns : goal.returns
-returns c = subst (λ code. IsFound c.args.earlier.now code c.budgets_in_turn.result) c.code_of-code.ensures.value c.budgets_in_turn.ensures
+pub overflow_cast-function : goal.overflow_cast-function
+overflow_cast-function c = omega (arith, (routines_are_fine c.args.program.now.routines c.code_of.ensures.checked).0, c.requires.in_program)

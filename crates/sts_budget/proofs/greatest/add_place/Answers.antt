@@ -8,7 +8,7 @@ use Rattle.sts_budget.specs.Handing.{base_of, bases_after}
 use Rattle.sts_budget.specs.Last.{IsTop, sum_at}
 use Rattle.sts_budget.specs.Ready.{names_in}
 use Rattle.sts_budget.specs.Table.{read}
-use Rattle.sts_budget.proofs.LaidStepLemmas.{any_default}
+use Rattle.std.proofs.lemmas.List.{get_or_default}
 use Rattle.sts_budget.proofs.LastTurns.{head_small, full_is, over, bases_next, top_next}
 use Rattle.sts_budget.proofs.LastTurns.{limit_small, base_small}
 use Rattle.sts_budget.proofs.greatest.add_place.Goals as goal
@@ -43,7 +43,7 @@ turn_end-end-requires g c =
     let depth : c.args.depth ≡ depth_of c.args.pass.now.resource (names_in c.args.pass.now.layout.now c.args.pc) = c.requires.depth in
     let fits = c.requires.fits c.args.pc in (
       omega (arith, c.requires.small),
-      (c.requires.in_code, (omega (arith, c.requires.ready.mates_long), (λ n t. (let lp = c.requires.ready.good.loop c.args.pc n (ap (shape_of c.args.pc) t) in omega (arith, lp.2, c.requires.ready.mates c.args.pc n t, c.requires.whole.long)), omega arith))),
+      (c.requires.in_code, (omega (arith, c.requires.ready.ends_long), (λ n t. (let lp = c.requires.ready.good.loop c.args.pc n (ap (shape_of c.args.pc) t) in omega (arith, lp.2, c.requires.ready.ends c.args.pc n t, c.requires.whole.long)), omega arith))),
     )
 
 pub returns-clause-next : goal.returns-clause-next
@@ -52,13 +52,13 @@ returns-clause-next g c = λ yes.
     let base : c.base_at.result ≡ base_of c.args.top.now.bases.items c.args.head = c.base_at.ensures ∙ ap (λ xs. base_of xs c.args.head) c.as_slice.ensures.value in
     let row : c.sum_at.result ≡ read c.args.best.now c.args.pc (depth_of c.args.pass.now.resource (names_in c.args.pass.now.layout.now c.args.pc)) = c.sum_at.ensures ∙ ap (λ d. read c.args.best.now c.args.pc d) depth in
     let full_at = full_is c.args.pass.now.resource c.args.pass.now.earlier.now c.args.pass.now.code.now c.args.pass.now.layout.now c.requires.ready c.args.best.now c.requires.whole c.args.pc c.requires.in_code c.args.top.now.bases.items c.requires.so_far.0 c.args.head _ c.requires.head in
-    let instr : get_or c.args.pass.now.code.now c.args.pc (Push (pos 0)) ≡ instr_at c.args.pass.now.code.now c.args.pc = any_default c.args.pass.now.code.now c.args.pc _ Ret c.requires.in_code in
+    let instr : get_or c.args.pass.now.code.now c.args.pc (Push (pos 0)) ≡ instr_at c.args.pass.now.code.now c.args.pc = get_or_default c.args.pass.now.code.now c.args.pc _ Ret c.requires.in_code in
     let v : c.base_at.result + c.sum_at.result ≡ sum_at c.args.pass.now.resource c.args.pass.now.earlier.now c.args.pass.now.code.now c.args.pass.now.layout.now c.args.best.now c.args.pc = omega arith in
     let low : c.base_at.result + c.sum_at.result < 4294967296 = omega (arith, c.if-full-pass.false, c.requires.most, limit_small c.args.pass.now.resource) in
     let at : (n : ℕ) → instr_at c.args.pass.now.code.now c.args.pc ≡ Times n → (n < 65536) × (c.turn_end-end.result ≡ read c.args.best.now ((skeleton c.args.pass.now.earlier.now c.args.pass.now.code.now).mate c.args.pc) (depth_of c.args.pass.now.resource (names_in c.args.pass.now.layout.now c.args.pc))) =
     λ n t. (
       c.requires.ready.turns c.args.pc n t,
-      c.turn_end-end.ensures n t ∙ ap (λ q. read c.args.best.now q c.args.depth) (c.requires.ready.mates c.args.pc n t) ∙ ap (λ d. read c.args.best.now ((skeleton c.args.pass.now.earlier.now c.args.pass.now.code.now).mate c.args.pc) d) depth,
+      c.turn_end-end.ensures n t ∙ ap (λ q. read c.args.best.now q c.args.depth) (c.requires.ready.ends c.args.pc n t) ∙ ap (λ d. read c.args.best.now ((skeleton c.args.pass.now.earlier.now c.args.pass.now.code.now).mate c.args.pc) d) depth,
     ) in
     let after : c.open_loop.new.bases.items ≡ bases_after (instr_at c.args.pass.now.code.now c.args.pc) c.args.pc (own_step c.args.pass.now.resource) (c.base_at.result + c.sum_at.result) c.turn_end-end.result c.args.top.now.bases.items =
     c.open_loop.ensures ∙ ap (λ i. bases_after i c.args.pc c.own_step.result (c.base_at.result + c.sum_at.result) c.turn_end-end.result c.args.top.now.bases.items) instr ∙ ap (λ o. bases_after (instr_at c.args.pass.now.code.now c.args.pc) c.args.pc o (c.base_at.result + c.sum_at.result) c.turn_end-end.result c.args.top.now.bases.items) c.own_step.ensures in

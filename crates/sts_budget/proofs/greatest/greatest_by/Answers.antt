@@ -1,10 +1,11 @@
-use Rattle.std.proofs.Common.{rules, ◌≡◌, ◌<◌, ◌≤◌, ◌+◌, ◌-◌, length, sym, subst, arith, ap, ◌∙◌, None}
+use Rattle.std.proofs.Common.{rules, ◌≡◌, List, ◌<◌, ◌≤◌, ◌+◌, ◌-◌, length, sym, subst, arith, ap, ◌∙◌}
 use Rattle.sts_rules.specs.Budget.{skeleton}
 use Rattle.sts_budget.specs.Change.{own_of, limit_of, depth_of}
 use Rattle.sts_budget.specs.Last.{IsTop, IsTopped}
 use Rattle.sts_budget.specs.Ready.{flows_in}
 use Rattle.sts_budget.specs.Table.{IsPartial}
-use Rattle.sts_budget.proofs.LaidStepLemmas.{any_default}
+use Rattle.sts_rules.specs.declared.typing.TypedEntry.{TypedEntry}
+use Rattle.sts_budget.specs.TypedNames.{names}
 use Rattle.sts_budget.proofs.LastTurns.{exceeds, bases_none, top_none, finished, own_within, limit_small}
 use Rattle.sts_budget.proofs.greatest.greatest_by.Goals as goal
 
@@ -24,7 +25,7 @@ loop-pc-init g c =
 pub add_place-requires : goal.add_place-requires
 add_place-requires g c =
     let whole : IsPartial (skeleton c.args.pass.now.earlier.now c.args.pass.now.code.now) (flows_in c.args.pass.now.resource c.args.pass.now.earlier.now c.args.pass.now.code.now c.args.pass.now.layout.now) (length c.args.pass.now.code.now) c.in-Some.best.items = rw c.in-Some.is at (c.in_ok-best.ensures {u = tt}) in
-    (omega (arith, c.requires.small), (c.requires.ready, (c.requires.most, (c.requires.small, (c.requires.fits, (c.loop-pc-test.true, (c.depth_of-depth.ensures.value ∙ ap (depth_of c.args.pass.now.resource) c.names_at.ensures, (c.index-head.ensures ∙ any_default c.args.pass.now.layout.now.heads.items c.loop-pc.pc _ None (omega (arith, c.requires.ready.heads_long, c.loop-pc-test.true)), (rw c.as_slice.ensures.value whole, rw c.as_slice.ensures.value c.loop-pc.invariant)))))))))
+    (omega (arith, c.requires.small), (c.requires.ready, (c.requires.most, (c.requires.small, (c.requires.fits, (c.loop-pc-test.true, (c.depth_of-depth.ensures.value ∙ ap (λ (es : List TypedEntry). depth_of c.args.pass.now.resource (names es)) c.entries.ensures, (c.head-head.ensures, (rw c.as_slice.ensures.value whole, rw c.as_slice.ensures.value c.loop-pc.invariant)))))))))
 
 pub returns-then-not-add_place : goal.returns-then-not-add_place
 returns-then-not-add_place g c =
@@ -43,9 +44,9 @@ returns g c =
     let le : c.own_of.result + c.loop-pc.top.greatest ≤ limit_of c.args.pass.now.resource = omega (arith, c.own_of.ensures, c.loop-pc.invariant.2, most_is, own_within c.args.pass.now.resource) in
     (rw c.own_of.ensures t, le)
 
-pub index-head-requires : goal.index-head-requires
-index-head-requires g c =
-    let lt : c.loop-pc.pc < length c.args.pass.now.layout.now.heads.items = omega (arith, c.requires.ready.heads_long, c.loop-pc-test.true) in
+pub head-head-requires : goal.head-head-requires
+head-head-requires g c =
+    let lt : c.loop-pc.pc < length c.args.pass.now.layout.now.typing.now.loops.heads = omega (arith, c.requires.ready.heads_long, c.loop-pc-test.true) in
     search (rules, lt)
 
 pub overflow_cast-result : goal.overflow_cast-result

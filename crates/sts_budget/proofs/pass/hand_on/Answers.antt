@@ -8,7 +8,8 @@ use Rattle.sts_budget.specs.Change.{depth_of}
 use Rattle.sts_budget.specs.Handing.{handed_value, is_quiet}
 use Rattle.sts_budget.specs.Ready.{names_in}
 use Rattle.sts_budget.specs.Table.{read, IsSent, IsStopped}
-use Rattle.sts_budget.proofs.LaidStepLemmas.{among_at, any_default}
+use Rattle.std.proofs.lemmas.List.{get_or_default}
+use Rattle.sts_budget.proofs.Sorts.{among_at}
 use Rattle.sts_budget.proofs.HandOn.{quiet_spread, not_quiet, sent_spread, stopped_over, leads_in}
 use Rattle.sts_budget.proofs.LastTurns.{limit_small}
 use Rattle.sts_budget.proofs.pass.hand_on.Goals as goal
@@ -23,7 +24,7 @@ send_on-requires g c =
     (let h = leads_in c.args.pass.now.resource c.args.pass.now.earlier.now c.args.pass.now.code.now c.args.pass.now.layout.now c.requires.ready c.args.pc _ quiet (among_at (targets (instr_at c.args.pass.now.code.now c.args.pc) ++ next_place c.args.pc (instr_at c.args.pass.now.code.now c.args.pc)) k d lt) in
     omega (arith, c.requires.rows)) in
     let inside' = subst (λ i. (k d : ℕ) → k < length (targets i ++ next_place c.args.pc i) → get_or (targets i ++ next_place c.args.pc i) k d < length c.args.best.now.items) (sym at) inside in
-    (omega (arith, c.requires.small), (omega (arith, c.requires.small), (omega (arith, c.requires.in_code, c.requires.ready.short), (inside', (c.requires.ready.which_long ∙ sym c.requires.rows, (c.requires.ready.listed, c.requires.fits))))))
+    (omega (arith, c.requires.small), (omega (arith, c.requires.small), (omega (arith, c.requires.in_code, c.requires.ready.short), (inside', (c.requires.ready.states_long ∙ sym c.requires.rows, c.requires.fits)))))
 
 pub returns-clause-spread : goal.returns-clause-spread
 returns-clause-spread g c = λ t.
@@ -43,5 +44,5 @@ returns-clause-over g c = λ t.
 
 pub returns-then-is_quiet-clause-spread : goal.returns-then-is_quiet-clause-spread
 returns-then-is_quiet-clause-spread g c = λ t.
-    (let at : get_or c.args.pass.now.code.now c.args.pc (Push (pos 0)) ≡ instr_at c.args.pass.now.code.now c.args.pc = any_default c.args.pass.now.code.now c.args.pc _ Ret c.requires.in_code in
+    (let at : get_or c.args.pass.now.code.now c.args.pc (Push (pos 0)) ≡ instr_at c.args.pass.now.code.now c.args.pc = get_or_default c.args.pass.now.code.now c.args.pc _ Ret c.requires.in_code in
     quiet_spread c.args.pass.now.resource c.args.pass.now.earlier.now c.args.pass.now.code.now c.args.pass.now.layout.now c.requires.ready c.args.pc c.args.best.now.items (sym (ap is_quiet at) ∙ sym c.is_quiet.ensures ∙ c.if-is_quiet.true))

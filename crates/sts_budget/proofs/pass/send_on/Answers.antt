@@ -2,7 +2,7 @@ use Rattle.std.proofs.Common.{◌+◌, ◌<◌, ℕ, length, get_or, arith, sym,
 use Rattle.sts_budget.specs.Change.{depth_of}
 use Rattle.sts_budget.specs.Ready.{names_in}
 use Rattle.sts_budget.specs.Table.{IsSent, IsStopped}
-use Rattle.sts_budget.proofs.Listed.{straight}
+use Rattle.sts_budget.proofs.Sorts.{straight}
 use Rattle.sts_budget.proofs.Rows.{sent_one, stopped_one}
 use Rattle.sts_budget.proofs.pass.send_on.Goals as goal
 

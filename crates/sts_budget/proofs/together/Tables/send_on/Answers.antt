@@ -5,23 +5,23 @@ use Rattle.sts_budget.specs.Change.{depth_of}
 use Rattle.sts_budget.specs.Ready.{names_in}
 use Rattle.sts_budget.specs.Table.{IsRaisedAt, IsSent}
 use Rattle.sts_budget.specs.Together.{rows_of, sums_of, over_open, most}
-use Rattle.sts_budget.proofs.Listed.{straight}
+use Rattle.sts_budget.proofs.Sorts.{straight}
 use Rattle.sts_budget.proofs.Rows.{sent_one}
-use Rattle.sts_budget.proofs.TogetherLemmas.{open_depth}
+use Rattle.sts_budget.proofs.TogetherLemmas.{as_many, open_depth}
 use Rattle.sts_budget.proofs.together.Tables.send_on.Goals as goal
 
-pub names_at-requires : goal.names_at-requires
-names_at-requires g c =
+pub entries-requires : goal.entries-requires
+entries-requires g c =
     let e = straight c.args.instr c.args.pc (sym c.goes_straight_on.ensures ∙ c.if-goes_straight_on.true) in
     let within : c.args.pc + 1 < length (rows_of c.args.self.now Steps) = subst (λ ps. (i d : ℕ) → i < length ps → get_or ps i d < length (rows_of c.args.self.now Steps)) (sym e) (c.requires.inside Steps) 0 0 (omega arith) in
     let named = c.requires.named Steps in
-    record { in_code = omega arith; listed = c.requires.listed }
+    omega arith
 
 pub raise_to-requires : goal.raise_to-requires
 raise_to-requires g c =
     let e = straight c.args.instr c.args.pc (sym c.goes_straight_on.ensures ∙ c.if-goes_straight_on.true) in
     let inside : (k : Resource) → c.args.pc + 1 < length (rows_of c.args.self.now k) = λ k. subst (λ ps. (i d : ℕ) → i < length ps → get_or ps i d < length (rows_of c.args.self.now k)) (sym e) (c.requires.inside k) 0 0 (omega arith) in
-    let there : c.len.result ≡ length (names_in c.args.layout.now (c.args.pc + 1)) = c.len.ensures.len ∙ ap length c.names_at.ensures in
+    let there : c.len.result ≡ length (names_in c.args.layout.now (c.args.pc + 1)) = as_many _ _ _ c.len.ensures.len c.entries.ensures in
     let few : length (names_in c.args.layout.now (c.args.pc + 1)) < g.row.N = c.requires.fits (c.args.pc + 1) in
     let low : c.len.result < g.row.N = omega arith in
     search (rules, inside, low, c.requires.small)
@@ -30,13 +30,13 @@ pub send-requires : goal.send-requires
 send-requires g c =
     let places = c.as_slice.ensures.value ∙ c.next_places-places.ensures in
     let inside : (k : Resource) (i d : ℕ) → i < length c.as_slice.result.now → get_or c.as_slice.result.now i d < length (rows_of c.args.self.now k) = λ k. subst (λ ps. (i d : ℕ) → i < length ps → get_or ps i d < length (rows_of c.args.self.now k)) (sym places) (c.requires.inside k) in
-    search (rules, inside, c.requires.small, c.requires.named, c.requires.listed, c.requires.fits)
+    search (rules, inside, c.requires.small, c.requires.named, c.requires.fits)
 
 pub returns-then-goes_straight_on : goal.returns-then-goes_straight_on
 returns-then-goes_straight_on g c = λ yes k.
     (let e = straight c.args.instr c.args.pc (sym c.goes_straight_on.ensures ∙ c.if-goes_straight_on.true) in
     let within : c.args.pc + 1 < length (rows_of c.args.self.now k) = subst (λ ps. (i d : ℕ) → i < length ps → get_or ps i d < length (rows_of c.args.self.now k)) (sym e) (c.requires.inside k) 0 0 (omega arith) in
-    let low : over_open k c.len.result ≡ depth_of k (names_in c.args.layout.now (c.args.pc + 1)) = ap (over_open k) (c.len.ensures.len ∙ ap length c.names_at.ensures) ∙ open_depth k (names_in c.args.layout.now (c.args.pc + 1)) in
+    let low : over_open k c.len.result ≡ depth_of k (names_in c.args.layout.now (c.args.pc + 1)) = ap (over_open k) (as_many _ _ _ c.len.ensures.len c.entries.ensures) ∙ open_depth k (names_in c.args.layout.now (c.args.pc + 1)) in
     let raised = subst (λ n. IsRaisedAt (sums_of c.args.values.now k) n (most k) (c.args.pc + 1) (rows_of c.args.self.now k) (rows_of c.raise_to.new.self k)) low (c.raise_to.ensures yes k) in
     subst (λ ps. IsSent (sums_of c.args.values.now k) (λ q. depth_of k (names_in c.args.layout.now q)) (most k) ps (rows_of c.args.self.now k) (rows_of c.raise_to.new.self k)) e (sent_one (sums_of c.args.values.now k) (λ q. depth_of k (names_in c.args.layout.now q)) (most k) (c.args.pc + 1) (rows_of c.args.self.now k) (rows_of c.raise_to.new.self k) within raised))
 

@@ -1,7 +1,0 @@
-use Rattle.std.proofs.Common.{take, None}
-use Rattle.sts_budget.specs.Laid.{Writes}
-use Rattle.sts_budget.proofs.layout.write_heads.Given as goal
-
--- the first places are written
-abbrev pub invariant-loop-i : goal.invariant-loop-i
-invariant-loop-i l = Writes (take l.i l.places) l.head None l.initial.heads.items l.heads.items
