@@ -8,7 +8,7 @@ use crate::played::{Played, PlayedScope, Start};
 use crate::table::{Explored, Table};
 use std::alloc::{AllocError, Global};
 
-/// What the root has done up to a cancel of its only open scope.
+/// The steps of the root up to a cancel of its only open scope.
 #[derive(Drop)]
 pub struct Mark {
     /// The places of the states of the root, the first one first.

@@ -219,7 +219,7 @@ impl<'a> Player<'a> {
         }
     }
 
-    /// What the root has done so far, if the run has stopped at a mark. It goes on after that.
+    /// The mark at which the run has stopped, if it has stopped at one. It goes on after that.
     pub fn mark(&mut self, alloc: Global) -> Result<Option<Mark>, AllocError> {
         if !self.is_at_mark {
             return Ok(None);
