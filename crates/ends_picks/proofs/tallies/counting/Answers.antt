@@ -1,6 +1,4 @@
-use Rattle.std.proofs.Common.{ℕ, List, sym, subst}
-use Rattle.laws_calls.specs.Tasks.{Picks}
-use Rattle.laws_calls.specs.declared.table.Part.{Part}
+use Rattle.std.proofs.Common.{ℕ, sym, subst}
 use Rattle.laws_calls.specs.Fitting.{MayCount}
 use Rattle.ends_picks.proofs.GroupLemmas.{counting_heard}
 use Rattle.ends_picks.proofs.tallies.counting.Goals as goal

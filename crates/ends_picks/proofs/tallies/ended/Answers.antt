@@ -1,8 +1,6 @@
-use Rattle.std.proofs.Common.{ℕ, List, not, sym, subst}
+use Rattle.std.proofs.Common.{ℕ, not, sym, subst}
 use Rattle.std.specs.Prelude.{count_by}
 use Rattle.sts_code.specs.declared.instr.Kind.{Kind}
-use Rattle.laws_calls.specs.Tasks.{Picks}
-use Rattle.laws_calls.specs.declared.table.Part.{Part}
 use Rattle.ends_picks.specs.declared.groups.Group.{Group}
 use Rattle.ends_picks.specs.declared.groups.Group.TheVariants.{Of, Counted, Uncounted}
 use Rattle.ends_picks.specs.Groups.{is_in}

@@ -1,10 +1,8 @@
-use Rattle.std.proofs.Common.{ℕ, List, sym, subst}
+use Rattle.std.proofs.Common.{ℕ, sym, subst}
 use Rattle.std.specs.Prelude.{count_by}
 use Rattle.sts_code.specs.declared.instr.Kind.{Kind}
 use Rattle.sts_code.specs.declared.instr.Kind.TheVariants.{U}
 use Rattle.laws_runs.specs.Tallies.{is_kind}
-use Rattle.laws_calls.specs.Tasks.{Picks}
-use Rattle.laws_calls.specs.declared.table.Part.{Part}
 use Rattle.ends_picks.specs.Ranges.{IsIn}
 use Rattle.ends_picks.proofs.GroupLemmas.{kind_group}
 use Rattle.ends_picks.proofs.tallies.of_kind.Goals as goal

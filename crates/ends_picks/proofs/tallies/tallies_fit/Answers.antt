@@ -1,9 +1,8 @@
-use Rattle.std.proofs.Common.{List, sym, ap, ◌∙◌, length}
+use Rattle.std.proofs.Common.{sym, ◌∙◌}
 use Rattle.std.specs.Prelude.{count_by}
 use Rattle.sts_code.specs.declared.instr.Kind.TheVariants.{S, F, U}
 use Rattle.laws_runs.specs.Tallies.{is_kind}
 use Rattle.laws_calls.specs.Tasks.{May}
-use Rattle.laws_calls.specs.declared.table.Part.{Part}
 use Rattle.ends_picks.proofs.GroupLemmas.{all_kinds, as_long}
 use Rattle.ends_picks.proofs.tallies.tallies_fit.Goals as goal
 
