@@ -1,6 +1,4 @@
-use Rattle.std.proofs.Common.{◌≡◌, List, true, false, sym, ◌∙◌, ap}
-use Rattle.std.specs.List.{list_any}
-use Rattle.laws_calls.specs.declared.table.Part.{Part}
+use Rattle.std.proofs.Common.{◌≡◌, true, false, sym, ◌∙◌}
 use Rattle.ends_table.proofs.joins.attempted.Goals.{then-not-is_unseen-via-then-not-is_unseen, then-not-is_unseen-via-else-not-is_unseen+then-not-has_open}
 use Rattle.ends_table.proofs.joins.attempted.Goals as goal
 

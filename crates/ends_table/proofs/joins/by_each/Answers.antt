@@ -1,6 +1,5 @@
 use Rattle.std.proofs.lemmas.Option.{get_or_from_slice_get}
-use Rattle.std.proofs.Common.{◌≡◌, sym, true, List, subst, get_or}
-use Rattle.laws_calls.specs.declared.table.Part.{Part}
+use Rattle.std.proofs.Common.{◌≡◌, sym, true, get_or}
 use Rattle.laws_calls.specs.Triggers.{is_trigger}
 use Rattle.ends_table.specs.Led.{DecidedLeads}
 use Rattle.ends_table.proofs.PlaceLemmas.{parts_more}
