@@ -34,11 +34,11 @@ module _ (s : Search) (ready : IsReady s) where
 
   -- the loop that opens at a place
   pub loop_at : (h n end many : ℕ) → (paths s).shape h ≡ Repeats n → end ≡ end_in s.layout.now h → many ≡ turns_of (instr_at s.code.now h) → IsLoop s (record { head = h; end = end; turns = many })
-  loop_at h n end many e ends counts =
+  loop_at h n end many e ended counts =
       let l = ready.good.loop h n e in
       let t = ready.known.times h n e in
       let same : many ≡ n = counts ∙ ap turns_of t in
-      let mate : (paths s).mate h ≡ end = sym (ready.ends h n t) ∙ sym ends in
+      let mate : (paths s).mate h ≡ end = sym (ready.ends h n t) ∙ sym ended in
       record {
         head = omega (arith, l.1, l.2);
         end = omega (arith, l.2);

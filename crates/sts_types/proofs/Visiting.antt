@@ -74,7 +74,7 @@ never_refused p f e pc c typed tells is =
     let refusal : IsTypeRefusal p f pc c = subst (Tells p f) is tells in
     clear_or_cause (typing p f) (size p f) (laws p f) pc c (typed pc refusal.0) refusal.1
 
--- the findings of the pass after the last place
+-- the typestates of a pass over the whole function are its typing
 pub is_typing : (p : Program) (f : ℕ) (code : List Instr) (table : List (Arrival TypeState)) (t : Typing) → code ≡ (routine p f).code → Passed (typing p f) (size p f) table (length code) → length t.states ≡ length table → ((pc : ℕ) (s : TypeState) → get_or table pc Nothing ≡ One s → get_or t.states pc none ≡ s) → AreTablesOf code t.loops → IsTyping p f t
 is_typing p f code table t is passed long each loops = record {
   typed = whole.clear;
