@@ -81,16 +81,14 @@ RACE = (
     "func give 1\nload 0\nret\nend\nfunc main 0\nopen s0 any\npush 5\nfork s0 give _\npush 4\nfork s0 give _\njoin s0 bad - intr\nclose s0\n"
     "ret\nbad:\nclose s0\nfail\nintr:\npush 0\nclose s0\nfail\nend\n"
 )
-# Ten subtasks of four steps have far more states than any search here may keep. No table of calls has the steps of `total`.
-MANY_STATES = "func kid 0\npush 1\ninterrupted\nadd\nret\nend\nfunc main 0\nopen s0 all\n" + "fork s0 kid _\n" * 10 + (
-    "join s0 bad - intr\npop\ntotal s0\nclose s0\nret\nbad:\nclose s0\nfail\nintr:\npush 0\nclose s0\nfail\nend\n"
+# Which of two subtasks comes first is kept as a bit of a local, 14 times: far more states than any search here may keep.
+MANY_STATES = (
+    "func kid 1\nload 0\nret\nend\nfunc main 0\npush 14\ntimes 14\nopen s1 any\npush 0\nfork s1 kid _\npush 1\nfork s1 kid _\n"
+    "join s1 bad - intr\nload 0\npush 2\nmul\nadd\nstore 0\nclose s1\nnext\npush 7\nret\nbad:\nclose s1\nfail\nintr:\npush 0\nclose s1\n"
+    "fail\nend\n"
 )
-# (each subtask takes four steps. A search by calls has two states of it, and 15 of `main`: at `open`, ten times at `fork`, at
-# `join`, `pop`, `close` and `ret`)
-MANY_ENDS = (
-    "1 after 56 events: success 10\n"
-    "a search by calls of 17 states found no other end; that there is none is not proved\n"
-)
+# (a round has 13 instructions of `main`, of which `close` takes two steps, and two of each subtask: 18 events. Four are outside)
+MANY_ENDS = "1 after 256 events: success 7\n"
 PATIENCE = 10  # seconds that a search of the page may take at most
 # Which events may come: as the page's calls take it, and as words of `look ends`.
 EVENTS = [
@@ -384,6 +382,7 @@ def events_chosen(page, programs):
         yield f"{what}: the ends", page.ends() == programs.ends(PATIENT, AT_ONCE, words)[1]
         for place, end in ends_of(page.ends()).items():
             yield from end_played(page, programs, what, PATIENT, place, end, words)
+    page.click("#expiries")
     for written in ("", "-1", "100", "1.5"):
         page.write("interrupts", written)
         yield f"{written!r} interrupts are none", page.ends() == programs.ends(PATIENT)[1]
