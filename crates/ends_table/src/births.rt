@@ -19,6 +19,7 @@ pub struct Steps {
 }
 
 impl Steps {
+    /// Steps that lead to no state yet, and make this number of births.
     pub fn new(alloc: Global, born: u32) -> Steps {
         Steps {
             places: Vec::new(alloc),
@@ -40,6 +41,7 @@ pub struct Births {
 }
 
 impl Births {
+    /// A row in which no state has steps yet.
     pub fn new(alloc: Global) -> Births {
         Births {
             steps: Vec::new(alloc),

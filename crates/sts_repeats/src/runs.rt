@@ -1,4 +1,4 @@
-//! Runs: values that stand for themselves and for equal ones behind them.
+//! Runs: a value, and how many equal ones follow it in the list.
 
 ghost use Rattle.std.specs.Prelude.{◌≡◌, ◌<◌, ◌≤◌, ◌+◌, ◌-◌, ◌^◌, [], ◌∷◌, ◌++◌, length, replicate};
 ghost use Rattle.std.specs.Prelude.{slice_set, count_by, cond, Bool, IfSome, IfOk, OnOk};
