@@ -3,7 +3,7 @@ use Rattle.std.proofs.Common.{◌≡◌, ℕ, ◌<◌, ◌+◌, ◌-◌, List, [
 use Rattle.std.proofs.Common.{Some, None, refl, sym, ◌∙◌, ap, length, arith, drop, cond, ◌&&◌, ◌||◌}
 use Rattle.std.proofs.Common.{not, pos, unwrap_or, length-append}
 use Rattle.std.proofs.lemmas.List.{length-map, get_or_append_left}
-use Rattle.std.specs.Prelude.{filter_map, ◌==◌}
+use Rattle.std.specs.Prelude.{filter_map}
 use Rattle.sts_code.specs.Program.{Program, routine}
 use Rattle.sts_code.specs.declared.instr.Instr.{Instr}
 use Rattle.sts_code.specs.declared.instr.Instr.TheVariants.{Open, Fork, Join, Close, Cancelled}
@@ -27,8 +27,8 @@ use Rattle.sts_model.specs.declared.record.Frame.{Frame}
 use Rattle.sts_model.specs.declared.record.Task.{Task}
 use Rattle.sts_model.specs.declared.record.Scope.{Scope}
 use Rattle.sts_model.specs.declared.record.Bound as bound
-use Rattle.sts_model.specs.World.{World, code, task_at, scope_at, no_task, no_scope, with_frame}
-use Rattle.sts_model.specs.Local.{local, operand, goes, steps, truth}
+use Rattle.sts_model.specs.World.{World, task_at, scope_at, no_task, no_scope, with_frame}
+use Rattle.sts_model.specs.Local.{operand, goes, steps, truth}
 use Rattle.sts_model.specs.Told as kept
 use Rattle.sts_model.specs.Living.{lives, is_in, any_lives, is_closed, completion_of, ends}
 use Rattle.sts_model.specs.Living.{subtask_count, sub_state, parent}

@@ -1,13 +1,15 @@
 -- The end of a task, and what the joiner of its scope learns of it.
 use Rattle.std.proofs.Common.{◌≡◌, ℕ, ◌<◌, List, [], ◌∷◌, ◌++◌, Bool, true, false, Option, Some}
 use Rattle.std.proofs.Common.{None, refl, sym, ◌∙◌, ap, subst, length, arith, get_or, set, cond}
-use Rattle.std.proofs.Common.{not, pos, length-set, get_or-set_same, get_or-set_other}
+use Rattle.std.proofs.Common.{pos, length-set, get_or-set_same, get_or-set_other}
 use Rattle.std.proofs.lemmas.Bool.Decides.{nat_tests}
 use Rattle.std.proofs.lemmas.List.{map-append}
 use Rattle.std.proofs.lemmas.List.Folds.{find-append}
 use Rattle.std.specs.Option.{option_or}
 use Rattle.std.specs.Prelude.{option_map, find, ◌==◌}
 use Rattle.std.proofs.Math.Bool.{and-false}
+use Rattle.std.proofs.lemmas.Bool.{not-true}
+use Rattle.laws_words.proofs.OptionLemmas.{or_none}
 use Rattle.sts_model.specs.declared.event.End.{End}
 use Rattle.sts_model.specs.declared.event.End.TheVariants.{Success}
 use Rattle.sts_model.specs.declared.record.Frame.{Frame}
@@ -62,10 +64,6 @@ seen-ended w t f end born =
 
 abbrev End_of : Option Completion → Option End
 End_of o = option_map (λ (c : Completion). c.end) o
-
-or_none : {X : Type 0} (o : Option X) → option_or o None ≡ o
-or_none None = refl
-or_none (Some x) = refl
 
 completion-other : (cs : List Completion) (c : Completion) (u : ℕ) → (c.task == u) ≡ false → completion_of (cs ++ c ∷ []) u ≡ completion_of cs u
 completion-other cs c u e =
@@ -191,11 +189,7 @@ seen-complete w t s end born still inside none = rw (scope_is w s still) (by (sc
     by false = seen-decide v s still_v ∙ ap (λ (view : Live). live_decide view s) (seen-told w t s end born still inside none)
 
 pub open_some : (w : World) (s : ℕ) → stands_in w (Some s) ≡ true → is_closed (scope_at w s).phase ≡ false
-open_some w s e = by (is_closed (scope_at w s).phase) e
-  where
-    by : (b : Bool) → not b ≡ true → b ≡ false
-    by true e = cc
-    by false e = refl
+open_some w s e = not-true (is_closed (scope_at w s).phase) e
 
 pub seen-end : (w : World) (t : ℕ) (f : Frame) (end : End) → Sound w → AllTold w → lives (task_at w t) ≡ true → live (end_task w t f end) ≡ live_end (live w) t end
 unfolding end_task live_end

@@ -1,6 +1,6 @@
 -- The laws over every run.
-use Rattle.std.proofs.Common.{◌≡◌, ℕ, zero, suc, ◌+◌, List, [], ◌∷◌, ◌++◌, Bool, true, false}
-use Rattle.std.proofs.Common.{Option, Some, None, refl, sym, ◌∙◌, ap, subst, arith, get_or, cond}
+use Rattle.std.proofs.Common.{◌≡◌, ℕ, ◌+◌, List, [], ◌∷◌, ◌++◌, Bool, true, false}
+use Rattle.std.proofs.Common.{Option, Some, None, refl, sym, ◌∙◌, ap, subst, arith, cond}
 use Rattle.std.proofs.Common.{◌&&◌, fold, append_assoc, pos}
 use Rattle.std.proofs.lemmas.List.{append-nil}
 use Rattle.std.proofs.lemmas.List.Sums.{fold-append}
@@ -11,21 +11,21 @@ use Rattle.sts_model.specs.declared.event.Event.TheVariants as event
 use Rattle.sts_model.specs.declared.event.End.TheVariants.{Success}
 use Rattle.sts_model.specs.declared.event.Fault.{Fault}
 use Rattle.sts_model.specs.declared.record.Frame.{Frame}
-use Rattle.sts_model.specs.World.{World, State, Running, Faulted, task_at, scope_at, no_task}
+use Rattle.sts_model.specs.World.{World, State, Running, Faulted, task_at, scope_at}
 use Rattle.sts_model.specs.World.{instr_at, opening}
 use Rattle.sts_model.specs.Joining.{result_of}
 use Rattle.sts_model.specs.Living.{lives, is_closed, ends, subtask_count}
-use Rattle.sts_model.specs.Misuse.{slot, misuse}
+use Rattle.sts_model.specs.Misuse.{misuse}
 use Rattle.sts_model.proofs.FineLemmas.{fine}
 use Rattle.sts_model.specs.Waiting.{can_step}
 use Rattle.sts_model.specs.Run.{apply, after, stepped, perform, counts, is_step, steps_in}
-use Rattle.sts_model.specs.Run.{taken_from, taken}
+use Rattle.sts_model.specs.Run.{taken}
 use Rattle.sts_model.specs.Live.{Live, Alive, live, result_in}
 use Rattle.laws_runs.specs.Runs.{NeverFaults}
-use Rattle.laws_runs.specs.Runs.{In, Ever, Leads}
+use Rattle.laws_runs.specs.Runs.{In, Ever}
 use Rattle.std.proofs.lemmas.Bool.{and_parts}
 use Rattle.laws_runs.proofs.RunLemmas.{taken_one_more, after-append}
-use Rattle.laws_runs.proofs.EventLemmas.{Also, main, also-kept}
+use Rattle.laws_runs.proofs.EventLemmas.{Also}
 use Rattle.laws_live.specs.Reading.{alive_at}
 use Rattle.laws_live.specs.Waiting.{live_can_step}
 use Rattle.laws_live.specs.Run.{live_opening, live_perform, live_apply, live_after, live_counts}

@@ -4,7 +4,6 @@ use Rattle.std.proofs.Common.{get_or-set_same}
 use Rattle.std.specs.Prelude.{unwrap_or}
 use Rattle.std.proofs.Math.Bool.{and-false}
 use Rattle.sts_model.specs.declared.event.Phase.{Phase}
-use Rattle.sts_model.specs.declared.event.Phase.TheVariants.{Opened, Attempted, Joined, Closing}
 use Rattle.sts_model.specs.declared.event.Phase.TheVariants.{Closed}
 use Rattle.sts_model.specs.declared.record.Scope.{Scope}
 use Rattle.sts_model.specs.World.{World, task_at, scope_at, no_scope, with_task, with_scope}

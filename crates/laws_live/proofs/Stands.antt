@@ -19,7 +19,7 @@ use Rattle.sts_model.specs.declared.event.Stand.TheVariants.{Free, AtClose}
 use Rattle.sts_model.specs.declared.event.Verdict.{Verdict}
 use Rattle.sts_model.specs.declared.event.Verdict.TheVariants as verdict
 use Rattle.sts_model.specs.declared.record.Slot.{Slot}
-use Rattle.sts_model.specs.declared.record.Slot.TheVariants.{Empty, Own, Lent, Sub}
+use Rattle.sts_model.specs.declared.record.Slot.TheVariants.{Empty, Own, Lent}
 use Rattle.sts_model.specs.declared.record.Frame.{Frame}
 use Rattle.sts_model.specs.World.{instr_at, entry_frame}
 use Rattle.sts_model.specs.Local.{operand}

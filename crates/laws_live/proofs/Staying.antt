@@ -17,7 +17,7 @@ use Rattle.sts_model.specs.declared.event.Fault.{Fault}
 use Rattle.sts_model.specs.declared.event.Phase.TheVariants.{Closing, Closed}
 use Rattle.sts_model.specs.declared.event.Stand.TheVariants.{Free, AtClose}
 use Rattle.sts_model.specs.declared.record.Slot.{Slot}
-use Rattle.sts_model.specs.declared.record.Slot.TheVariants.{Empty, Own, Lent, Sub}
+use Rattle.sts_model.specs.declared.record.Slot.TheVariants.{Own}
 use Rattle.sts_model.specs.declared.record.Frame.{Frame}
 use Rattle.sts_model.specs.declared.record.Task.{Task}
 use Rattle.sts_model.specs.declared.record.Scope.{Scope}

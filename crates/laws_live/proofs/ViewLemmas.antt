@@ -1,6 +1,6 @@
 -- The view of one task and of one scope, and readings of the view.
 use Rattle.std.proofs.Common.{get_or, ◌⊎◌, inl, inr, ◌≡◌, ℕ, ◌<◌, ◌≤◌, ◌+◌, List, [], ◌∷◌, ◌++◌, Bool, true, false, Option}
-use Rattle.std.proofs.Common.{Some, None, refl, sym, ◌∙◌, ap, subst, length, arith, cond, ◌&&◌, not}
+use Rattle.std.proofs.Common.{Some, None, refl, sym, ◌∙◌, ap, length, arith, cond, ◌&&◌, not}
 use Rattle.std.proofs.Common.{nat_lt}
 use Rattle.std.proofs.lemmas.Bool.{cases_lt}
 use Rattle.std.proofs.lemmas.Bool.Decides.{nat_tests}
@@ -20,7 +20,7 @@ use Rattle.sts_model.specs.Standing.{standing_scopes}
 use Rattle.sts_model.specs.Environment.{own_bindings}
 use Rattle.sts_model.specs.Live.{Live, LiveTask, LiveScope, Alive, live, live_task, live_scope}
 use Rattle.sts_model.specs.Live.{shown_scope, subtask_in}
-use Rattle.laws_runs.proofs.ListLemmas.{past, within}
+use Rattle.laws_runs.proofs.ListLemmas.{past}
 use Rattle.laws_runs.proofs.SoundLemmas.{Sound, born_open, dead_around, stands_alive}
 use Rattle.laws_live.specs.Reading.{task_in, scope_in, no_live_task, no_live_scope, no_alive}
 use Rattle.laws_live.specs.Reading.{live_task_at, live_scope_at, alive_at, lives_in, live_count}

@@ -7,7 +7,7 @@ use Rattle.sts_code.specs.declared.instr.Instr.TheVariants.{Join, Close}
 use Rattle.sts_model.specs.declared.event.Fault.{Fault}
 use Rattle.sts_model.specs.declared.event.Stand.TheVariants.{Free, AtClose}
 use Rattle.sts_model.specs.declared.record.Slot.{Slot}
-use Rattle.sts_model.specs.declared.record.Slot.TheVariants.{Empty, Own, Lent, Sub}
+use Rattle.sts_model.specs.declared.record.Slot.TheVariants.{Empty, Own}
 use Rattle.sts_model.specs.declared.record.Frame.{Frame}
 use Rattle.sts_model.specs.World.{World, task_at, scope_at, instr_at}
 use Rattle.sts_model.specs.Living.{lives}

@@ -52,10 +52,39 @@ same_made n x = by (lives x)
     by true = refl
     by false = refl
 
--- ---- a task of both is changed
+-- ---- an element of two lists is changed, of the second one at its name
 
-abbrev sum_part : (Task → ℕ) → List Task → ℕ
-sum_part q xs = sum_by (λ x. q (live_part x)) xs
+module _ {A : Type 0} (xs ys : List A) (name : ℕ → ℕ) (one : IsOneToOne name) (born : length ys ≡ length xs) (later : (u : ℕ) → length xs ≤ u → name u ≡ u) (none : A) (s : ℕ) (x y : A) where
+  inside : ltb s (length xs) ≡ true → name s < length ys
+  inside e = let h = name_below name one (length xs) later s (ltb-true s (length xs) e) in rw born h
+
+  past : ltb s (length xs) ≡ false → length xs ≤ s
+  past e = grind (arith, nat_tests)
+
+  past_too : ltb s (length xs) ≡ false → length ys ≤ name s
+  past_too e = let same = later s (past e) in let p = past e in omega (arith, same, p, born)
+
+  set_both : (Same : A → A → Type 0) → Same x y → ((u : ℕ) → Same (get_or xs u none) (get_or ys (name u) none)) → (u : ℕ) → Same (get_or (set xs s x) u none) (get_or (set ys (name s) y) (name u) none)
+  set_both Same h all u = by (ltb s (length xs)) refl (u == s) refl
+    where
+      by : (b : Bool) → ltb s (length xs) ≡ b → (c : Bool) → (u == s) ≡ c → Same (get_or (set xs s x) u none) (get_or (set ys (name s) y) (name u) none)
+      by true e true same =
+          rw (eqb-true u s same, get_or-set_same xs s x none (ltb-true s (length xs) e), get_or-set_same ys (name s) y none (inside e)) h
+      by true e false other =
+          rw (get_or-set_other xs s u x none (λ z. eqb-false u s other z), get_or-set_other ys (name s) (name u) y none (λ z. eqb-false u s other (one u s z))) (all u)
+      by false e c same = rw (set_past xs s x (past e), set_past ys (name s) y (past_too e)) (all u)
+
+  set_sums : (f g : A → ℕ) → sum_by g ys ≡ sum_by f xs → g (get_or ys (name s) none) ≡ f (get_or xs s none) → g y ≡ f x → sum_by g (set ys (name s) y) ≡ sum_by f (set xs s x)
+  set_sums f g old here new = by (ltb s (length xs)) refl
+    where
+      by : (b : Bool) → ltb s (length xs) ≡ b → sum_by g (set ys (name s) y) ≡ sum_by f (set xs s x)
+      by true e =
+          let a = sum_by-set f xs s x none (ltb-true s (length xs) e) in
+          let b = sum_by-set g ys (name s) y none (inside e) in
+          omega (arith, a, b, old, here, new)
+      by false e = rw (set_past xs s x (past e), set_past ys (name s) y (past_too e)) old
+
+-- ---- a task of both is changed
 
 pub alike_task : (n : Names) (w v : World) → IsAlike n w v → (t : ℕ) (x y : Task) → IsSameTask n x y → IsAlike n (with_task w t x) (with_task v (n.tasks t) y)
 alike_task n w v a t x y h =
@@ -69,37 +98,11 @@ alike_task n w v a t x y h =
         later_scopes = a.named.later_scopes;
         root = a.named.root;
       };
-      task = λ u. at_task u (ltb t (length w.tasks)) refl (u == t) refl;
+      task = set_both w.tasks v.tasks n.tasks a.named.task_names a.named.tasks_born a.named.later_tasks no_task t x y (IsSameTask n) h a.task;
       scope = a.scope;
-      task_sums = λ q. sums q (ltb t (length w.tasks)) refl;
+      task_sums = λ q. set_sums w.tasks v.tasks n.tasks a.named.task_names a.named.tasks_born a.named.later_tasks no_task t x y (λ z. q (named_task n (live_part z))) (λ z. q (live_part z)) (a.task_sums q) (ap q (a.task t)) (ap q h);
       scope_sums = a.scope_sums;
     }
-  where
-    below : ltb t (length w.tasks) ≡ true → n.tasks t < length v.tasks
-    below e = let h = name_below n.tasks a.named.task_names (length w.tasks) a.named.later_tasks t (ltb-true t (length w.tasks) e) in rw a.named.tasks_born h
-
-    past : ltb t (length w.tasks) ≡ false → length w.tasks ≤ t
-    past e = grind (arith, nat_tests)
-
-    past_too : ltb t (length w.tasks) ≡ false → length v.tasks ≤ n.tasks t
-    past_too e = let same = a.named.later_tasks t (past e) in let p = past e in let born = a.named.tasks_born in omega (arith, same, p, born)
-
-    at_task : (u : ℕ) (b : Bool) → ltb t (length w.tasks) ≡ b → (c : Bool) → (u == t) ≡ c → IsSameTask n (get_or (set w.tasks t x) u no_task) (get_or (set v.tasks (n.tasks t) y) (n.tasks u) no_task)
-    at_task u true e true same =
-        rw (eqb-true u t same, get_or-set_same w.tasks t x no_task (ltb-true t (length w.tasks) e), get_or-set_same v.tasks (n.tasks t) y no_task (below e)) h
-    at_task u true e false other =
-        rw (get_or-set_other w.tasks t u x no_task (λ s. eqb-false u t other s), get_or-set_other v.tasks (n.tasks t) (n.tasks u) y no_task (λ s. eqb-false u t other (a.named.task_names u t s))) (a.task u)
-    at_task u false e c same = rw (set_past w.tasks t x (past e), set_past v.tasks (n.tasks t) y (past_too e)) (a.task u)
-
-    sums : (q : Task → ℕ) (b : Bool) → ltb t (length w.tasks) ≡ b → sum_part q (set v.tasks (n.tasks t) y) ≡ sum_part (λ z. q (named_task n z)) (set w.tasks t x)
-    sums q true e =
-        let here = sum_by-set (λ z. q (named_task n (live_part z))) w.tasks t x no_task (ltb-true t (length w.tasks) e) in
-        let there = sum_by-set (λ z. q (live_part z)) v.tasks (n.tasks t) y no_task (below e) in
-        let old = a.task_sums q in
-        let one : q (live_part (task_at v (n.tasks t))) ≡ q (named_task n (live_part (task_at w t))) = ap q (a.task t) in
-        let new : q (live_part y) ≡ q (named_task n (live_part x)) = ap q h in
-        omega (arith, here, there, old, one, new)
-    sums q false e = rw (set_past w.tasks t x (past e), set_past v.tasks (n.tasks t) y (past_too e)) (a.task_sums q)
 
 -- the frame of a living task
 pub alike_frame : (n : Names) (w v : World) → IsAlike n w v → (t : ℕ) (f g : Frame) → lives (task_at w t) ≡ true → g ≡ named_frame n f → IsAlike n (with_frame w t f) (with_frame v (n.tasks t) g)
@@ -124,36 +127,10 @@ alike_scope n w v a s x y h =
         root = a.named.root;
       };
       task = a.task;
-      scope = λ u. at_scope u (ltb s (length w.scopes)) refl (u == s) refl;
+      scope = set_both w.scopes v.scopes n.scopes a.named.scope_names a.named.scopes_born a.named.later_scopes no_scope s x y (IsSameScope n) h a.scope;
       task_sums = a.task_sums;
-      scope_sums = λ q. sums q (ltb s (length w.scopes)) refl;
+      scope_sums = λ q. set_sums w.scopes v.scopes n.scopes a.named.scope_names a.named.scopes_born a.named.later_scopes no_scope s x y (λ z. q (named_scope n (plain_part z))) (λ z. q (plain_part z)) (a.scope_sums q) (ap q (a.scope s)) (ap q h);
     }
-  where
-    below : ltb s (length w.scopes) ≡ true → n.scopes s < length v.scopes
-    below e = let h = name_below n.scopes a.named.scope_names (length w.scopes) a.named.later_scopes s (ltb-true s (length w.scopes) e) in rw a.named.scopes_born h
-
-    past : ltb s (length w.scopes) ≡ false → length w.scopes ≤ s
-    past e = grind (arith, nat_tests)
-
-    past_too : ltb s (length w.scopes) ≡ false → length v.scopes ≤ n.scopes s
-    past_too e = let same = a.named.later_scopes s (past e) in let p = past e in let born = a.named.scopes_born in omega (arith, same, p, born)
-
-    at_scope : (u : ℕ) (b : Bool) → ltb s (length w.scopes) ≡ b → (c : Bool) → (u == s) ≡ c → IsSameScope n (get_or (set w.scopes s x) u no_scope) (get_or (set v.scopes (n.scopes s) y) (n.scopes u) no_scope)
-    at_scope u true e true same =
-        rw (eqb-true u s same, get_or-set_same w.scopes s x no_scope (ltb-true s (length w.scopes) e), get_or-set_same v.scopes (n.scopes s) y no_scope (below e)) h
-    at_scope u true e false other =
-        rw (get_or-set_other w.scopes s u x no_scope (λ z. eqb-false u s other z), get_or-set_other v.scopes (n.scopes s) (n.scopes u) y no_scope (λ z. eqb-false u s other (a.named.scope_names u s z))) (a.scope u)
-    at_scope u false e c same = rw (set_past w.scopes s x (past e), set_past v.scopes (n.scopes s) y (past_too e)) (a.scope u)
-
-    sums : (q : Scope → ℕ) (b : Bool) → ltb s (length w.scopes) ≡ b → sum_by (λ z. q (plain_part z)) (set v.scopes (n.scopes s) y) ≡ sum_by (λ z. q (named_scope n (plain_part z))) (set w.scopes s x)
-    sums q true e =
-        let here = sum_by-set (λ z. q (named_scope n (plain_part z))) w.scopes s x no_scope (ltb-true s (length w.scopes) e) in
-        let there = sum_by-set (λ z. q (plain_part z)) v.scopes (n.scopes s) y no_scope (below e) in
-        let old = a.scope_sums q in
-        let one : q (plain_part (scope_at v (n.scopes s))) ≡ q (named_scope n (plain_part (scope_at w s))) = ap q (a.scope s) in
-        let new : q (plain_part y) ≡ q (named_scope n (plain_part x)) = ap q h in
-        omega (arith, here, there, old, one, new)
-    sums q false e = rw (set_past w.scopes s x (past e), set_past v.scopes (n.scopes s) y (past_too e)) (a.scope_sums q)
 
 -- ---- a task or a scope more
 

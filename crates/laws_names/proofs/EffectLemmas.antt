@@ -1,6 +1,6 @@
 -- Each instruction leads from two states that are alike to two that are.
-use Rattle.std.proofs.Common.{◌≡◌, ℕ, ◌+◌, ◌<◌, zero, suc, List, [], ◌∷◌, ◌++◌, Bool, true, false, Option, Some, None}
-use Rattle.std.proofs.Common.{refl, sym, ◌∙◌, ap, subst, length, arith, get_or, cond, ◌||◌, not, map, drop}
+use Rattle.std.proofs.Common.{◌≡◌, ℕ, ◌+◌, List, [], ◌∷◌, ◌++◌, Bool, true, false, Option, Some, None}
+use Rattle.std.proofs.Common.{refl, sym, ◌∙◌, ap, subst, length, arith, cond, ◌||◌, not, map, drop}
 use Rattle.std.proofs.lemmas.Bool.{or_parts, not-false}
 use Rattle.std.proofs.lemmas.List.{get_or_append_left}
 use Rattle.std.specs.Prelude.{ℤ, pos, ◌-◌, ◌==◌, nat_le, unwrap_or, option_map, slice_set}
@@ -27,10 +27,10 @@ use Rattle.sts_model.specs.declared.record.Slot.{Slot}
 use Rattle.sts_model.specs.declared.record.Slot.TheVariants.{Empty, Own, Lent, Sub}
 use Rattle.sts_model.specs.declared.record.Task.{Task}
 use Rattle.sts_model.specs.World.{World, task_at, scope_at, no_task, fresh_scope, with_task, with_scope, code}
-use Rattle.sts_model.specs.Living.{lives, is_living_subtask, any_lives, subtask_count, sub_state, ends}
+use Rattle.sts_model.specs.Living.{lives, any_lives, subtask_count, sub_state, ends}
 use Rattle.sts_model.specs.Local.{local, operand, goes, steps, truth, clipped, turns}
 use Rattle.sts_model.specs.Joining.{cancels, result_of}
-use Rattle.sts_model.specs.Cancelling.{raised, marked, cancel}
+use Rattle.sts_model.specs.Cancelling.{cancel}
 use Rattle.sts_model.specs.Environment.{environment_of}
 use Rattle.sts_model.specs.Effect.{named, with_phase, open_scope, with_slot, forked, subtask_of, fork_task, joined, join_verdict, join_scope, cleared, closed, close_scope}
 use Rattle.sts_model.specs.Effect.{told, decide, complete, tell, ended, end_task, tally, total, case_target, value_or_zero, moved, effect}

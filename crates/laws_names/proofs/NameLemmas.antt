@@ -1,10 +1,10 @@
 -- Lists and numbers under other names.
 use Rattle.std.proofs.Common.{◌≡◌, ℕ, zero, suc, ◌+◌, ◌<◌, ◌≤◌, List, [], ◌∷◌, ◌++◌, Bool, true, false, Option, Some, None}
-use Rattle.std.proofs.Common.{refl, sym, ◌∙◌, ap, length, arith, get_or, set, cond, count_by, ◌||◌, map, drop}
+use Rattle.std.proofs.Common.{refl, sym, ◌∙◌, ap, length, arith, set, cond, map, drop}
 use Rattle.std.proofs.Math.Dec.{ltb}
-use Rattle.std.specs.Prelude.{◌==◌, nat_lt, option_map, find}
-use Rattle.std.specs.List.{sum_by, list_any}
-use Rattle.std.proofs.lemmas.Bool.{lt-ltb, ltb-true, eqb-false, eqb-true}
+use Rattle.std.specs.Prelude.{◌==◌, option_map, find}
+use Rattle.std.specs.List.{sum_by}
+use Rattle.std.proofs.lemmas.Bool.{ltb-true, eqb-false, eqb-true}
 use Rattle.std.proofs.lemmas.Bool.Decides.{nat_tests}
 use Rattle.std.proofs.lemmas.List.Sums.{sum_by-cons}
 use Rattle.sts_model.specs.declared.record.Completion.{Completion}
@@ -64,17 +64,6 @@ sum_map q f (x ∷ xs) = sum_by-cons q (f x) (map f xs) ∙ ap (λ m. q (f x) + 
 pub sum_same : {X : Type 0} (q r : X → ℕ) → ((x : X) → q x ≡ r x) → (xs : List X) → sum_by q xs ≡ sum_by r xs
 sum_same q r same [] = refl
 sum_same q r same (x ∷ xs) = sum_by-cons q x xs ∙ ap (λ m. m + sum_by q xs) (same x) ∙ ap (λ m. r x + m) (sum_same q r same xs) ∙ sym (sum_by-cons r x xs)
-
-pub any_count : {X : Type 0} (q : X → Bool) (xs : List X) → list_any q xs ≡ nat_lt 0 (count_by q xs)
-any_count q [] = refl
-any_count {X} q (x ∷ xs) = by (q x) (any_count q xs) ∙ ap (λ m. nat_lt 0 m) (sym (sum_by-cons (λ y. cond (q y) 1 0) x xs))
-  where
-    nothing : (m : ℕ) → m ≡ 0 + m
-    nothing m = omega arith
-
-    by : (b : Bool) → list_any q xs ≡ nat_lt 0 (count_by q xs) → (b || list_any q xs) ≡ nat_lt 0 (cond b 1 0 + count_by q xs)
-    by true h = sym (lt-ltb 0 (1 + count_by q xs) (omega arith))
-    by false h = h ∙ ap (λ m. nat_lt 0 m) (nothing (count_by q xs))
 
 -- ---- completions
 

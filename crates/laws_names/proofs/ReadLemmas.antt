@@ -3,6 +3,7 @@ use Rattle.std.proofs.Common.{◌≡◌, ℕ, List, [], ◌∷◌, Bool, true, f
 use Rattle.std.proofs.Common.{refl, sym, ◌∙◌, ap, length, cond, count_by, ◌&&◌, ◌||◌, not, map}
 use Rattle.std.specs.Prelude.{◌-◌, ◌==◌, nat_lt, option_map}
 use Rattle.std.proofs.Math.ListN.{get_or-map}
+use Rattle.laws_words.proofs.ListLemmas.{any_count}
 use Rattle.sts_code.specs.Facts.{owners_slot, subtask_slot, filled_slot}
 use Rattle.sts_code.specs.Program.{Program}
 use Rattle.sts_code.specs.declared.instr.Instr.{Instr}
@@ -31,7 +32,7 @@ use Rattle.sts_model.specs.Misuse.{has_no_room, is_illegal, is_opened, can_join,
 use Rattle.sts_model.specs.Misuse.{breaks_structure, is_binding, is_entry_of, innermost, binds_after, misuses_operand, fault_of, fault_at, misuse}
 use Rattle.sts_model.specs.Waiting.{can_step, can_go, stand_at_instr, stands_at_join, stands_at_close}
 use Rattle.laws_names.specs.Names.{Names, IsAlike, live_part, plain_part, named_slot, named_entry, named_frame, named_task, named_completion, is_reading, ReadsNothing, IsSameScope}
-use Rattle.laws_names.proofs.NameLemmas.{same_test, in_named, map_length, sum_same, any_count, ends_named, completion_named}
+use Rattle.laws_names.proofs.NameLemmas.{same_test, in_named, map_length, sum_same, ends_named, completion_named}
 use Rattle.laws_names.proofs.AlikeLemmas.{part_is, same_lives, same_scope, same_alive}
 
 -- ---- counts

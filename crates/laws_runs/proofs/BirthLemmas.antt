@@ -1,13 +1,14 @@
 -- The facts that `open` and `fork` keep: one scope more, one task more.
 use Rattle.std.proofs.Common.{◌≡◌, ◌≢◌, ℕ, zero, suc, ◌<◌, List, [], ◌∷◌, ◌++◌, Bool, true, false}
 use Rattle.std.proofs.Common.{Option, Some, None, refl, sym, ◌∙◌, ap, length, arith, get_or, set}
-use Rattle.std.proofs.Common.{◌||◌, not, nat_eq, replicate, take, length-append, get_or-set_same}
+use Rattle.std.proofs.Common.{◌||◌, nat_eq, replicate, take, length-append, get_or-set_same}
 use Rattle.std.specs.Prelude.{slice_set, reverse, ℤ, ◌==◌}
 use Rattle.std.specs.List.{list_any}
 use Rattle.std.proofs.lemmas.List.{get_or_append_left}
 use Rattle.std.proofs.Math.Seq.{get_or-append_seam}
 use Rattle.std.proofs.lemmas.Bool.Decides.{nat_tests}
 use Rattle.std.proofs.lemmas.Bool.{not_from_true, or_right}
+use Rattle.std.proofs.lemmas.Option.{same_Some}
 use Rattle.sts_code.specs.Program.{Program, routine}
 use Rattle.sts_code.specs.declared.instr.Joiner.{Joiner}
 use Rattle.sts_model.specs.declared.record.Slot.{Slot}
@@ -23,7 +24,7 @@ use Rattle.sts_model.specs.Environment.{environment_of}
 use Rattle.sts_model.specs.Misuse.{slot, is_entry_of}
 use Rattle.sts_model.specs.Effect.{open_scope, fork_task, subtask_of, forked}
 pub use Rattle.sts_model.proofs.LivesLemmas.{born_alive}
-use Rattle.laws_runs.proofs.ListLemmas.{at_set, at_more, within}
+use Rattle.laws_runs.proofs.ListLemmas.{at_set, at_more}
 use Rattle.laws_runs.specs.Later.{Later}
 use Rattle.laws_runs.proofs.LaterLemmas.{later_task-refl, later_scope-refl, later-trans, none_fresh}
 use Rattle.laws_runs.proofs.KeptLemmas.{Holds, kept-later}
@@ -74,16 +75,13 @@ pub record IsChild (w : World) (x : Task) (s : ℕ) : Type 0 where
   pub own : (i r : ℕ) → slot x.frame i ≡ slots.Own r → ⊥
   pub outcome : x.outcome ≡ None
 
-same_some : (s r : ℕ) (o : Option ℕ) → o ≡ Some s → o ≡ Some r → s ≡ r
-same_some s r o d e = cc
-
 sound-more_tasks : (w : World) (x : Task) (s : ℕ) → Sound w → IsChild w x s → Sound (more_tasks w x)
 sound-more_tasks w x s o child =
     record {
       own = λ u. at_more (λ (task : Task). (i r : ℕ) → slot task.frame i ≡ slots.Own r → Owner w.scopes r u) w.tasks x u no_task (λ e i r q. absurd (child.own i r q)) (o.own u);
       born = λ u.
           at_more (λ (task : Task). (r : ℕ) → task.scope ≡ Some r → (r < length w.scopes) × ((scope_at w r).owner < u)) w.tasks x u no_task
-          (λ e r q. let same = same_some s r x.scope child.scope q in (rw (← same) child.born, rw (← same, e) child.owner))
+          (λ e r q. let same = same_Some s r (sym child.scope ∙ q) in (rw (← same) child.born, rw (← same, e) child.owner))
           (o.born u);
       root = λ u. at_more (λ (task : Task). lives task ≡ true → task.scope ≡ None → u ≡ 0) w.tasks x u no_task (λ e alive q. let c = child.scope in cc) (o.root u);
       held = λ r less still.
@@ -91,7 +89,7 @@ sound-more_tasks w x s o child =
           rw (get_or_append_left w.tasks (x ∷ []) no_task (scope_at w r).owner (born_alive w (scope_at w r).owner h.alive)) h;
       empty = λ r u closed.
           at_more (λ (task : Task). task.scope ≡ Some r → lives task ≡ false) w.tasks x u no_task
-          (λ e q. let same = same_some s r x.scope child.scope q in let still = child.still in let never : true ≡ false = sym closed ∙ ap (λ n. is_closed (scope_at w n).phase) (sym same) ∙ still in cc)
+          (λ e q. let same = same_Some s r (sym child.scope ∙ q) in let still = child.still in let never : true ≡ false = sym closed ∙ ap (λ n. is_closed (scope_at w n).phase) (sym same) ∙ still in cc)
           (o.empty r u closed);
     }
 

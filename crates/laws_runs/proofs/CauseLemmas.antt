@@ -10,7 +10,7 @@ use Rattle.sts_code.specs.declared.instr.Instr.TheVariants.{Open, Join, Close, R
 use Rattle.sts_model.specs.declared.event.End.{End}
 use Rattle.sts_model.specs.declared.event.End.TheVariants.{Success, Failed}
 use Rattle.sts_model.specs.declared.event.Phase.{Phase}
-use Rattle.sts_model.specs.declared.event.Phase.TheVariants.{Opened, Attempted, Joined, Closing}
+use Rattle.sts_model.specs.declared.event.Phase.TheVariants.{Attempted, Joined, Closing}
 use Rattle.sts_model.specs.declared.event.Phase.TheVariants.{Closed}
 use Rattle.sts_model.specs.declared.event.Verdict.{Verdict}
 use Rattle.sts_model.specs.declared.event.Verdict.TheVariants as verdict
@@ -97,7 +97,7 @@ follow-open w t x f joiner timed h s born =
     (uncaused w s (new_scope w t joiner timed) refl refl refl (λ h. refl) (λ h. cc))
     (follow-refl w h s)
 
-staying_at_join : (phase : Phase) → not (can_join phase) ≡ false → is_leaving phase ≡ false
+pub staying_at_join : (phase : Phase) → not (can_join phase) ≡ false → is_leaving phase ≡ false
 staying_at_join Closing e = cc
 staying_at_join Closed e = cc
 staying_at_join _ e = refl
@@ -143,7 +143,7 @@ cancel-marks w s born =
     (λ e. e)
     (λ e. ap (λ (scope : Scope). scope.cancelled) (get_or-set_same w.scopes s (record (scope_at w s) { cancelled = true }) no_scope born))
 
-cancel-others : (w : World) (s r : ℕ) → (r ≡ s → ⊥) → scope_at (cancel w s) r ≡ scope_at w r
+pub cancel-others : (w : World) (s r : ℕ) → (r ≡ s → ⊥) → scope_at (cancel w s) r ≡ scope_at w r
 cancel-others w s r other =
     cond_both (scope_at w s).cancelled w (marked w s) (λ (v : World). scope_at v r ≡ scope_at w r)
     (λ e. refl)

@@ -4,7 +4,7 @@ use Rattle.std.proofs.Common.{refl, sym, ◌∙◌, ap, length, arith, get_or, s
 use Rattle.std.proofs.Common.{length-set, get_or-set_other}
 use Rattle.std.specs.Prelude.{◌==◌}
 use Rattle.std.specs.List.{list_any}
-use Rattle.std.proofs.lemmas.Bool.{cond_both}
+use Rattle.std.proofs.lemmas.Bool.{cond_both, not-false}
 use Rattle.std.proofs.lemmas.Bool.Decides.{nat_tests}
 use Rattle.std.proofs.lemmas.List.{get_or_append_left}
 use Rattle.std.proofs.Math.Seq.{get_or-append_seam}
@@ -19,13 +19,13 @@ use Rattle.sts_model.specs.declared.record.Scope.{Scope}
 use Rattle.sts_model.specs.World.{World, task_at, scope_at, no_task, no_scope}
 use Rattle.sts_model.specs.Local.{steps}
 use Rattle.sts_model.specs.Living.{lives, any_lives, is_closed}
-use Rattle.sts_model.specs.Cancelling.{marked, cancel}
+use Rattle.sts_model.specs.Cancelling.{cancel}
 use Rattle.sts_model.specs.Misuse.{is_entry_of, innermost}
 use Rattle.sts_model.specs.Effect.{with_phase, closed, close_scope, cleared, open_scope, fork_task}
 use Rattle.sts_model.specs.Effect.{subtask_of, forked}
 use Rattle.sts_model.proofs.LivesLemmas.{cancel_alive}
 use Rattle.laws_runs.proofs.ListLemmas.{at_set, at_put, at_more}
-use Rattle.laws_runs.proofs.KeptLemmas.{Kept, kept-cancel, at_raised}
+use Rattle.laws_runs.proofs.KeptLemmas.{Kept, kept-cancel}
 use Rattle.laws_runs.proofs.EffectLemmas.{frame-cancel}
 use Rattle.laws_runs.proofs.SoundLemmas.{Owner, alive_before}
 use Rattle.laws_runs.proofs.BirthLemmas.{more_tasks, new_scope, opener, still-forker, born_alive}
@@ -88,15 +88,11 @@ not_again : (es : List Entry) (s : ℕ) → times_in s es ≤ 1 → not (innermo
 not_again [] s once first has = cc
 not_again (entry.Binding k x ∷ es) s once first has = cc
 not_again (entry.Scope r ∷ es) s once first has =
-    let one : (r == s) ≡ true = is_true (r == s) first in
+    let one : (r == s) ≡ true = not-false (r == s) first in
     let more = some_times es s has in
     let e = times-cons (entry.Scope r) es s in
     let c = one_if (r == s) one in
     omega (arith, once, more, e, c)
-  where
-    is_true : (b : Bool) → not b ≡ false → b ≡ true
-    is_true true h = refl
-    is_true false h = cc
 
 -- the scope s is closed, and its owner's innermost entry, that of s, leaves
 entered-closed : (w v : World) (t s : ℕ) (f : Frame) → Entered v → Owner v.scopes s t → lives (task_at v t) ≡ true → (task_at v t).frame ≡ f → not (innermost (is_entry_of s) f.entries) ≡ false → Entered (closed v t f s)

@@ -12,7 +12,6 @@ use Rattle.sts_model.specs.declared.event.End.{End}
 use Rattle.sts_model.specs.declared.event.End.TheVariants.{Success, Failed}
 use Rattle.sts_model.specs.declared.event.Fault.{Fault}
 use Rattle.sts_model.specs.declared.event.Phase.{Phase}
-use Rattle.sts_model.specs.declared.event.Phase.TheVariants.{Opened, Attempted, Joined, Closing}
 use Rattle.sts_model.specs.declared.event.Phase.TheVariants.{Closed}
 use Rattle.sts_model.specs.declared.record.Slot.TheVariants as slots
 use Rattle.sts_model.specs.declared.record.Frame.{Frame}

@@ -1,5 +1,5 @@
 -- Flags: what each effect does to them.
-use Rattle.std.proofs.Common.{◌≡◌, ◌⊎◌, inl, inr, ℕ, zero, suc, ◌<◌, List, [], ◌∷◌, ◌++◌, Bool}
+use Rattle.std.proofs.Common.{◌≡◌, ◌⊎◌, inl, inr, ℕ, zero, suc, ◌<◌, List, [], ◌∷◌, Bool}
 use Rattle.std.proofs.Common.{true, false, Option, Some, None, refl, sym, ◌∙◌, ap, length}
 use Rattle.std.proofs.Common.{arith, get_or, set, cond, ◌||◌, ◌&&◌, not, unwrap_or, drop}
 use Rattle.std.proofs.Common.{get_or-set_same, get_or-set_other, length-set}

@@ -1,8 +1,9 @@
 -- The facts that every effect except those of `open` and `fork` keeps, and the building blocks.
 use Rattle.std.proofs.Common.{◌≡◌, ℕ, zero, suc, List, [], ◌∷◌, Bool, true, false, Option, Some}
-use Rattle.std.proofs.Common.{None, refl, ◌∙◌, length, arith, get_or, cond, ◌&&◌, length-set}
+use Rattle.std.proofs.Common.{None, refl, ◌∙◌, length, arith, get_or, cond, length-set}
 use Rattle.std.proofs.lemmas.List.{length-map}
 use Rattle.std.specs.List.{list_any}
+use Rattle.std.proofs.Math.Bool.{and-false}
 use Rattle.sts_model.specs.declared.event.End.{End}
 use Rattle.sts_model.specs.declared.record.Slot.TheVariants.{Own}
 use Rattle.sts_model.specs.declared.record.Task.{Task}
@@ -52,11 +53,7 @@ pub dead_later : (x y : Task) → LaterTask x y → lives x ≡ false → lives 
 dead_later x y h e = by x.started x.outcome y.started y.outcome h.same.started h.outcome e
   where
     by : (a : Bool) (o : Option End) (b : Bool) (q : Option End) → b ≡ a → ((end : End) → o ≡ Some end → q ≡ Some end) → lives (record y { started = a; outcome = o }) ≡ false → lives (record y { started = b; outcome = q }) ≡ false
-    by a (Some end) b q same ends e = rw (ends end refl) (never b)
-      where
-        never : (c : Bool) → (c && false) ≡ false
-        never true = refl
-        never false = refl
+    by a (Some end) b q same ends e = rw (ends end refl) (and-false b)
     by true None b q same ends e = cc
     by false None b q same ends e = rw same refl
 

@@ -8,8 +8,7 @@ use Rattle.sts_model.specs.declared.record.Task.{Task}
 use Rattle.sts_model.specs.declared.record.Scope.{Scope}
 use Rattle.sts_model.specs.World.{World, task_at, scope_at, no_task, no_scope}
 use Rattle.sts_model.specs.declared.event.Phase.{Phase}
-use Rattle.sts_model.specs.declared.event.Phase.TheVariants.{Opened, Attempted, Joined, Closing}
-use Rattle.sts_model.specs.declared.event.Phase.TheVariants.{Closed}
+use Rattle.sts_model.specs.declared.event.Phase.TheVariants.{Opened, Attempted}
 use Rattle.sts_model.specs.Misuse.{can_join}
 use Rattle.laws_runs.specs.Later.{stage, MovesOn, IsSameScope, KeepsMarks, Completes, NothingStarts}
 use Rattle.laws_runs.specs.Later.{LaterTask, LaterScope, Later}

@@ -4,8 +4,7 @@ use Rattle.std.proofs.Common.{◌∙◌, arith, not}
 use Rattle.sts_code.specs.Program.{Program}
 use Rattle.sts_code.specs.declared.instr.Joiner.{Joiner}
 use Rattle.sts_model.specs.declared.event.Phase.{Phase}
-use Rattle.sts_model.specs.declared.event.Phase.TheVariants.{Opened, Attempted, Joined, Closing}
-use Rattle.sts_model.specs.declared.event.Phase.TheVariants.{Closed}
+use Rattle.sts_model.specs.declared.event.Phase.TheVariants.{Opened}
 use Rattle.sts_model.specs.declared.record.Task.{Task}
 use Rattle.sts_model.specs.declared.record.Scope.{Scope}
 use Rattle.sts_model.specs.World.{World, task_at, scope_at, no_task, no_scope}

@@ -1,18 +1,18 @@
 -- Each effect keeps the law of slots: each scope and subtask that a slot of a living task names
 -- still counts.
-use Rattle.std.proofs.Common.{◌≡◌, ℕ, zero, suc, ◌<◌, ◌-◌, List, [], ◌∷◌, Bool, true, false, Option}
+use Rattle.std.proofs.Common.{◌≡◌, ℕ, zero, suc, ◌<◌, List, [], ◌∷◌, Bool, true, false, Option}
 use Rattle.std.proofs.Common.{Some, None, refl, sym, ◌∙◌, ap, subst, length, arith, get_or, cond}
-use Rattle.std.proofs.Common.{replicate, take, drop, ◌+◌, ◌||◌, not, unwrap_or}
+use Rattle.std.proofs.Common.{replicate, take, drop, ◌||◌, not, unwrap_or}
 use Rattle.std.proofs.Common.{get_or-set_other}
 use Rattle.std.proofs.lemmas.Bool.Decides.{nat_tests}
 use Rattle.std.proofs.lemmas.List.{get_or_append_left}
 use Rattle.std.proofs.Math.Seq.{get_or-append_seam}
-use Rattle.std.specs.Prelude.{is_some, slice_set, reverse, ℤ, ◌==◌}
+use Rattle.std.specs.Prelude.{is_some, slice_set, reverse, ℤ}
 use Rattle.sts_code.specs.Program.{Program, routine}
 use Rattle.sts_code.specs.declared.instr.Instr.{Instr}
-use Rattle.sts_code.specs.declared.instr.Instr.TheVariants.{Open, Fork, Join, Close, Cancelled}
-use Rattle.sts_code.specs.declared.instr.Instr.TheVariants.{Case, Get, Except, Tally, Total, Forget}
-use Rattle.sts_code.specs.declared.instr.Instr.TheVariants.{Bind, Unbind, Read, Bound, OrElse}
+use Rattle.sts_code.specs.declared.instr.Instr.TheVariants.{Open, Fork, Join, Close}
+use Rattle.sts_code.specs.declared.instr.Instr.TheVariants.{Forget}
+use Rattle.sts_code.specs.declared.instr.Instr.TheVariants.{Bind, Unbind}
 use Rattle.sts_code.specs.declared.instr.Instr.TheVariants.{Interrupted, Ret, Fail}
 use Rattle.sts_code.specs.declared.instr.Joiner.{Joiner}
 use Rattle.sts_model.specs.declared.event.End.{End}
@@ -26,9 +26,9 @@ use Rattle.sts_model.specs.declared.record.Slot.TheVariants.{Empty, Own, Lent, S
 use Rattle.sts_model.specs.declared.record.Frame.{Frame}
 use Rattle.sts_model.specs.declared.record.Task.{Task}
 use Rattle.sts_model.specs.declared.record.Scope.{Scope}
-use Rattle.sts_model.specs.World.{World, code, task_at, scope_at, no_task, no_scope, entry_frame}
+use Rattle.sts_model.specs.World.{World, task_at, scope_at, no_task, no_scope, entry_frame}
 use Rattle.sts_model.specs.World.{with_task, with_scope, with_frame, opening}
-use Rattle.sts_model.specs.Local.{local, operand, goes, steps}
+use Rattle.sts_model.specs.Local.{operand, goes, steps}
 use Rattle.sts_model.specs.Joining.{cancels, result_of}
 use Rattle.sts_model.specs.Living.{lives, is_in, any_lives, is_closed, ends, subtask_count}
 use Rattle.sts_model.specs.Standing.{stands_in}

@@ -1,6 +1,7 @@
 -- Laws for every state of every run: who owns what, which scopes count, who lives.
 use Rattle.std.proofs.Common.{◌≡◌, ℕ, ◌<◌, List, Bool, true, false, Option, Some, None, refl, sym}
-use Rattle.std.proofs.Common.{◌∙◌, length, get_or, subst, not}
+use Rattle.std.proofs.Common.{◌∙◌, length, get_or, subst}
+use Rattle.std.proofs.lemmas.Bool.{not-false}
 use Rattle.sts_model.specs.declared.record.Slot.TheVariants.{Own}
 use Rattle.sts_model.specs.declared.record.Scope.{Scope}
 use Rattle.sts_model.specs.World.{World, task_at, scope_at, no_scope}
@@ -61,11 +62,7 @@ born_open w s e = within is_standing_scope w.scopes s no_scope refl (rw e refl)
 
 -- if a task doesn't count, its scope was closed
 closed_around : (w : World) (q : Option ℕ) (s : ℕ) → q ≡ Some s → stands_in w q ≡ false → is_closed (scope_at w s).phase ≡ true
-closed_around w q s e out = by (is_closed (scope_at w s).phase) (subst (λ (o : Option ℕ). stands_in w o ≡ false) e out)
-  where
-    by : (b : Bool) → not b ≡ false → b ≡ true
-    by true e = refl
-    by false e = cc
+closed_around w q s e out = not-false (is_closed (scope_at w s).phase) (subst (λ (o : Option ℕ). stands_in w o ≡ false) e out)
 
 -- a task in a closed scope doesn't live
 pub dead_around : (w : World) (u : ℕ) → Sound w → stands_in w (task_at w u).scope ≡ false → lives (task_at w u) ≡ false

@@ -2,6 +2,8 @@
 use Rattle.std.proofs.Common.{◌≡◌, ℕ, ◌+◌, ◌<◌, ◌≤◌, [], ◌∷◌, ◌++◌, Bool, true, false, Some, refl}
 use Rattle.std.proofs.Common.{◌∙◌, ap, length, arith, cond, fold, ◌&&◌}
 use Rattle.std.specs.Prelude.{is_some}
+use Rattle.std.proofs.Math.Bool.{and-false}
+use Rattle.std.proofs.lemmas.Bool.{and_left}
 use Rattle.sts_code.specs.Program.{Program}
 use Rattle.sts_model.specs.declared.event.End.{End}
 use Rattle.sts_model.specs.declared.record.Task.{Task}
@@ -43,19 +45,11 @@ cancelled_starts_nothing = always (λ p w v. NothingStarts w v) (λ p w v h. h.l
 -- ---- ends
 
 pub ended_is_dead : (task : Task) (end : End) → task.outcome ≡ Some end → lives task ≡ false
-ended_is_dead task end e = rw e (never task.started)
-  where
-    never : (b : Bool) → (b && false) ≡ false
-    never true = refl
-    never false = refl
+ended_is_dead task end e = rw e (and-false task.started)
 
 -- a task that doesn't live can't step
 dead_stands : (p : Program) (w : World) (t : ℕ) → lives (task_at w t) ≡ false → can_step p w t ≡ false
-dead_stands p w t e = by (lives (task_at w t)) (can_go w (task_at w t) (stand_at p w t)) e
-  where
-    by : (a b : Bool) → a ≡ false → (a && b) ≡ false
-    by true b e = cc
-    by false b e = refl
+dead_stands p w t e = and_left (lives (task_at w t)) (can_go w (task_at w t) (stand_at p w t)) e
 
 keeps_end : (p : Program) (w v : World) → Later w v → (t : ℕ) (end : End) → (task_at w t).outcome ≡ Some end → KeepsEnd p w v t end
 keeps_end p w v l t end e =

@@ -1,11 +1,12 @@
 -- Tallies: each subtask that completed is counted once, by the state it completed with.
-use Rattle.std.proofs.Common.{◌≡◌, ℕ, zero, suc, ◌+◌, ◌-◌, ◌<◌, ◌≤◌, List, [], ◌∷◌, Bool, true}
+use Rattle.std.proofs.Common.{◌≡◌, ℕ, zero, suc, ◌+◌, ◌<◌, ◌≤◌, List, [], ◌∷◌, Bool, true}
 use Rattle.std.proofs.Common.{false, Option, Some, None, refl, sym, ◌∙◌, ap, length, arith, get_or}
-use Rattle.std.proofs.Common.{cond, ◌&&◌, not}
+use Rattle.std.proofs.Common.{cond, ◌&&◌}
 use Rattle.std.specs.Prelude.{◌==◌, find, count_by, option_map, is_some, is_none}
 use Rattle.std.specs.List.{range_with_len}
 use Rattle.std.proofs.lemmas.Bool.Decides.{nat_tests}
-use Rattle.std.proofs.lemmas.List.Sums.{sum_by-cons}
+use Rattle.std.proofs.Math.Bool.{and-false}
+use Rattle.laws_words.proofs.ListLemmas.{count-cons}
 use Rattle.sts_code.specs.declared.instr.Kind.{Kind}
 use Rattle.sts_code.specs.declared.instr.Kind.TheVariants.{S, F, U}
 use Rattle.sts_model.specs.declared.event.End.{End}
@@ -21,14 +22,11 @@ use Rattle.sts_model.specs.Effect.{tally}
 use Rattle.laws_runs.proofs.ListLemmas.{within}
 use Rattle.laws_runs.proofs.EffectLemmas.{is_in-some, some-is_in}
 use Rattle.laws_runs.proofs.CompletionLemmas.{ToldIn}
-use Rattle.laws_runs.proofs.EventLemmas.{Right, ever}
+use Rattle.laws_runs.proofs.EventLemmas.{ever}
 use Rattle.laws_runs.specs.Tallies.{is_kind, is_in_state, births, number_in, IsTallied}
 use Rattle.laws_runs.specs.Tallies.{TalliesAreCounts}
 
 -- ---- counts
-
-count-cons : {X : Type 0} (test : X → Bool) (x : X) (xs : List X) → count_by test (x ∷ xs) ≡ cond (test x) 1 0 + count_by test xs
-count-cons test x xs = sum_by-cons (λ y. cond (test y) 1 0) x xs
 
 -- of numbers from a on
 count-same : (Q R : ℕ → Bool) (a n : ℕ) → ((u : ℕ) → a ≤ u → R u ≡ Q u) → count_by R (range_with_len a n) ≡ count_by Q (range_with_len a n)
@@ -158,25 +156,33 @@ counted-rest inside n c cs h =
 
 -- so the number of subtasks in a state is the number that completed in it
 count-completed : (inside : ℕ → Bool) (n : ℕ) (P : Option End → Bool) → P None ≡ false → (cs : List Completion) → Counted inside n cs → count_by (λ u. inside u && P (completion_of cs u)) (range_with_len 0 n) ≡ count_by (λ (c : Completion). P (Some c.end)) cs
-count-completed inside n P none [] h = count-none _ 0 n (λ u. rw none (never (inside u)))
-  where
-    never : (b : Bool) → (b && false) ≡ false
-    never true = refl
-    never false = refl
+count-completed inside n P none [] h = count-none _ 0 n (λ u. rw none (and-false (inside u)))
 count-completed inside n P none (c ∷ cs) h =
     let t : ℕ = c.task in
     let before = count-completed inside n P none cs (counted-rest inside n c cs h) in
     let here = h.there t c.end (first c cs) in
     let high = here.1 in
-    let out : (inside t && P (completion_of cs t)) ≡ false = rw (fresh inside n c cs h, none) (never (inside t)) in
+    let out : (inside t && P (completion_of cs t)) ≡ false = rw (fresh inside n c cs h, none) (and-false (inside t)) in
     let step = count-point (λ u. inside u && P (completion_of cs u)) (λ u. inside u && P (completion_of (c ∷ cs) u)) t 0 n (λ u other. ap (λ o. inside u && P o) (others c cs u other)) out (omega arith) (omega (arith, high)) in
     let new : cond {A = ℕ} (inside t && P (completion_of (c ∷ cs) t)) 1 0 ≡ cond (P (Some c.end)) 1 0 = rw (here.0, first c cs) refl in
     let k = count-cons (λ (x : Completion). P (Some x.end)) c cs in
     omega (arith, before, step, new, k)
+
+-- each state is of one kind
+pub kinds : (qs : List (Option End)) → count_by (is_kind S) qs + count_by (is_kind F) qs + count_by (is_kind U) qs ≡ length qs
+kinds [] = refl
+kinds (q ∷ qs) =
+    let a = count-cons (is_kind S) q qs in
+    let b = count-cons (is_kind F) q qs in
+    let c = count-cons (is_kind U) q qs in
+    let one = kind q in
+    let rest = kinds qs in
+    omega (arith, a, b, c, one, rest)
   where
-    never : (b : Bool) → (b && false) ≡ false
-    never true = refl
-    never false = refl
+    kind : (y : Option End) → cond {A = ℕ} (is_kind S y) 1 0 + cond (is_kind F y) 1 0 + cond (is_kind U y) 1 0 ≡ 1
+    kind None = refl
+    kind (Some (Success v)) = refl
+    kind (Some (Failed c)) = refl
 
 -- of completions, and of ends
 count-ends : (P : Option End → Bool) (test : End → Bool) → ((e : End) → P (Some e) ≡ test e) → (cs : List Completion) → count_by (λ (c : Completion). P (Some c.end)) cs ≡ count_by test (ends_of cs)

@@ -4,8 +4,8 @@ use Rattle.std.proofs.Common.{true, false, Option, Some, None, ◌||◌, ◌==�
 use Rattle.std.proofs.Common.{arith, append_assoc, slice_index_or}
 use Rattle.std.proofs.lemmas.Grind.{common_steps}
 use Rattle.std.specs.Option.{option_or}
+use Rattle.std.proofs.lemmas.Bool.{or_parts}
 use Rattle.sts_code.specs.declared.checking.CodeCause.{CodeCause}
-use Rattle.sts_code.specs.declared.checking.CodeError.{CodeError}
 use Rattle.sts_code.specs.Checks as def
 use Rattle.sts_code.specs.declared.checking.CodeCause.TheVariants.{TooLong, BadRange}
 use Rattle.sts_code.specs.Name.{is_name}
@@ -37,17 +37,10 @@ neither_holds true b x rest e = cc
 neither_holds false true x rest e = cc
 neither_holds false false x rest e = (refl, refl)
 
-pub no_test : (a : Bool) (x : CodeCause) (rest : Option CodeCause) → cond a (Some x) rest ≡ None → (a ≡ false) × (rest ≡ None)
+-- a value if a test holds, or another one, and none is there
+pub no_test : {A : Type 0} (a : Bool) (x : A) (rest : Option A) → cond a (Some x) rest ≡ None → (a ≡ false) × (rest ≡ None)
 no_test true x rest e = cc
 no_test false x rest e = (refl, e)
-
-not_many : (a : Bool) (x : CodeError) (rest : Option CodeError) → cond a (Some x) rest ≡ None → (a ≡ false) × (rest ≡ None)
-not_many true x rest e = cc
-not_many false x rest e = (refl, e)
-
-either_fails : (a b : Bool) → a || b ≡ false → b ≡ false
-either_fails true b e = cc
-either_fails false b e = e
 
 -- a function as a whole is within the limits
 pub routine_is_small : (earlier : List Routine) (r : Routine) → def.routine_fault earlier r ≡ None → (length r.code ≤ MAX_INSTRUCTIONS) × (r.args ≤ MAX_ARGS)
@@ -55,13 +48,13 @@ routine_is_small earlier r e =
     let none : def.routine_cause earlier r ≡ None = no_cause (length earlier) 0 (def.routine_cause earlier r) (neither _ (def.code_fault (length earlier) (length r.code) 0 r.code) e).0 in
     let short = no_test (nat_lt MAX_INSTRUCTIONS (length r.code)) TooLong _ none in
     let named = neither_holds (not (is_name r.name) || nat_lt MAX_ARGS r.args) (length r.code == 0) BadRange _ short.1 in
-    let few = either_fails (not (is_name r.name)) (nat_lt MAX_ARGS r.args) named.0 in
+    let few = (or_parts (not (is_name r.name)) (nat_lt MAX_ARGS r.args) named.0).1 in
     (grind (arith, ltb-false, short.0), grind (arith, ltb-false, few))
 
 -- there are at most 64 functions, and each is without fault
 pub routines_are_fine : (rs : List Routine) → def.program_fault rs ≡ None → (length rs ≤ MAX_FUNCTIONS) × (def.routines_fault [] rs ≡ None)
 routines_are_fine rs e =
-    let few = not_many (nat_lt MAX_FUNCTIONS (length rs)) _ _ e in
+    let few = no_test (nat_lt MAX_FUNCTIONS (length rs)) _ _ e in
     (grind (arith, ltb-false, few.0), (neither (def.routines_fault [] rs) _ few.1).0)
 
 small_at : (earlier rs : List Routine) (i : ℕ) → def.routines_fault earlier rs ≡ None → (length (slice_index_or rs i no_routine).code ≤ MAX_INSTRUCTIONS) × ((slice_index_or rs i no_routine).args ≤ MAX_ARGS)

@@ -1,8 +1,9 @@
 -- Each function of a program is within the limits, in whatever way it was read.
 use Rattle.std.proofs.Common.{◌≡◌, ℕ, zero, suc, ◌<◌, ◌≤◌, List, [], length, take, Bool, true}
-use Rattle.std.proofs.Common.{false, Option, Some, None, ◌||◌, ◌==◌, cond, nat_lt, ◌∙◌, refl, arith}
+use Rattle.std.proofs.Common.{false, Option, Some, None, ◌==◌, cond, nat_lt, ◌∙◌, refl, arith}
 use Rattle.std.proofs.Common.{slice_index_or}
 use Rattle.std.proofs.lemmas.List.{get_or_default}
+use Rattle.std.proofs.lemmas.Bool.{or_parts}
 use Rattle.sts_code.specs.declared.checking.CodeCause.{CodeCause}
 use Rattle.sts_code.specs.Checks.{program_fault, routine_cause}
 use Rattle.sts_code.specs.declared.limits.TheConstants.{MAX_INSTRUCTIONS, MAX_ARGS}
@@ -23,16 +24,12 @@ second_test true b x y rest e = cc
 second_test false true x y rest e = cc
 second_test false false x y rest e = refl
 
-last_test : (a b : Bool) → a || b ≡ false → b ≡ false
-last_test true b e = cc
-last_test false b e = e
-
 pub has_code : (p : Program) (i : ℕ) → program_fault p.routines ≡ None → i < length p.routines → 0 < length (routine p i).code
 has_code p i e h =
     let fine = routine_is_fine [] p.routines i (routines_are_fine p.routines e).1 h in
     let none = no_cause _ 0 (routine_cause (take i p.routines) (routine p i)) (neither _ _ fine).0 in
     let named = second_test _ _ _ _ _ none in
-    let some = last_test _ (length (routine p i).code == 0) named in
+    let some = (or_parts _ (length (routine p i).code == 0) named).1 in
     by (length (routine p i).code) some
   where
     by : (n : ℕ) → (n == 0) ≡ false → 0 < n

@@ -5,6 +5,7 @@ use Rattle.std.proofs.lemmas.List.Folds.{find-append, list_any-append}
 use Rattle.std.proofs.lemmas.List.Sums.{fold-append, sum_by-cons}
 use Rattle.std.specs.Prelude.{find, count_by, is_some}
 use Rattle.std.specs.List.{list_any}
+use Rattle.laws_words.proofs.ListLemmas.{count-push}
 use Rattle.sts_code.specs.declared.instr.Joiner.{Joiner}
 use Rattle.sts_code.specs.declared.instr.Joiner.TheVariants.{AllSucceed, AnySucceeds, AwaitOk}
 use Rattle.sts_code.specs.declared.instr.Joiner.TheVariants.{AwaitAll, Until}
@@ -24,12 +25,9 @@ any_found test (x ∷ xs) = by (test x) refl (any_found test xs)
     by true e next = rw e refl
     by false e next = rw e next
 
-count_more : (test : End → Bool) (xs : List End) (e : End) → count_by test (xs ++ e ∷ []) ≡ count_by test xs + cond (test e) 1 0
-count_more test xs e = fold-append (λ (a : ℕ) (x : End). a + cond (test x) 1 0) 0 xs (e ∷ [])
-
 more : (j : Joiner) (ends : List End) (e : End) → told j (ends ++ e ∷ []) ≡ tell j (told j ends) e
 more j ends e =
-    rw (count_more is_success ends e, count_more is_failure ends e, find-append is_success ends (e ∷ []), find-append is_failure ends (e ∷ []), list_any-append (reaches j) ends (e ∷ []), fold-append plus_value (pos 0) ends (e ∷ [])) refl
+    rw (count-push is_success ends e, count-push is_failure ends e, find-append is_success ends (e ∷ []), find-append is_failure ends (e ∷ []), list_any-append (reaches j) ends (e ∷ []), fold-append plus_value (pos 0) ends (e ∷ [])) refl
 
 either : (e : End) → cond (is_success e) 1 0 + cond (is_failure e) 1 0 ≡ 1
 either (Success v) = refl

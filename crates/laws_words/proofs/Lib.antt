@@ -1,0 +1,3 @@
+pub mod BoolLemmas
+pub mod ListLemmas
+pub mod OptionLemmas

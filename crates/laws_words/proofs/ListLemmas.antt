@@ -1,0 +1,53 @@
+-- Elements at their places, and how many pass a test.
+use Rattle.std.proofs.Common.{◌≡◌, ℕ, zero, suc, ◌+◌, ◌<◌, ◌≤◌, ◌||◌, Bool, true, false, cond, List}
+use Rattle.std.proofs.Common.{[], ◌∷◌, ◌++◌, length, get_or, set, drop, Option, Some, None, refl}
+use Rattle.std.proofs.Common.{sym, ap, ◌∙◌, arith, count_by, slice_index_or}
+use Rattle.std.specs.Prelude.{nat_lt}
+use Rattle.std.specs.List.{list_any}
+use Rattle.std.proofs.lemmas.Bool.{lt-ltb}
+use Rattle.std.proofs.lemmas.List.Sums.{sum_by-cons, sum_by_push}
+
+-- ---- how many pass a test
+
+pub count-cons : {X : Type 0} (test : X → Bool) (x : X) (xs : List X) → count_by test (x ∷ xs) ≡ cond (test x) 1 0 + count_by test xs
+count-cons test x xs = sum_by-cons (λ y. cond (test y) 1 0) x xs
+
+pub count-push : {X : Type 0} (test : X → Bool) (xs : List X) (x : X) → count_by test (xs ++ x ∷ []) ≡ count_by test xs + cond (test x) 1 0
+count-push test xs x = sum_by_push (λ y. cond (test y) 1 0) xs x
+
+pub any_count : {X : Type 0} (test : X → Bool) (xs : List X) → list_any test xs ≡ nat_lt 0 (count_by test xs)
+any_count test [] = refl
+any_count {X} test (x ∷ xs) = by (test x) (any_count test xs) ∙ ap (λ m. nat_lt 0 m) (sym (count-cons test x xs))
+  where
+    by : (b : Bool) → list_any test xs ≡ nat_lt 0 (count_by test xs) → (b || list_any test xs) ≡ nat_lt 0 (cond b 1 0 + count_by test xs)
+    by true h = sym (lt-ltb 0 (1 + count_by test xs) (omega arith))
+    by false h = let same : count_by test xs ≡ 0 + count_by test xs = omega arith in h ∙ ap (λ m. nat_lt 0 m) same
+
+-- ---- at a place
+
+-- a place that has something is inside the list
+pub read_within : {X : Type 0} (xs : List (Option X)) (k : ℕ) (x : X) → get_or xs k None ≡ Some x → k < length xs
+read_within [] k x e = cc
+read_within (y ∷ ys) zero x e = omega arith
+read_within (y ∷ ys) (suc k) x e = let h = read_within ys k x e in omega (arith, h)
+
+pub put_there : {X : Type 0} (xs : List (Option X)) (k : ℕ) (x y : X) → get_or xs k None ≡ Some x → get_or (set xs k (Some y)) k None ≡ Some y
+put_there [] k x y e = cc
+put_there (o ∷ xs) zero x y e = refl
+put_there (o ∷ xs) (suc k) x y e = put_there xs k x y e
+
+pub set_again : {X : Type 0} (xs : List X) (k : ℕ) (x y : X) → set (set xs k x) k y ≡ set xs k y
+set_again [] k x y = refl
+set_again (z ∷ xs) zero x y = refl
+set_again (z ∷ xs) (suc k) x y = ap (λ l. z ∷ l) (set_again xs k x y)
+
+pub drop_past : {X : Type 0} (n : ℕ) (xs : List X) → length xs ≤ n → drop n xs ≡ []
+drop_past zero [] h = refl
+drop_past zero (x ∷ xs) h = absurd (omega arith)
+drop_past (suc n) [] h = refl
+drop_past (suc n) (x ∷ xs) h = drop_past n xs (omega arith)
+
+-- the only element
+pub sole : {X : Type 0} (x e : X) (k : ℕ) → k < 1 → slice_index_or (x ∷ []) k e ≡ e → e ≡ x
+sole x e zero less i = sym i
+sole x e (suc k) less i = absurd (omega arith)
