@@ -4,19 +4,22 @@ use Rattle.std.proofs.Common.{refl, sym, ◌∙◌, ap, subst, arith, cond, inl,
 use Rattle.std.specs.Prelude.{count_by}
 use Rattle.std.specs.List.{list_any}
 use Rattle.std.proofs.lemmas.List.Sums.{sum_by-cons}
+use Rattle.std.proofs.lemmas.Bool.{or_right}
+use Rattle.laws_words.proofs.BoolLemmas.{one_then}
 use Rattle.sts_code.specs.declared.instr.Joiner.{Joiner}
 use Rattle.sts_code.specs.declared.instr.Kind.{Kind}
 use Rattle.sts_code.specs.declared.instr.Kind.TheVariants.{S, F, U}
 use Rattle.sts_model.specs.declared.event.End.{End}
 use Rattle.sts_model.specs.declared.event.End.TheVariants.{Success, Failed}
 use Rattle.laws_runs.specs.Tallies.{is_kind}
-use Rattle.laws_calls.specs.Tasks.{AllTwo, May, Picks, HasWay}
+use Rattle.laws_calls.specs.Tasks.{May, Picks, HasWay}
 use Rattle.laws_calls.specs.declared.table.Way.{Way}
 use Rattle.laws_calls.specs.declared.table.Part.{Part}
 use Rattle.laws_calls.specs.declared.table.Asked.{Asked}
 use Rattle.laws_calls.specs.declared.table.Seen.{Seen}
 use Rattle.laws_calls.specs.Fitting.{heard_in, Agrees, Answers, Fits, ArePossible}
 use Rattle.laws_calls.specs.Triggers.{is_trigger, triggers}
+use Rattle.laws_calls.proofs.FittingLemmas.{all_length}
 use Rattle.ends_picks.specs.declared.groups.Group.{Group}
 use Rattle.ends_picks.specs.declared.groups.Group.TheVariants.{Counting, Of, Counted, Uncounted}
 use Rattle.ends_picks.specs.declared.ranges.Range.{Range}
@@ -25,35 +28,25 @@ use Rattle.ends_picks.specs.Ranges.{IsIn}
 
 -- ---- one part
 
-either : (a b : Bool) → b ≡ true → (a || b) ≡ true
-either true b e = refl
-either false b e = e
-
 some_way : (test : End → Bool) (ways : List Way) (e : End) → HasWay ways e → test e ≡ true → list_any (λ (way : Way). test way.end) ways ≡ true
 some_way test [] e at t = absurd at
 some_way test (way ∷ ways) e (inl same) t =
     let here : test way.end ≡ true = subst (λ z. test z ≡ true) (sym same) t in
     ap (λ b. b || list_any (λ (y : Way). test y.end) ways) here
-some_way test (way ∷ ways) e (inr at) t = either (test way.end) (list_any (λ (y : Way). test y.end) ways) (some_way test ways e at t)
+some_way test (way ∷ ways) e (inr at) t = or_right (test way.end) (list_any (λ (y : Way). test y.end) ways) (some_way test ways e at t)
 
 open_state : (a b c : Bool) → a ≡ true → b ≡ true → ((a && b) || c) ≡ true
 open_state a b c e f = ap (λ z. (z && b) || c) e ∙ ap (λ z. z || c) f
 
 part_in : (j : Joiner) (g : Group) (part : Part) (q : Option End) → May part q → is_in j g q ≡ true → may_be_in j g part ≡ true
 part_in j g part None may t = open_state part.is_open (has_unavailable g) _ may t
-part_in j g part (Some e) may t = either (part.is_open && has_unavailable g) _ (some_way (has_end j g) part.ways e may t)
+part_in j g part (Some e) may t = or_right (part.is_open && has_unavailable g) _ (some_way (has_end j g) part.ways e may t)
 
 part_out : (j : Joiner) (g : Group) (part : Part) (q : Option End) → May part q → not (is_in j g q) ≡ true → may_be_out j g part ≡ true
 part_out j g part None may t = open_state part.is_open (not (has_unavailable g)) _ may t
-part_out j g part (Some e) may t = either (part.is_open && not (has_unavailable g)) _ (some_way (λ z. not (has_end j g z)) part.ways e may t)
+part_out j g part (Some e) may t = or_right (part.is_open && not (has_unavailable g)) _ (some_way (λ z. not (has_end j g z)) part.ways e may t)
 
 -- ---- all parts
-
-one : (a b : Bool) → (a ≡ true → b ≡ true) → cond {A = ℕ} a 1 0 ≤ cond b 1 0
-one true true h = omega arith
-one true false h = let never = h refl in cc
-one false true h = omega arith
-one false false h = omega arith
 
 -- at most as many states pass as parts may
 few : (test : Option End → Bool) (can : Part → Bool) → ((part : Part) (q : Option End) → May part q → test q ≡ true → can part ≡ true) → (parts : List Part) (pick : List (Option End)) → Picks parts pick → count_by test pick ≤ count_by can parts
@@ -61,7 +54,7 @@ few test can each [] [] h = omega arith
 few test can each (part ∷ parts) (q ∷ pick) h =
     let n = sum_by-cons (λ (y : Part). cond (can y) 1 0) part parts in
     let m = sum_by-cons (λ (y : Option End). cond (test y) 1 0) q pick in
-    let here = one (test q) (can part) (each part q h.0) in
+    let here = one_then (test q) (can part) (each part q h.0) in
     let rest = few test can each parts pick h.1 in
     omega (arith, n, m, here, rest)
 few test can each [] (q ∷ pick) h = absurd h
@@ -81,18 +74,12 @@ split_count {X} test (x ∷ xs) =
     let rest = split_count test xs in
     omega (arith, n, m, here, rest)
 
-pub as_long : {X Y : Type 0} (R : X → Y → Type 0) (xs : List X) (ys : List Y) → AllTwo R xs ys → length xs ≡ length ys
-as_long R [] [] h = refl
-as_long R (x ∷ xs) (y ∷ ys) h = let e = as_long R xs ys h.1 in omega (arith, e)
-as_long R [] (y ∷ ys) h = absurd h
-as_long R (x ∷ xs) [] h = absurd h
-
 pub in_range : (j : Joiner) (g : Group) (parts : List Part) (pick : List (Option End)) (r : Range) → Picks parts pick → r.least ≤ length parts - count_by (may_be_out j g) parts → count_by (may_be_in j g) parts ≤ r.greatest → IsIn r (count_by (is_in j g) pick)
 in_range j g parts pick r h low high =
     let most = few (is_in j g) (may_be_in j g) (part_in j g) parts pick h in
     let out = few (λ q. not (is_in j g q)) (may_be_out j g) (part_out j g) parts pick h in
     let all = split_count (is_in j g) pick in
-    let long = as_long May parts pick h in
+    let long = all_length May parts pick h in
     record {
       least = omega (arith, out, all, long, low);
       greatest = omega (arith, most, high);
@@ -144,21 +131,6 @@ counting_ends j succeeds pick = sums (is_in j Counting) (is_in j (Counted succee
     by true (Some (Failed c)) = after (is_trigger j (Failed c))
     by false (Some (Success v)) = after (is_trigger j (Success v))
     by false (Some (Failed c)) = alone (is_trigger j (Failed c))
-
-pub all_kinds : (pick : List (Option End)) → count_by (is_kind S) pick + count_by (is_kind F) pick + count_by (is_kind U) pick ≡ length pick
-all_kinds [] = refl
-all_kinds (q ∷ pick) =
-    let s = sum_by-cons (λ (y : Option End). cond (is_kind S y) 1 0) q pick in
-    let f = sum_by-cons (λ (y : Option End). cond (is_kind F y) 1 0) q pick in
-    let u = sum_by-cons (λ (y : Option End). cond (is_kind U y) 1 0) q pick in
-    let here = by q in
-    let rest = all_kinds pick in
-    omega (arith, s, f, u, here, rest)
-  where
-    by : (q : Option End) → cond {A = ℕ} (is_kind S q) 1 0 + cond (is_kind F q) 1 0 + cond (is_kind U q) 1 0 ≡ 1
-    by None = refl
-    by (Some (Success v)) = refl
-    by (Some (Failed c)) = refl
 
 -- the ends that count are those of a pick
 pub counting_heard : (j : Joiner) (pick : List (Option End)) → count_by (is_in j Counting) pick ≡ triggers j (heard_in pick)

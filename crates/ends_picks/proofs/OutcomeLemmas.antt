@@ -10,24 +10,21 @@ use Rattle.sts_code.specs.declared.instr.Joiner.{Joiner}
 use Rattle.sts_code.specs.declared.instr.Kind.{Kind}
 use Rattle.sts_code.specs.declared.instr.Kind.TheVariants.{S, F, U}
 use Rattle.sts_model.specs.declared.event.End.{End}
-use Rattle.sts_model.specs.declared.event.Phase.{Phase}
-use Rattle.sts_model.specs.declared.event.Phase.TheVariants.{Opened, Attempted, Joined, Closing, Closed}
 use Rattle.sts_model.specs.Joining.{plus_value, total_of}
 use Rattle.laws_runs.specs.Tallies.{is_kind}
 use Rattle.laws_calls.specs.Tasks.{Among, May, Picks}
 use Rattle.laws_calls.specs.declared.table.Part.{Part}
 use Rattle.laws_calls.specs.declared.table.Seen.{Seen}
-use Rattle.laws_calls.specs.declared.table.Knowledge.{Knowledge}
-use Rattle.laws_calls.specs.declared.table.Knowledge.TheVariants.{Unseen, ByJoiner, Late, Heard}
-use Rattle.laws_calls.specs.Fitting.{heard_in, most, MayCount, Fits, Agrees}
+use Rattle.laws_calls.specs.Fitting.{heard_in, most, Fits, Agrees}
 use Rattle.laws_calls.specs.Triggers.{triggers}
+use Rattle.laws_calls.proofs.FittingLemmas.{all_length, counts_most}
 use Rattle.ends_picks.specs.declared.groups.Group.TheVariants.{Counting, Of}
 use Rattle.ends_picks.specs.declared.outcomes.Outcome.{Outcome}
 use Rattle.ends_picks.specs.Groups.{is_in}
 use Rattle.ends_picks.specs.Outcomes.{nothing, after, outcome_of, is_at_most, is_within}
 use Rattle.ends_picks.specs.Bounds.{counts_fit}
 use Rattle.ends_picks.proofs.BoundLemmas.{numbers_fit}
-use Rattle.ends_picks.proofs.GroupLemmas.{as_long, counting_heard, kind_group}
+use Rattle.ends_picks.proofs.GroupLemmas.{counting_heard, kind_group}
 use Rattle.ends_picks.proofs.ListLemmas.{two_at}
 
 -- ---- the counts of an outcome
@@ -71,21 +68,6 @@ total_is x pick = total_from x nothing pick
 le_true : (n m : ℕ) → n ≤ m → nat_le n m ≡ true
 le_true n m h = grind (arith, nat_tests)
 
--- no more ends count than may
-at_most : (q : Knowledge) (phase : Phase) (j : Joiner) (n : ℕ) → MayCount q phase j n → n ≤ most j
-at_most Unseen Opened j n m = m
-at_most Unseen Attempted j n m = m
-at_most Unseen Joined j n m = absurd m
-at_most Unseen Closing j n m = m
-at_most Unseen Closed j n m = m
-at_most ByJoiner Opened j n m = m
-at_most ByJoiner Attempted j n m = m
-at_most ByJoiner Joined j n m = m.1
-at_most ByJoiner Closing j n m = m
-at_most ByJoiner Closed j n m = m
-at_most Late phase j n m = m
-at_most Heard phase j n m = omega (arith, m)
-
 -- the count that was asked for
 asked_count : (answer : Option ℕ) (j : Joiner) (kind : Kind) (pick : List (Option End)) (n : ℕ) → Agrees answer (count_by (is_kind kind) pick) → n ≤ count_by (λ q. is_some answer && is_in j (Of kind) q) pick → is_at_most answer n ≡ true
 asked_count None j kind pick n agrees less = refl
@@ -102,7 +84,7 @@ take_few test i xs = sum_by-take-le (λ y. cond (test y) 1 0) xs i
 -- a part of a pick that fits is within the answers
 pub prefix_within : (x : Seen) (pick : List (Option End)) (i : ℕ) → Fits x pick → is_within x (outcome_of x (take i pick)) ≡ true
 prefix_within x pick i fits =
-    let counts = at_most x.knowledge x.phase x.joiner (triggers x.joiner (heard_in pick)) fits.counts in
+    let counts = counts_most x.knowledge x.phase x.joiner (triggers x.joiner (heard_in pick)) fits.counts in
     let heard = counting_heard x.joiner pick in
     let some = triggers_are x (take i pick) in
     let few = take_few (is_in x.joiner Counting) i pick in
@@ -127,7 +109,7 @@ outcome_more x pick i less = ap (λ (ps : List (Option End)). fold (after x) not
 pub outcomes_more : (x : Seen) (parts : List Part) (i : ℕ) (part : Part) (found slice more : List Outcome) → parts ≡ x.parts → slice ≡ found → i < length parts → part ≡ get_or parts i part → ((pick : List (Option End)) → Fits x pick → Among found (outcome_of x (take i pick))) → ((o : Outcome) (q : Option End) → Among slice o → May part q → is_within x (after x o q) ≡ true → Among more (after x o q)) → (pick : List (Option End)) → Fits x pick → Among more (outcome_of x (take (i + 1) pick))
 outcomes_more x parts i part found slice more whole same less is before extends pick fits =
     let picks : Picks parts pick = subst (λ ps. Picks ps pick) (sym whole) fits.picks in
-    let long = as_long May parts pick picks in
+    let long = all_length May parts pick picks in
     let low : i < length pick = omega (arith, less, long) in
     let e = outcome_more x pick i low in
     let may : May part (get_or pick i None) = subst (λ y. May y (get_or pick i None)) (sym is) (two_at May parts pick i part None picks less) in
@@ -143,7 +125,7 @@ counts_are_fit x pick fits =
 -- after all parts
 pub outcomes_all : (x : Seen) (parts : List Part) (i : ℕ) (found : List Outcome) → parts ≡ x.parts → length parts ≤ i → ((pick : List (Option End)) → Fits x pick → Among found (outcome_of x (take i pick))) → (pick : List (Option End)) → Fits x pick → Among found (outcome_of x pick)
 outcomes_all x parts i found whole done before pick fits =
-    let long = as_long May parts pick (subst (λ ps. Picks ps pick) (sym whole) fits.picks) in
+    let long = all_length May parts pick (subst (λ ps. Picks ps pick) (sym whole) fits.picks) in
     let all : take i pick ≡ pick = take_all i pick (omega (arith, long, done)) in
     subst (λ ps. Among found (outcome_of x ps)) all (before pick fits)
 

@@ -159,9 +159,6 @@ leads next can alike old new k events x within is all spread e comes d =
     let listed = all e (rw at at (comes x)) in
     subst (λ y. IsAmong alike new (next (slice_index_or old k d) y)) listed.2 (spread.there listed.0 listed.1 e d)
 
-pub holds_last : {S : Type 0} (xs : List S) (x : S) → Contains (xs ++ x ∷ []) x
-holds_last xs x = (length xs, omega (arith, length-append xs (x ∷ [])), get_or-append_seam xs x [] x)
-
 -- ---- a search that goes on
 
 pub searched_on : {S : Type 0} (next : S → Event → S) (can : S → Event → Bool) (alike : S → S → Type 0) (last : S → Bool) (old new : List S) (os origins : List Origin) (n : ℕ) → IsSearched next can alike last old os n

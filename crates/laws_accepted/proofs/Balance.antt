@@ -21,7 +21,7 @@ use Rattle.sts_model.specs.Standing.{is_standing_scope, is_standing_task, standi
 use Rattle.sts_model.specs.Standing.{standing_scopes, standing_bindings}
 use Rattle.laws_runs.proofs.SoundLemmas.{Sound}
 use Rattle.laws_runs.proofs.BirthLemmas.{born_alive}
-use Rattle.laws_runs.proofs.EntryLemmas.{Has, times_in, times-cons}
+use Rattle.laws_runs.proofs.EntryLemmas.{Has, times_in}
 use Rattle.laws_runs.proofs.EnteredLemmas.{Entered, some_times, times_none}
 use Rattle.laws_accepted.specs.Costs.{Peak, tasks_peak, scopes_peak, binds_peak, share}
 use Rattle.laws_accepted.specs.Costs.{subtask_shares, entry_use, use_of, slack, room}

@@ -1,13 +1,14 @@
 -- The place after `close`, at its first step and at its last.
-use Rattle.std.proofs.Common.{◌≡◌, ℕ, ◌+◌, ◌<◌, inl, List, [], ◌∷◌, length, map, drop, Bool, true}
+use Rattle.std.proofs.Common.{◌≡◌, ℕ, ◌<◌, inl, List, [], ◌∷◌, length, map, drop, Bool, true}
 use Rattle.std.proofs.Common.{false, Some, refl, sym, ◌∙◌, ap, subst, cond, get_or, arith, not}
-use Rattle.std.proofs.Common.{◌||◌, ◌&&◌, length-set, get_or-set_same, get_or-set_other}
+use Rattle.std.proofs.Common.{◌||◌, length-set, get_or-set_same, get_or-set_other}
 use Rattle.std.specs.Prelude.{◌==◌}
 use Rattle.std.specs.List.{list_any}
 use Rattle.std.proofs.lemmas.Bool.{cond_both, or_parts, not-false}
 use Rattle.std.proofs.lemmas.Bool.Decides.{nat_tests}
 use Rattle.std.proofs.lemmas.List.{length-map}
 use Rattle.std.proofs.Math.ListN.{get_or-map}
+use Rattle.laws_words.proofs.BoolLemmas.{other_false}
 use Rattle.sts_code.specs.Program.{Program}
 use Rattle.sts_code.specs.declared.instr.Instr.TheVariants.{Close}
 use Rattle.sts_model.specs.declared.event.Phase.{Phase}
@@ -22,7 +23,7 @@ use Rattle.sts_model.specs.declared.record.Slot.TheVariants.{Empty, Own, Lent, S
 use Rattle.sts_rules.specs.declared.typing.SlotKind.{SlotKind}
 use Rattle.sts_rules.specs.declared.typing.SlotKind.TheVariants as kind_of
 use Rattle.sts_rules.specs.declared.typing.TypedPhase.{TypedPhase}
-use Rattle.sts_rules.specs.declared.typing.TypedPhase.TheVariants.{Opened, Attempted, Joined, Late}
+use Rattle.sts_rules.specs.declared.typing.TypedPhase.TheVariants.{Opened}
 use Rattle.sts_rules.specs.declared.typing.TypedEntry.{TypedEntry}
 use Rattle.sts_rules.specs.declared.typing.TypedEntry.TheVariants as typed
 use Rattle.sts_model.specs.World.{World, task_at, scope_at, no_task, no_scope, instr_at}
@@ -196,10 +197,6 @@ entry-closed p w v f g x n at own apart keeps function others (entry.Scope m) (t
     }
 entry-closed p w v f g x n at own apart keeps function others e r behind none o = o
 
-pub second : (a b : Bool) → a ≡ true → (a && b) ≡ false → b ≡ false
-second true b d e = e
-second false b d e = cc
-
 lands-closed : (p : Program) (w : World) (t x n : ℕ) (s : TypeState) → AtClose p w t x n s → Landed p w t (closed (cancel w n) t (task_at w t).frame n)
 lands-closed p w t x n s h later =
     subst (λ (y : Frame). Lands p v f y) (sym frame)
@@ -233,7 +230,7 @@ lands-closed p w t x n s h later =
     frame = ap (λ (y : Task). y.frame) (get_or-set_same (cancel w n).tasks t _ no_task (rw ((kept-cancel w n).tasks) h.alive))
 
     first : cause.innermost (cause.is_scope_in x) s.entries ≡ true
-    first = not-false (cause.innermost (cause.is_scope_in x) s.entries) (or_parts (not (cause.innermost (cause.is_scope_in x) s.entries)) (cause.is_held s) (second (cause.is_own (kind s x)) (not (cause.innermost (cause.is_scope_in x) s.entries) || cause.is_held s) (kind-own w (task_at w t).frame (slot (task_at w t).frame x) (kind s x) n (h.stands.fits.slots x) h.own) h.stands.clear.structure)).0
+    first = not-false (cause.innermost (cause.is_scope_in x) s.entries) (or_parts (not (cause.innermost (cause.is_scope_in x) s.entries)) (cause.is_held s) (other_false (cause.is_own (kind s x)) (not (cause.innermost (cause.is_scope_in x) s.entries) || cause.is_held s) h.stands.clear.structure (kind-own w (task_at w t).frame (slot (task_at w t).frame x) (kind s x) n (h.stands.fits.slots x) h.own))).0
 
     cleared_at : (y : ℕ) → get_or (cleared (cancel w n) n (task_at w t).frame.slots) y Empty ≡ clear_slot (cancel w n) n (slot (task_at w t).frame y)
     cleared_at y = get_or-map (clear_slot (cancel w n) n) (task_at w t).frame.slots y Empty

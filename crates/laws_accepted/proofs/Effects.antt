@@ -1,7 +1,7 @@
 -- Every instruction that is no misuse keeps the facts about costs, with one step more.
 use Rattle.std.proofs.Common.{◌≡◌, ℕ, ◌+◌, ◌<◌, ◌≤◌, inl, List, [], ◌∷◌, ◌++◌, Bool, true, false}
 use Rattle.std.proofs.Common.{Option, Some, None, refl, sym, ◌∙◌, ap, subst, length, arith, cond}
-use Rattle.std.proofs.Common.{set, take, not, ◌||◌, ◌&&◌, drop, get_or-set_same, get_or-set_other}
+use Rattle.std.proofs.Common.{set, take, not, ◌&&◌, drop, get_or-set_same, get_or-set_other}
 use Rattle.std.proofs.Common.{length-set}
 use Rattle.std.specs.Prelude.{nat_lt, unwrap_or, pos, is_some}
 use Rattle.std.proofs.lemmas.Bool.{cond_both, or_parts, and_parts, not-false}

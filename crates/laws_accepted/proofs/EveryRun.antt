@@ -1,5 +1,5 @@
 -- Every run of an accepted program, from the laws of every program and those of costs.
-use Rattle.std.proofs.Common.{◌≡◌, ℕ, ◌<◌, ◌≤◌, List, length, true, None}
+use Rattle.std.proofs.Common.{◌≡◌, ◌<◌, ◌≤◌, List, length, None}
 use Rattle.sts_code.specs.Checks.{program_fault}
 use Rattle.sts_code.specs.Program.{Program}
 use Rattle.sts_rules.specs.declared.budget.Budgets.{Budgets}
@@ -16,7 +16,7 @@ use Rattle.laws_accepted.specs.Accepted as accepted
 use Rattle.laws_accepted.specs.Accepted.{main_of, AllFine, LivingTasksAreFine, HasStepsLeft}
 use Rattle.laws_accepted.specs.EveryRun.{RunsWell, ClosedAreEmpty, RootIsLast}
 use Rattle.laws_accepted.proofs.Faults.{holds-in}
-use Rattle.laws_accepted.proofs.Printed.{known, with_main, all_typed}
+use Rattle.laws_accepted.proofs.Printed.{with_main, all_typed}
 
 -- while a task lives a step is left
 pub a_step_is_left : (p : Program) → program_fault p.routines ≡ None → 0 < length p.routines → IsAccepted p → LivingTasksAreFine p → AStepIsLeft → accepted.AStepIsLeft p

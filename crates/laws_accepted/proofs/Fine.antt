@@ -40,11 +40,12 @@ use Rattle.sts_model.specs.Environment.{read, environment_of}
 use Rattle.sts_model.specs.Misuse as misuse
 use Rattle.sts_code.specs.Facts as facts
 use Rattle.sts_model.specs.Standing.{standing_tasks}
-use Rattle.sts_model.specs.Misuse.{slot, fault_of, IsFine}
+use Rattle.sts_model.specs.Misuse.{slot, IsFine}
 use Rattle.sts_rules.specs.TypeState.{TypeState, kind, scope_in}
 use Rattle.sts_rules.specs.Causes as cause
 use Rattle.sts_model.specs.Effect.{named}
-use Rattle.std.proofs.lemmas.Bool.{or_parts, not-false, and_from, not_from_true}
+use Rattle.std.proofs.lemmas.Bool.{or_parts, not-false, and_from, not_from_true, or_from, and_parts}
+use Rattle.laws_words.proofs.BoolLemmas.{other_false}
 use Rattle.laws_runs.proofs.FrameLemmas.{own_slot, at_own-is}
 use Rattle.laws_runs.proofs.EffectLemmas.{first_no}
 use Rattle.laws_accepted.specs.Typed.{closes, fits_phase, crowds, is_due, Covers, FitsEntry}
@@ -55,14 +56,9 @@ use Rattle.laws_accepted.proofs.Checked.{instr_checked}
 use Rattle.laws_accepted.proofs.FrameRows.{kind-own}
 use Rattle.laws_accepted.proofs.Phases.{InSlot, in-slot}
 use Rattle.laws_accepted.proofs.JoinRows.{own-scope}
-use Rattle.laws_accepted.proofs.CloseRows.{second}
 use Rattle.laws_accepted.proofs.Steps.{covers-environment}
 
 -- ---- small tests
-
-neither-of : (a b : Bool) → a ≡ false → b ≡ false → (a || b) ≡ false
-neither-of true b d e = cc
-neither-of false b d e = e
 
 not-both : (a b : Bool) → (a ≡ true → b ≡ false) → (a && b) ≡ false
 not-both true b h = h refl
@@ -71,10 +67,6 @@ not-both false b h = refl
 first-of : (a b : Bool) → (a && b) ≡ true → a ≡ true
 first-of true b e = refl
 first-of false b e = cc
-
-second-of : (a b : Bool) → (a && b) ≡ true → b ≡ true
-second-of true b e = e
-second-of false b e = cc
 
 -- ---- slots and their kinds
 
@@ -117,7 +109,7 @@ wrong_slots p w f i s st =
 
 fine-slots : (p : Program) (w : World) (f : Frame) (i : Instr) (s : TypeState) → Stands p w f i s → misuse.has_wrong_slot f i ≡ false
 fine-slots p w f (Cancelled x) s st = ap not (same-scope w f (slot f x) (kind s x) (st.fits.slots x)) ∙ st.clear.slots
-fine-slots p w f i s st = wrong_slots p w f i s st ∙ neither-of _ _ st.clear.slots st.clear.free
+fine-slots p w f i s st = wrong_slots p w f i s st ∙ or_from _ _ st.clear.slots st.clear.free
 
 fine-own : (p : Program) (w : World) (f : Frame) (i : Instr) (s : TypeState) → Stands p w f i s → misuse.is_strangers f i ≡ false
 fine-own p w f i s st = at-slots w f s (facts.owners_slot i) misuse.is_lent cause.is_lent (λ y. same-lent w f (slot f y) (kind s y) (st.fits.slots y)) ∙ st.clear.own
@@ -140,7 +132,7 @@ same-closing is pc [] (k ∷ ks) e = cc
 same-closing is pc (l ∷ ls) [] e = cc
 
 fine-loops : (p : Program) (w : World) (f : Frame) (i : Instr) (s : TypeState) → Stands p w f i s → misuse.breaks_loop p f i ≡ false
-fine-loops p w f (Times n) s st = neither-of (is_none (match_of (code p f) f.pc)) (nat_le 8 (length f.loops)) (or_parts _ _ (or_parts _ _ st.clear.loops).0).0 (rw (many-loops f s st.fits.loops) st.clear.depth)
+fine-loops p w f (Times n) s st = or_from (is_none (match_of (code p f) f.pc)) (nat_le 8 (length f.loops)) (or_parts _ _ (or_parts _ _ st.clear.loops).0).0 (rw (many-loops f s st.fits.loops) st.clear.depth)
 fine-loops p w f Next s st = ap not (same-closing (code p f) f.pc f.loops s.loops st.fits.loops) ∙ (or_parts _ _ (or_parts _ _ st.clear.loops).0).0
 fine-loops p w f i s st = refl
 
@@ -157,7 +149,7 @@ at_sub-fails w _ test h = refl
 
 -- the scope of the typestate passes no test of causes
 passes-not : (s : TypeState) (x : ℕ) (r : TypedScope) (test : TypedScope → Bool) → cause.is_own (kind s x) ≡ true → scope_in s.entries x ≡ Some r → cause.at_own s x (cause.passes test) ≡ false → test r ≡ false
-passes-not s x r test own there e = let h = second (cause.is_own (kind s x)) (cause.passes test (scope_in s.entries x)) own e in rw there at h
+passes-not s x r test own there e = let h = other_false (cause.is_own (kind s x)) (cause.passes test (scope_in s.entries x)) e own in rw there at h
 
 fine-joins : (p : Program) (w : World) (f : Frame) (i : Instr) (s : TypeState) → Stands p w f i s → misuse.misjoins w f i ≡ false
 fine-joins p w f (Join x failed timeout interrupted) s st =
@@ -169,7 +161,7 @@ fine-joins p w f (Join x failed timeout interrupted) s st =
     let targets = or_parts _ _ (passes-not s x r.0 (λ (q : TypedScope). not (facts.same (is_some failed) (facts.can_fail q.joiner)) || not (facts.same (is_some timeout) q.timed)) k r.1.0 st.clear.joins) in
     let over = or_parts (nat_lt 32 (s.height - 0 + 0)) (nat_le 32 s.height && cause.at_own s x (cause.passes (λ (q : TypedScope). not (facts.is_await_all q.joiner)))) st.clear.room in
     rw (scope.joiner, scope.timed, st.fits.height)
-    (neither-of _ _ (neither-of _ _ (not-both (nat_le 32 s.height) _ (λ full. passes-not s x r.0 (λ (q : TypedScope). not (facts.is_await_all q.joiner)) k r.1.0 (second (nat_le 32 s.height) _ full over.1))) targets.0) targets.1))
+    (or_from _ _ (or_from _ _ (not-both (nat_le 32 s.height) _ (λ full. passes-not s x r.0 (λ (q : TypedScope). not (facts.is_await_all q.joiner)) k r.1.0 (other_false (nat_le 32 s.height) _ over.1 full))) targets.0) targets.1))
 fine-joins p w f i s st = refl
 
 -- ---- phases
@@ -223,7 +215,7 @@ sub-known p w f i s (Sub v) (kind_of.Sub y state) u test st none h legal e =
     let r = own-scope p w f s y h.scope (cause.is_readable p.profile) st.fits h.own (denied-own (cause.is_own (kind s y)) (cause.passes (cause.is_readable p.profile) (scope_in s.entries y)) readable) in
     let fine = readable-phase p.profile r.0.phase (scope_at w h.scope).phase (scope_at w h.scope).expired r.1.1 (not-at-close p w f i y h.scope r.0 st.at none r.1.2) in
     rw (← same)
-    (state, (second-of (cause.passes (cause.is_readable p.profile) (scope_in s.entries y)) (test state) all, h.known, rw (h.inside) fine))
+    (state, ((and_parts (cause.passes (cause.is_readable p.profile) (scope_in s.entries y)) (test state) all).1, h.known, rw (h.inside) fine))
   where
     denied-own : (a b : Bool) → b ≡ true → (a && not b) ≡ false
     denied-own true b e = not_from_true b e
@@ -260,7 +252,7 @@ innermost-scope (typed.Scope r ∷ rs) x e = (r, rw e refl)
 innermost-own : (p : Program) (w : World) (f : Frame) (s : TypeState) (x n : ℕ) → Stands p w f (Close x) s → slot f x ≡ Own n → cause.innermost (cause.is_scope_in x) s.entries ≡ true
 innermost-own p w f s x n st own =
     not-false (cause.innermost (cause.is_scope_in x) s.entries)
-    (or_parts (not (cause.innermost (cause.is_scope_in x) s.entries)) (cause.is_held s) (second (cause.is_own (kind s x)) (not (cause.innermost (cause.is_scope_in x) s.entries) || cause.is_held s) (kind-own w f (slot f x) (kind s x) n (st.fits.slots x) own) st.clear.structure)).0
+    (or_parts (not (cause.innermost (cause.is_scope_in x) s.entries)) (cause.is_held s) (other_false (cause.is_own (kind s x)) (not (cause.innermost (cause.is_scope_in x) s.entries) || cause.is_held s) st.clear.structure (kind-own w f (slot f x) (kind s x) n (st.fits.slots x) own))).0
 
 fine-close : (p : Program) (w : World) (f : Frame) (s : TypeState) (x n : ℕ) → Stands p w f (Close x) s → slot f x ≡ Own n → misuse.is_opened (scope_at w n).phase ≡ false
 fine-close p w f s x n st own =
@@ -341,7 +333,7 @@ same-binding p w f (entry.Scope m ∷ es) (typed.Binding i ∷ rs) z = absurd z.
 fine-structure : (p : Program) (w : World) (f : Frame) (i : Instr) (s : TypeState) → Stands p w f i s → misuse.breaks_structure w f i ≡ false
 fine-structure p w f (Fork x g q) s st =
     at_own-fails w (slot f x) (λ n _. misuse.binds_after n f.entries)
-    (λ n own. same-after p w f f.entries s.entries x n st.fits.apart own st.fits.entries (second (cause.is_own (kind s x)) (cause.binds_after x s.entries) (kind-own w f (slot f x) (kind s x) n (st.fits.slots x) own) st.clear.structure))
+    (λ n own. same-after p w f f.entries s.entries x n st.fits.apart own st.fits.entries (other_false (cause.is_own (kind s x)) (cause.binds_after x s.entries) st.clear.structure (kind-own w f (slot f x) (kind s x) n (st.fits.slots x) own)))
 fine-structure p w f (Close x) s st =
     at_own-fails w (slot f x) (λ n _. not (misuse.innermost (misuse.is_entry_of n) f.entries))
     (λ n own. not_from_true _ (same-innermost p w f f.entries s.entries x n own st.fits.entries (innermost-own p w f s x n st own)))
@@ -369,7 +361,7 @@ forks-own : (p : Program) (w : World) (f : Frame) (x g : ℕ) (h : Option ℕ) (
 forks-own p w f x g h s st = own_slot (slot f x) (first_no _ _ (first_no _ _ (fine-slots p w f (Fork x g h) s st))) (fine-own p w f (Fork x g h) s st)
 
 fine-births : (p : Program) (w : World) (f : Frame) (i : Instr) (s : TypeState) → Stands p w f i s → crowds w f (Some i) ≡ false → misuse.has_no_room w f i ≡ false
-fine-births p w f (Open x joiner timed) s st room = neither-of (nat_le 16 (length f.entries)) _ (rw (zips-length (FitsEntry p w f) f.entries s.entries st.fits.entries) st.clear.nesting) room
+fine-births p w f (Open x joiner timed) s st room = or_from (nat_le 16 (length f.entries)) _ (rw (zips-length (FitsEntry p w f) f.entries s.entries st.fits.entries) st.clear.nesting) room
 fine-births p w f (Bind k) s st room = rw (zips-length (FitsEntry p w f) f.entries s.entries st.fits.entries) st.clear.nesting
 fine-births p w f (Fork x g h) s st room =
     sym (at_own-is w (slot f x) (λ r scope. misuse.is_crowded (standing_tasks w) (length w.tasks)) (forks-own p w f x g h s st)) ∙ room

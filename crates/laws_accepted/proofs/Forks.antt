@@ -16,8 +16,7 @@ use Rattle.sts_model.specs.declared.record.Slot.{Slot}
 use Rattle.sts_model.specs.declared.record.Slot.TheVariants as slots
 use Rattle.sts_model.specs.declared.record.Frame.{Frame}
 use Rattle.sts_model.specs.declared.record.Task.{Task}
-use Rattle.sts_model.specs.World.{World, task_at, scope_at, no_task, code, with_task, with_frame}
-use Rattle.sts_model.specs.World.{entry_frame}
+use Rattle.sts_model.specs.World.{World, task_at, scope_at, no_task, code, with_frame}
 use Rattle.sts_model.specs.World as world
 use Rattle.sts_model.specs.Living.{lives}
 use Rattle.sts_model.specs.Misuse.{slot, is_empty}
@@ -25,7 +24,7 @@ use Rattle.sts_model.specs.Effect.{subtask_of, forked, with_slot}
 use Rattle.sts_model.specs.Waiting.{stand_at}
 use Rattle.sts_rules.specs.ControlPaths.{start}
 use Rattle.sts_rules.specs.Budget as budget
-use Rattle.sts_rules.specs.Budget.{budget_at, no_budget, entries_of, steps_of}
+use Rattle.sts_rules.specs.Budget.{budget_at, no_budget, steps_of}
 use Rattle.laws_runs.proofs.ListLemmas.{at_set, past}
 use Rattle.laws_runs.proofs.BirthLemmas.{more_tasks, born_alive, new-owns_nothing}
 use Rattle.laws_runs.proofs.FrameLemmas.{owns-with_slot}

@@ -1,7 +1,7 @@
 -- The place after `join`.
 use Rattle.std.proofs.Common.{◌≡◌, ℕ, ◌+◌, ◌<◌, inl, inr, List, [], ◌∷◌, ◌++◌, length, Bool, true}
 use Rattle.std.proofs.Common.{false, Option, Some, None, refl, sym, ◌∙◌, ap, subst, cond, get_or}
-use Rattle.std.proofs.Common.{arith, not, ◌||◌, ◌&&◌, unwrap_or, length-append, get_or-set_same}
+use Rattle.std.proofs.Common.{arith, not, ◌||◌, unwrap_or, length-append, get_or-set_same}
 use Rattle.std.proofs.Common.{get_or-set_other}
 use Rattle.std.specs.Prelude.{ℤ, pos, ◌==◌, is_some, find, option_map}
 use Rattle.std.specs.List.{list_any}
@@ -9,6 +9,7 @@ use Rattle.std.proofs.lemmas.Bool.{cond_both, or_parts, not-false}
 use Rattle.std.proofs.lemmas.Bool.Decides.{nat_tests}
 use Rattle.std.proofs.lemmas.List.{length-map}
 use Rattle.std.proofs.Math.ListN.{get_or-map}
+use Rattle.laws_words.proofs.BoolLemmas.{other_false}
 use Rattle.sts_code.specs.Program.{Program, routine}
 use Rattle.sts_code.specs.declared.instr.Instr.{Instr}
 use Rattle.sts_code.specs.declared.instr.Instr.TheVariants.{Join}
@@ -317,12 +318,8 @@ passed test (Some r) e = (r, (refl, not-false (test r) e))
 pub own-scope : (p : Program) (w : World) (f : Frame) (s : TypeState) (x n : ℕ) (test : TypedScope → Bool) → Fits p w f s → slot f x ≡ Own n → cause.at_own s x (λ scope. not (cause.passes test scope)) ≡ false → (r : TypedScope) × ((scope_in s.entries x ≡ Some r) × (test r ≡ true) × InSlot p w f x n r)
 own-scope p w f s x n test h own e =
     let k : cause.is_own (kind s x) ≡ true = kind-own w f (slot f x) (kind s x) n (h.slots x) own in
-    let q = passed test (scope_in s.entries x) (second (cause.is_own (kind s x)) (not (cause.passes test (scope_in s.entries x))) k e) in
+    let q = passed test (scope_in s.entries x) (other_false (cause.is_own (kind s x)) (not (cause.passes test (scope_in s.entries x))) e k) in
     (q.0, (q.1.0, q.1.1, in-slot p w f f.entries s.entries x n q.0 h.entries q.1.0 own))
-  where
-    second : (a b : Bool) → a ≡ true → (a && b) ≡ false → b ≡ false
-    second true b d e = e
-    second false b d e = cc
 
 pub as_same : (a b : Bool) → not (same a b) ≡ false → b ≡ true → a ≡ true
 as_same true b e h = refl

@@ -20,6 +20,7 @@ use Rattle.sts_model.specs.Misuse.{slot}
 use Rattle.sts_rules.specs.TypeState.{scope_in}
 use Rattle.sts_rules.specs.Causes.{needs, binds, binds_after}
 use Rattle.std.proofs.lemmas.Bool.{or_parts}
+use Rattle.laws_words.proofs.BoolLemmas.{other_true}
 use Rattle.laws_accepted.specs.Typed.{is_due, Covers, FitsEntry, Zips}
 
 other_due : (a b c : Bool) → a ≡ false → ((a || b) || c) ≡ true → (b || c) ≡ true
@@ -69,12 +70,7 @@ none_in test a (suc n) k e low high = by (a == k) refl (or_parts (test a) (list_
     by true d h next = let same : a ≡ k = grind (arith, nat_tests) in rw (← same) h.0
     by false d h next = let other : a ≢ k = grind (arith, nat_tests) in next h.1 (omega (arith, low, other)) (omega (arith, high))
 
-if_needed : (a b : Bool) → (a && not b) ≡ false → a ≡ true → b ≡ true
-if_needed true true e h = refl
-if_needed true false e h = cc
-if_needed false b e h = cc
-
 -- bindings that cover all that is due cover the needs of a function that may be forked
 pub covers-child : (p : Program) (f g : ℕ) (rs : List TypedEntry) (environment : List Bound) → list_any (λ k. needs p g k && not (is_due p f rs k)) (range_with_len 0 16) ≡ false → Covers p f rs environment → Covers p g [] environment
 covers-child p f g rs environment none h k less due =
-    h k less (if_needed (needs p g k) (is_due p f rs k) (none_in (λ k. needs p g k && not (is_due p f rs k)) 0 16 k none (omega arith) (omega (arith, less))) due)
+    h k less (other_true (needs p g k) (is_due p f rs k) (none_in (λ k. needs p g k && not (is_due p f rs k)) 0 16 k none (omega arith) (omega (arith, less))) due)

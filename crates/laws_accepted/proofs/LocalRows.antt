@@ -1,7 +1,7 @@
 -- The places after local instructions.
 use Rattle.std.proofs.Common.{◌≡◌, ℕ, ◌+◌, ◌-◌, ◌<◌, ◌≤◌, inl, inr, List, [], ◌∷◌, ◌++◌, length}
-use Rattle.std.proofs.Common.{map, drop, Bool, true, false, Option, Some, None, refl, sym, ◌∙◌, ap}
-use Rattle.std.proofs.Common.{not, arith, unwrap_or, length-append, length-drop}
+use Rattle.std.proofs.Common.{map, drop, true, false, Option, Some, None, refl, sym, ◌∙◌, ap}
+use Rattle.std.proofs.Common.{arith, unwrap_or, length-append, length-drop}
 use Rattle.std.specs.Prelude.{ℤ, pos, is_none, nat_le, option_map, option_to_list, ◌==◌}
 use Rattle.std.specs.Int.{int_wrapping_div, w64}
 use Rattle.std.specs.Ordering.{int_eq}

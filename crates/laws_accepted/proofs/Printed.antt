@@ -1,9 +1,9 @@
 -- The budgets that are printed are those of the laws of costs.
-use Rattle.std.proofs.Common.{◌≡◌, ℕ, ◌+◌, ◌-◌, ◌<◌, List, [], ◌∷◌, ◌++◌, length, None, ap, refl}
+use Rattle.std.proofs.Common.{◌≡◌, ◌<◌, List, [], ◌∷◌, ◌++◌, length, None, ap, refl}
 use Rattle.std.proofs.Common.{sym, ◌∙◌, subst, arith}
 use Rattle.std.proofs.Math.Seq.{get_or-append_seam}
 use Rattle.sts_code.specs.Checks.{program_fault}
-use Rattle.sts_code.specs.Program.{Program, routine}
+use Rattle.sts_code.specs.Program.{Program}
 use Rattle.sts_rules.specs.declared.budget.Budgets.{Budgets}
 use Rattle.sts_model.specs.declared.event.Event.{Event}
 use Rattle.sts_model.specs.World.{World}
@@ -13,7 +13,7 @@ use Rattle.sts_model.specs.Run.{after}
 use Rattle.sts_verify.proofs.BudgetLemmas.{budgets_more, budget_is, budget_of-one}
 use Rattle.laws_runs.specs.Runs.{In}
 use Rattle.laws_accepted.specs.Costs.{HasBudgets, AreTyped, main_budget}
-use Rattle.laws_accepted.specs.Accepted.{main_of, ArePrinted, BudgetsArePrinted, WithMain}
+use Rattle.laws_accepted.specs.Accepted.{main_of, BudgetsArePrinted, WithMain}
 
 -- the budgets before those of `main`, and these
 pub record Known (p : Program) (b : Budgets) : Type 0 where

@@ -1,22 +1,21 @@
 -- There is room for each task and scope that a run of an accepted program makes, so its living
 -- tasks misuse nothing.
-use Rattle.std.proofs.Common.{◌≡◌, ℕ, true, false, Option, Some, None, refl, length}
+use Rattle.std.proofs.Common.{◌≡◌, ℕ, false, Option, Some, None, refl, length}
 use Rattle.sts_code.specs.Checks.{program_fault}
 use Rattle.sts_code.specs.Program.{Program}
 use Rattle.sts_code.specs.declared.instr.Instr.{Instr}
 use Rattle.sts_code.specs.declared.instr.Instr.TheVariants.{Open, Fork}
 use Rattle.sts_model.specs.declared.record.Frame.{Frame}
 use Rattle.sts_model.specs.declared.record.Slot.{Slot}
-use Rattle.sts_model.specs.declared.record.Slot.TheVariants.{Empty, Own, Lent, Sub}
+use Rattle.sts_model.specs.declared.record.Slot.TheVariants.{Own}
 use Rattle.sts_model.specs.World.{World, State, Running, Faulted, task_at, instr_at}
-use Rattle.sts_model.specs.Living.{lives}
 use Rattle.sts_model.specs.Misuse.{slot, at_own, is_crowded}
 use Rattle.sts_model.specs.Standing.{standing_tasks}
 use Rattle.sts_rules.specs.Refusal.{IsAccepted}
 use Rattle.sts_model.specs.Run.{after}
 use Rattle.laws_runs.specs.Runs.{In}
 use Rattle.laws_accepted.specs.Costs.{AcceptedHasPlace, HasPlaceFor, HasPlace}
-use Rattle.laws_accepted.specs.Typed.{crowds, is_crowding, WantsRoomAlone, OnlyRoomIsWanted}
+use Rattle.laws_accepted.specs.Typed.{crowds, WantsRoomAlone, OnlyRoomIsWanted}
 use Rattle.laws_accepted.specs.Accepted.{AllFine, LivingTasksAreFine}
 
 -- no instruction breaks a limit, if there is room for it

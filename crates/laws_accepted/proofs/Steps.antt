@@ -33,7 +33,6 @@ use Rattle.laws_runs.proofs.SoundLemmas.{Sound}
 use Rattle.laws_runs.proofs.BirthLemmas.{more_tasks, more_scopes, new_scope, opener}
 use Rattle.laws_runs.proofs.BirthLemmas.{later-more_scopes, later-more_tasks, IsFresh, born_alive}
 use Rattle.laws_runs.proofs.EventLemmas.{Also}
-use Rattle.laws_runs.proofs.OrderlyLemmas.{Orderly}
 use Rattle.laws_accepted.specs.Typed.{Covers, AllTyped}
 use Rattle.laws_accepted.proofs.Same.{Knows, Same, samescope-refl}
 use Rattle.laws_accepted.proofs.TimelyLemmas.{Timely, also-orderly}

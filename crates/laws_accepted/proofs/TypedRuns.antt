@@ -1,11 +1,13 @@
 -- In every state of every run of an accepted program each living task is typed.
 use Rattle.std.proofs.Common.{◌≡◌, ℕ, zero, suc, ◌+◌, ◌-◌, ◌<◌, ◌≤◌, List, [], ◌∷◌, length, Bool}
 use Rattle.std.proofs.Common.{true, false, Option, Some, None, refl, sym, ◌∙◌, ap, subst, cond}
-use Rattle.std.proofs.Common.{get_or, arith, ◌&&◌, nat_lt, length-set, length-append}
+use Rattle.std.proofs.Common.{get_or, arith, nat_lt, length-set, length-append}
 use Rattle.std.proofs.Common.{get_or-set_same, get_or-set_other}
 use Rattle.std.specs.Prelude.{ℤ, ◌==◌, reverse, take}
 use Rattle.std.proofs.lemmas.Bool.Decides.{nat_tests}
 use Rattle.std.proofs.Math.Seq.{get_or-append_seam}
+use Rattle.std.proofs.Math.Bool.{and-false}
+use Rattle.laws_words.proofs.BoolLemmas.{other_false}
 use Rattle.sts_code.specs.Checks.{program_fault}
 use Rattle.sts_code.specs.Program.{Program, routine}
 use Rattle.sts_code.specs.declared.instr.Instr.{Instr}
@@ -50,7 +52,6 @@ use Rattle.laws_accepted.proofs.Checked.{instr_checked, main_needs_nothing}
 use Rattle.laws_accepted.proofs.BirthRows.{fits-beginning}
 use Rattle.laws_accepted.proofs.FrameRows.{kind-own}
 use Rattle.laws_accepted.proofs.JoinRows.{own-scope}
-use Rattle.laws_accepted.proofs.CloseRows.{second}
 use Rattle.laws_accepted.proofs.Steps.{Sure, also-timely, landed}
 
 -- an accepted program
@@ -121,14 +122,10 @@ end-dies w t end alive still =
     let x : Task = task_at v t in
     let now : (task_at v t).outcome ≡ Some end = ap (λ (y : Task). y.outcome) (get_or-set_same w.tasks t _ no_task (born_alive w t alive)) in
     let k = (kept-tell v t (task_at w t).scope end).task t in
-    let dead : lives (task_at v t) ≡ false = rw now (never (task_at v t).started) in
+    let dead : lives (task_at v t) ≡ false = rw now (and-false (task_at v t).started) in
     let later = dead_later (task_at v t) (task_at (end_task w t (task_at w t).frame end) t) k dead in
     let no : true ≡ false = sym still ∙ later in
     cc
-  where
-    never : (b : Bool) → (b && false) ≡ false
-    never true = refl
-    never false = refl
 
 -- ---- the child of a fork
 
@@ -143,7 +140,7 @@ begins-lent p w a n args less = by (a + 1 == length p.routines) (grind (arith, n
 child-bound : (p : Program) (w : World) (f : Frame) (x a n : ℕ) (h : Option ℕ) (s : TypeState) → Stands p w f (Fork x a h) s → slot f x ≡ slots.Own n → Covers p a [] (scope_at w n).environment
 child-bound p w f x a n h s st own =
     let r = own-scope p w f s x n cause.is_opened st.fits own st.clear.legal in
-    let after : cause.binds_after x s.entries ≡ false = second (cause.is_own (kind s x)) (cause.binds_after x s.entries) (kind-own w f (slot f x) (kind s x) n (st.fits.slots x) own) st.clear.structure in
+    let after : cause.binds_after x s.entries ≡ false = other_false (cause.is_own (kind s x)) (cause.binds_after x s.entries) st.clear.structure (kind-own w f (slot f x) (kind s x) n (st.fits.slots x) own) in
     covers-child p f.function a s.entries (scope_at w n).environment st.clear.bound (covers-scope p w f f.entries s.entries x n r.0 st.fits.entries after r.1.0 own)
 
 -- the new task is typed

@@ -3,6 +3,7 @@ use Rattle.std.proofs.Common.{◌≡◌, ℕ, ◌+◌, inl, List, [], ◌∷◌,
 use Rattle.std.proofs.Common.{Bool, true, false, Option, Some, None, refl, sym, ◌∙◌, ap, subst, drop}
 use Rattle.std.proofs.Common.{set, not, ◌||◌, ◌&&◌, arith}
 use Rattle.std.specs.Prelude.{slice_get, count_by, filter_map, unwrap_or, pos, is_some}
+use Rattle.std.proofs.lemmas.Bool.{and_parts, not-false}
 use Rattle.sts_code.specs.Program.{Program}
 use Rattle.sts_code.specs.declared.instr.Instr.{Instr}
 use Rattle.sts_code.specs.declared.instr.Instr.TheVariants.{Cancelled, Case, Get, Except, Tally, Total, Forget}
@@ -87,20 +88,16 @@ at_sub-is w _ test e = cc
 
 -- a subtask that may be read is in the state for it
 readable_success : (p : Program) (w : World) (f : Frame) (x : ℕ) → slot f x ≡ slots.Sub (named (slot f x)) → is_illegal p w f (Get x) ≡ false → has_succeeded (sub_state w (named (slot f x))) ≡ true
-readable_success p w f x mine e = by (is_readable p.profile (scope_of w (named (slot f x)))) (has_succeeded (sub_state w (named (slot f x)))) (sym (at_sub-is w (slot f x) (λ q scope. not (is_readable p.profile scope && has_succeeded (sub_state w q))) mine) ∙ e)
-  where
-    by : (a b : Bool) → not (a && b) ≡ false → b ≡ true
-    by true true d = refl
-    by true false d = cc
-    by false b d = cc
+readable_success p w f x mine e =
+    let a = is_readable p.profile (scope_of w (named (slot f x))) in
+    let b = has_succeeded (sub_state w (named (slot f x))) in
+    (and_parts a b (not-false (a && b) (sym (at_sub-is w (slot f x) (λ q scope. not (is_readable p.profile scope && has_succeeded (sub_state w q))) mine) ∙ e))).1
 
 readable_failure : (p : Program) (w : World) (f : Frame) (x : ℕ) → slot f x ≡ slots.Sub (named (slot f x)) → is_illegal p w f (Except x) ≡ false → has_failed (sub_state w (named (slot f x))) ≡ true
-readable_failure p w f x mine e = by (is_readable p.profile (scope_of w (named (slot f x)))) (has_failed (sub_state w (named (slot f x)))) (sym (at_sub-is w (slot f x) (λ q scope. not (is_readable p.profile scope && has_failed (sub_state w q))) mine) ∙ e)
-  where
-    by : (a b : Bool) → not (a && b) ≡ false → b ≡ true
-    by true true d = refl
-    by true false d = cc
-    by false b d = cc
+readable_failure p w f x mine e =
+    let a = is_readable p.profile (scope_of w (named (slot f x))) in
+    let b = has_failed (sub_state w (named (slot f x))) in
+    (and_parts a b (not-false (a && b) (sym (at_sub-is w (slot f x) (λ q scope. not (is_readable p.profile scope && has_failed (sub_state w q))) mine) ∙ e))).1
 
 -- a scope whose subtasks may be read is joined
 joined_scope : (p : Program) (w : World) (f : Frame) (x : ℕ) → slot f x ≡ slots.Own (named (slot f x)) → at_own w (slot f x) (λ n scope. not (is_readable p.profile scope)) ≡ false → is_joined (scope_at w (named (slot f x))).phase ≡ true

@@ -1,16 +1,17 @@
 -- What became of the subtasks of a scope, counted.
-use Rattle.std.proofs.Common.{◌≡◌, ℕ, suc, ◌+◌, List, [], ◌∷◌, Bool, true, false, Option, Some, None}
+use Rattle.std.proofs.Common.{◌≡◌, ℕ, List, [], ◌∷◌, Bool, true, false, Option}
 use Rattle.std.proofs.Common.{refl, sym, ◌∙◌, ap, length, map, arith, cond, ◌&&◌}
 use Rattle.std.specs.Prelude.{count_by}
 use Rattle.std.specs.List.{filter}
 use Rattle.std.proofs.lemmas.List.Sums.{sum_by-cons}
+use Rattle.std.proofs.lemmas.List.{length-map}
 use Rattle.sts_code.specs.declared.instr.Kind.{Kind}
 use Rattle.sts_code.specs.declared.instr.Kind.TheVariants.{S, F, U}
 use Rattle.sts_model.specs.declared.event.End.{End}
-use Rattle.sts_model.specs.declared.event.End.TheVariants.{Success, Failed}
 use Rattle.sts_model.specs.World.{World, task_at, scope_at}
 use Rattle.sts_model.specs.Living.{is_subtask, subtask_count, completion_of, parent, sub_state}
 use Rattle.sts_model.specs.Effect.{tally}
+use Rattle.laws_runs.proofs.TallyLemmas.{kinds}
 use Rattle.laws_runs.specs.Tallies.{births, is_kind, is_in_state}
 use Rattle.laws_runs.proofs.EffectLemmas.{some-is_in}
 use Rattle.laws_calls.specs.Covers.{subs}
@@ -49,26 +50,6 @@ tally_states w h s kind =
     (h.tallied s).each kind
     ∙ sym (count_filter (is_in_state w s kind) (λ q. is_subtask s (task_at w q)) (is_kind kind) (completion_of (scope_at w s).completions) (births w) (in_state w s kind))
 
--- each state is of one kind
-kinds : (qs : List (Option End)) → count_by (is_kind S) qs + count_by (is_kind F) qs + count_by (is_kind U) qs ≡ length qs
-kinds [] = refl
-kinds (q ∷ qs) =
-    let a = sum_by-cons (λ (y : Option End). cond (is_kind S y) 1 0) q qs in
-    let b = sum_by-cons (λ (y : Option End). cond (is_kind F y) 1 0) q qs in
-    let c = sum_by-cons (λ (y : Option End). cond (is_kind U y) 1 0) q qs in
-    let one = kind q in
-    let rest = kinds qs in
-    omega (arith, a, b, c, one, rest)
-  where
-    kind : (y : Option End) → cond {A = ℕ} (is_kind S y) 1 0 + cond (is_kind F y) 1 0 + cond (is_kind U y) 1 0 ≡ 1
-    kind None = refl
-    kind (Some (Success v)) = refl
-    kind (Some (Failed c)) = refl
-
-length_map : {X Y : Type 0} (f : X → Y) (xs : List X) → length (map f xs) ≡ length xs
-length_map f [] = refl
-length_map f (x ∷ xs) = ap suc (length_map f xs)
-
 -- the subtasks are as many as `join` counts
 pub subs_count : (w : World) → Facts w → (s : ℕ) → subtask_count w s ≡ length (subs w s)
 subs_count w h s =
@@ -77,5 +58,5 @@ subs_count w h s =
     let b = tally_states w h s F in
     let c = tally_states w h s U in
     let k = kinds (states_in w s) in
-    let long = length_map (completion_of (scope_at w s).completions) (subs w s) in
+    let long = length-map (subs w s) (completion_of (scope_at w s).completions) in
     omega (arith, all, a, b, c, k, long)

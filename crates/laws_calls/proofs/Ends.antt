@@ -4,6 +4,7 @@ use Rattle.std.proofs.Common.{Bool, true, false, Option, Some, None, refl, sym, 
 use Rattle.std.proofs.Common.{arith, cond, nat_eq, length-set, get_or-set_same, get_or-set_other}
 use Rattle.std.specs.Prelude.{slice_get}
 use Rattle.std.proofs.lemmas.Bool.Decides.{nat_tests}
+use Rattle.laws_runs.proofs.CauseLemmas.{cancel-others}
 use Rattle.sts_code.specs.Program.{Program}
 use Rattle.sts_code.specs.declared.instr.Instr.{Instr}
 use Rattle.sts_model.specs.declared.event.End.{End}
@@ -37,7 +38,7 @@ use Rattle.laws_calls.proofs.Births.{same_births}
 use Rattle.laws_calls.proofs.Lists.{all_map, no}
 use Rattle.laws_calls.proofs.Turns.{Facts, FlagsHaveCause, alive_later, covered_before, seen_same, task_same, sub_born}
 use Rattle.laws_calls.proofs.Moves.{subs_same}
-use Rattle.laws_calls.proofs.Phases.{at_cancelled, cancel_other}
+use Rattle.laws_calls.proofs.Phases.{at_cancelled}
 use Rattle.laws_calls.specs.Triggers.{triggers}
 use Rattle.laws_calls.specs.Fitting.{most, MayCount, Answers}
 use Rattle.laws_calls.proofs.Early.{order_told}
@@ -120,7 +121,7 @@ module _ (w : World) (u : ℕ) (end : End) (born : u < length w.tasks) where
         old = get_or-set_other w.scopes s r y no_scope other
 
         by : (b : Bool) → scope_at (cond b (cancel w2 s) w2) r ≡ scope_at w r
-        by true = cancel_other w2 s r other ∙ old
+        by true = cancel-others w2 s r other ∙ old
         by false = old
 
     here_told : scope_at w2 s ≡ y

@@ -4,6 +4,7 @@ use Rattle.std.proofs.Common.{nat_eq, not, ◌&&◌, length-set, get_or-set_same
 use Rattle.std.specs.Prelude.{slice_get}
 use Rattle.std.proofs.lemmas.Bool.{and_parts}
 use Rattle.std.proofs.lemmas.Bool.Decides.{nat_tests}
+use Rattle.laws_runs.proofs.CauseLemmas.{cancel-others}
 use Rattle.sts_code.specs.Program.{Program}
 use Rattle.sts_model.specs.declared.event.Phase.{Phase}
 use Rattle.sts_model.specs.declared.event.Phase.TheVariants.{Joined}
@@ -28,7 +29,7 @@ use Rattle.laws_calls.proofs.Possible.{joined_on}
 use Rattle.laws_calls.proofs.Turns.{Facts, FlagsHaveCause, alive_later, covered_before, seen_same, task_same}
 use Rattle.laws_calls.proofs.Moves.{subs_same}
 use Rattle.laws_calls.proofs.Early.{order_same}
-use Rattle.laws_calls.proofs.Phases.{cancel_here, cancel_other}
+use Rattle.laws_calls.proofs.Phases.{cancel_here}
 
 joined_stays : (phase : Phase) → is_joined phase ≡ true → can_join phase ≡ true → ⊥
 joined_stays Joined e k = cc
@@ -56,7 +57,7 @@ module _ (p : Program) (outside : Outside) (t : Table) (root : Row) (w : World) 
       cancel_here w1 s (omega (arith, count, born)) ∙ ap (λ (z : Scope). record z { cancelled = true }) (get_or-set_same w.scopes s x no_scope born)
 
   others : (r : ℕ) → (r ≡ s → ⊥) → scope_at v r ≡ scope_at w r
-  others r other = cancel_other w1 s r other ∙ get_or-set_other w.scopes s r x no_scope other
+  others r other = cancel-others w1 s r other ∙ get_or-set_other w.scopes s r x no_scope other
 
   timed : scope.timed ≡ true
   timed = (and_parts scope.timed (not scope.expired) (and_parts (scope.timed && not scope.expired) (can_join scope.phase) can).0).0

@@ -5,6 +5,7 @@ use Rattle.std.proofs.Common.{set, cond, not, map, ◌||◌, unwrap_or, arith}
 use Rattle.std.specs.Prelude.{slice_get, pos, negsuc, find}
 use Rattle.std.specs.List.{list_any}
 use Rattle.std.proofs.lemmas.Bool.{and_parts}
+use Rattle.laws_runs.proofs.CauseLemmas.{staying_at_join}
 use Rattle.sts_code.specs.Program.{Program}
 use Rattle.sts_code.specs.declared.instr.Instr.{Instr}
 use Rattle.sts_code.specs.declared.instr.Instr.TheVariants.{Join}
@@ -18,7 +19,7 @@ use Rattle.sts_model.specs.declared.event.Stand.TheVariants.{AtJoin}
 use Rattle.sts_model.specs.declared.event.Verdict.{Verdict}
 use Rattle.sts_model.specs.declared.event.Verdict.TheVariants as verdict
 use Rattle.sts_model.specs.declared.event.Phase.{Phase}
-use Rattle.sts_model.specs.declared.event.Phase.TheVariants.{Opened, Attempted, Joined, Closing}
+use Rattle.sts_model.specs.declared.event.Phase.TheVariants.{Attempted, Joined, Closing}
 use Rattle.sts_model.specs.declared.record.Frame.{Frame}
 use Rattle.sts_model.specs.declared.record.Scope.{Scope}
 use Rattle.sts_model.specs.declared.record.Slot.{Slot}
@@ -32,7 +33,7 @@ use Rattle.sts_model.specs.Waiting.{stand_at_instr, stands_at_join, can_go, stan
 use Rattle.sts_model.specs.Effect.{named, with_phase, join_verdict, join_scope}
 use Rattle.sts_model.specs.Effect as effects
 use Rattle.laws_runs.specs.Runs.{Does}
-use Rattle.laws_runs.specs.Scopes.{is_leaving, is_asked}
+use Rattle.laws_runs.specs.Scopes.{is_asked}
 use Rattle.laws_runs.proofs.EffectLemmas.{first_no, dead_in}
 use Rattle.laws_runs.proofs.EffectLemmas as effect_lemmas
 use Rattle.laws_runs.proofs.EventLemmas.{Next}
@@ -51,7 +52,7 @@ use Rattle.laws_calls.specs.Covers.{first_failed}
 use Rattle.laws_calls.proofs.Early.{first_of, early_place, order_same}
 use Rattle.laws_calls.proofs.Possible.{are_possible, counts_most, enough, few_free, unknown, unheard, undecided}
 use Rattle.laws_calls.proofs.Lists.{all_map, all_at, all_put, all_right, all_length, all_put_place, Apart, among_get, get_among, any_among, no}
-use Rattle.laws_calls.proofs.Turns.{Facts, FlagsHaveCause, part_same, seen_same, held_same, apart_births, sub_born, sub_listed, listed_inside}
+use Rattle.laws_calls.proofs.Turns.{Facts, FlagsHaveCause, refitted, part_same, seen_same, held_same, apart_births, sub_born, sub_listed, listed_inside}
 use Rattle.laws_calls.proofs.Moves.{GoesOn, goes_by, covers_turned, subs_same, OwnScope, own_scope}
 use Rattle.laws_calls.proofs.Phases.{Rescoped, rescoped_phase, rescoped_flag, rescoped_frame}
 use Rattle.laws_calls.proofs.Told.{who, state_among, First, first_end, find_none, none_passes, one_verdict, any_verdict, neither}
@@ -61,11 +62,6 @@ use Rattle.laws_calls.proofs.Counts.{subs_count, states_in}
 -- if no row of misuse applies, nothing is misused
 no_misuse : (p : Program) (w : World) (t : ℕ) (i : Instr) → IsFine p w t (task_at w t).frame i → fault_of p w t (task_at w t).frame i ≡ None
 no_misuse p w t i h = rw (h.operands, h.room, h.loops, h.slots, h.joins, h.births, h.own, h.legal, h.structure, h.bound) refl
-
-staying : (phase : Phase) → not (can_join phase) ≡ false → is_leaving phase ≡ false
-staying Opened e = refl
-staying Attempted e = refl
-staying _ e = cc
 
 not_joined : (a b : Phase) → not (can_join a) ≡ false → (a ≡ b) ⊎ (a ≡ Closing) → is_joined b ≡ false
 not_joined a b e (inl same) = subst (λ z. is_joined z ≡ false) same (early a e)
@@ -146,19 +142,9 @@ module _ (p : Program) (outside : Outside) (t : Table) (root : Row) (is : IsTabl
     seen_rescoped rows y k =
         subst (λ (a : Scope). ScopeFits rows (alive_in v) a (subs v s) y) (sym re.here)
         (subst (λ us. ScopeFits rows (alive_in v) z us y) (sym (same_subs s))
-        (record {
-          joiner = k.joiner;
-          timed = k.timed;
-          environment = k.environment;
-          phase = k.phase;
-          known = k.known;
-          on_time = k.on_time;
-          counts = k.counts;
-          asked = k.asked;
-          order = k.order;
-          parts = all_map (PartFits rows (alive_in w) z) (PartFits rows (alive_in v) z) (subs w s) y.parts
-              (λ i part at e. part_same w v h nx rows rows z i part (sub_born w s i at) refl e) k.parts;
-        }))
+        (refitted rows rows (alive_in w) (alive_in v) z (subs w s) y k
+        (all_map (PartFits rows (alive_in w) z) (PartFits rows (alive_in v) z) (subs w s) y.parts
+        (λ i part at e. part_same w v h nx rows rows z i part (sub_born w s i at) refl e) k.parts)))
 
     fits_rescoped : (rows : ℕ → Row) (own : Own) → TaskFits outside rows w u own → (o : OwnScope rows w f own x s) (y : Seen) (next : Frame) → Leaves f g → bare g ≡ next
         → ScopeFits rows (alive_in w) z (subs w s) y → FrameFits rows v g (record (with_seen own o.place y) { frame = next })
@@ -470,7 +456,7 @@ module _ (p : Program) (outside : Outside) (t : Table) (root : Row) (is : IsTabl
     answers timely done = by scope.cancelled refl (any_lives w s) refl done
       where
         by : (a : Bool) → scope.cancelled ≡ a → (b : Bool) → any_lives w s ≡ b → (a || not b) ≡ true → Outcome rows own o
-        by true gone b e k = let asked = (h.caused s born_s).cause gone timely (staying scope.phase legal) in cancelled_answers gone timely asked scope.joiner refl asked
+        by true gone b e k = let asked = (h.caused s born_s).cause gone timely (staying_at_join scope.phase legal) in cancelled_answers gone timely asked scope.joiner refl asked
         by false free false none k = heard_answers free none scope.joiner refl
         by false free true some k = cc
 

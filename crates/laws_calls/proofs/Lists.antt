@@ -5,11 +5,9 @@ use Rattle.std.proofs.Common.{arith, get_or, set, cond, map, drop, ◌||◌}
 use Rattle.std.specs.Prelude.{◌==◌, slice_get}
 use Rattle.std.specs.List.{filter, range_with_len, list_any}
 use Rattle.std.proofs.lemmas.Bool.Decides.{nat_tests}
+use Rattle.std.proofs.lemmas.Option.{same_Some}
 use Rattle.sts_model.specs.declared.event.End.{End}
 use Rattle.laws_calls.specs.Tasks.{Among, AllTwo, at_place, put_place, Way, HasWay}
-
-some_same : {X : Type 0} (x y : X) → Some x ≡ Some y → x ≡ y
-some_same x y e = cc
 
 pub no : true ≡ false → ⊥
 no e = cc
@@ -66,14 +64,14 @@ all_get R (a ∷ xs) [] i d e h k = absurd h
 
 pub all_at : {X Y : Type 0} (R : X → Y → Type 0) (xs : List X) (ys : List Y) (i : ℕ) (x : X) → AllTwo R xs ys → slice_get xs i ≡ Some x → (y : Y) × ((slice_get ys i ≡ Some y) × R x y)
 all_at R [] ys i x h e = cc
-all_at R (a ∷ xs) (b ∷ ys) zero x h e = (b, (refl, subst (λ z. R z b) (some_same a x e) h.0))
+all_at R (a ∷ xs) (b ∷ ys) zero x h e = (b, (refl, subst (λ z. R z b) (same_Some a x e) h.0))
 all_at R (a ∷ xs) (b ∷ ys) (suc i) x h e = all_at R xs ys i x h.1 e
 all_at R (a ∷ xs) [] i x h e = absurd h
 
 -- one of the second list is replaced
 pub all_put : {X Y : Type 0} (R : X → Y → Type 0) (xs : List X) (ys : List Y) (i : ℕ) (x : X) (y : Y) → AllTwo R xs ys → slice_get xs i ≡ Some x → R x y → AllTwo R xs (set ys i y)
 all_put R [] [] i x y h e k = tt
-all_put R (a ∷ xs) (b ∷ ys) zero x y h e k = (subst (λ z. R z y) (sym (some_same a x e)) k, h.1)
+all_put R (a ∷ xs) (b ∷ ys) zero x y h e k = (subst (λ z. R z y) (sym (same_Some a x e)) k, h.1)
 all_put R (a ∷ xs) (b ∷ ys) (suc i) x y h e k = (h.0, all_put R xs ys i x y h.1 e k)
 all_put R [] (b ∷ ys) i x y h e k = absurd h
 all_put R (a ∷ xs) [] i x y h e k = absurd h
@@ -93,7 +91,7 @@ at_among [] n x e = cc
 at_among {X} (a ∷ xs) n x e = by (n == length xs) e (λ k. at_among xs n x k)
   where
     by : (b : Bool) → cond b (Some a) (at_place xs n) ≡ Some x → (at_place xs n ≡ Some x → Among xs x) → Among (a ∷ xs) x
-    by true k rest = inl (some_same a x k)
+    by true k rest = inl (same_Some a x k)
     by false k rest = inr (rest k)
 
 pub at_first : {X : Type 0} (x : X) (xs : List X) → at_place (x ∷ xs) (length xs) ≡ Some x
@@ -124,7 +122,7 @@ all_place R [] ys n x h e = cc
 all_place {X} {Y} R (a ∷ xs) (b ∷ ys) n x h e = by (n == length xs) (ap (λ k. n == k) (all_length R xs ys h.1)) e (λ k. all_place R xs ys n x h.1 k)
   where
     by : (c : Bool) → c ≡ (n == length ys) → cond c (Some a) (at_place xs n) ≡ Some x → (at_place xs n ≡ Some x → (y : Y) × ((at_place ys n ≡ Some y) × R x y)) → (y : Y) × ((at_place (b ∷ ys) n ≡ Some y) × R x y)
-    by true d k rest = (b, (ap (λ c. cond c (Some b) (at_place ys n)) (sym d), subst (λ z. R z b) (some_same a x k) h.0))
+    by true d k rest = (b, (ap (λ c. cond c (Some b) (at_place ys n)) (sym d), subst (λ z. R z b) (same_Some a x k) h.0))
     by false d k rest = let r = rest k in (r.0, (ap (λ c. cond c (Some b) (at_place ys n)) (sym d) ∙ r.1.0, r.1.1))
 all_place R (a ∷ xs) [] n x h e = absurd h
 
@@ -143,7 +141,7 @@ is_first s rest place r apart e = by (place == length rest) refl e
   where
     by : (b : Bool) → (place == length rest) ≡ b → cond b (Some s) (at_place rest place) ≡ Some r → IsFirst s rest place r
     by true d k =
-        let one : s ≡ r = some_same s r k in
+        let one : s ≡ r = same_Some s r k in
         let is : (r == s) ≡ true = grind (arith, nat_tests) in
         record { same = is ∙ sym d; later = λ other. absurd (no (sym is ∙ other)) }
     by false d k =
@@ -168,7 +166,7 @@ all_put_place {Y} R S (a ∷ xs) (b ∷ ys) n x y h apart e k f = by (n == lengt
     first same false d = cc
 
     by : (c : Bool) → c ≡ (n == length ys) → cond c (Some a) (at_place xs n) ≡ Some x → (at_place xs n ≡ Some x → AllTwo S xs (put_place ys n y)) → AllTwo S (a ∷ xs) (cond (n == length ys) (y ∷ ys) (b ∷ put_place ys n y))
-    by true d q later = first (some_same a x q) (n == length ys) (sym d)
+    by true d q later = first (same_Some a x q) (n == length ys) (sym d)
     by false d q later = rest (at_among xs n x q) (later q) (n == length ys) (sym d)
 all_put_place R S (a ∷ xs) [] n x y h apart e k f = absurd h
 
@@ -226,7 +224,7 @@ any_among test (y ∷ ys) x (inr at) passes = by (test y) (any_among test ys x a
 
 pub get_among : {X : Type 0} (xs : List X) (i : ℕ) (x : X) → slice_get xs i ≡ Some x → Among xs x
 get_among [] i x e = cc
-get_among (a ∷ xs) zero x e = inl (some_same a x e)
+get_among (a ∷ xs) zero x e = inl (same_Some a x e)
 get_among (a ∷ xs) (suc i) x e = inr (get_among xs i x e)
 
 pub get_front : {X : Type 0} (xs ys : List X) (i : ℕ) (x : X) → slice_get xs i ≡ Some x → slice_get (xs ++ ys) i ≡ Some x

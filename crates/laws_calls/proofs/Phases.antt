@@ -1,6 +1,7 @@
 -- A scope is cancelled, or gets another phase.
 use Rattle.std.proofs.Common.{◌≡◌, ℕ, ◌<◌, Bool, true, false, refl, ◌∙◌, ap, subst, length}
 use Rattle.std.proofs.Common.{arith, cond, length-set, get_or-set_same, get_or-set_other}
+use Rattle.laws_runs.proofs.CauseLemmas.{cancel-others}
 use Rattle.sts_model.specs.declared.event.Phase.{Phase}
 use Rattle.sts_model.specs.declared.record.Frame.{Frame}
 use Rattle.sts_model.specs.declared.record.Scope.{Scope}
@@ -22,13 +23,6 @@ at_cancelled P w s r old new = by (scope_at w s).cancelled
     by : (b : Bool) → P (scope_at (cond b w (marked w s)) r)
     by true = old
     by false = at_set P w.scopes s r (record (scope_at w s) { cancelled = true }) no_scope (λ e. subst (λ i. P (record (scope_at w i) { cancelled = true })) e new) old
-
-pub cancel_other : (w : World) (s r : ℕ) → (r ≡ s → ⊥) → scope_at (cancel w s) r ≡ scope_at w r
-cancel_other w s r other = by (scope_at w s).cancelled
-  where
-    by : (b : Bool) → scope_at (cond b w (marked w s)) r ≡ scope_at w r
-    by true = refl
-    by false = get_or-set_other w.scopes s r (record (scope_at w s) { cancelled = true }) no_scope other
 
 pub cancel_here : (w : World) (s : ℕ) → s < length w.scopes → scope_at (cancel w s) s ≡ record (scope_at w s) { cancelled = true }
 cancel_here w s born = by (scope_at w s).cancelled refl
@@ -105,7 +99,7 @@ module _ (w : World) (u s : ℕ) (born : s < length w.scopes) (owner : (scope_at
           here = frame-cancel w s u;
           there = λ i other. frame-cancel w s i;
           scope = λ i. (k.kept.task i).same.scope;
-          scopes = λ r less other. get_or-set_other v.scopes s r y no_scope (not_mine r other) ∙ cancel_other w s r (not_mine r other);
+          scopes = λ r less other. get_or-set_other v.scopes s r y no_scope (not_mine r other) ∙ cancel-others w s r (not_mine r other);
           outcome = λ i. k.outcome i;
           timely = λ timely r.
               at_set (λ (z : Scope). IsTimely z) v.scopes s r y no_scope
@@ -113,5 +107,5 @@ module _ (w : World) (u s : ℕ) (born : s < length w.scopes) (owner : (scope_at
               (at_cancelled (λ (z : Scope). IsTimely z) w s r (timely r) (timely r));
         };
         here = get_or-set_same v.scopes s y no_scope (omega (arith, count, born)) ∙ ap (λ (z : Scope). record z { phase = phase }) (cancel_here w s born);
-        others = λ r other. get_or-set_other v.scopes s r y no_scope other ∙ cancel_other w s r other;
+        others = λ r other. get_or-set_other v.scopes s r y no_scope other ∙ cancel-others w s r other;
       }

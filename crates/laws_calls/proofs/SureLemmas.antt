@@ -1,10 +1,11 @@
 -- Parts that have ended by an end that counts towards a cancel.
 use Rattle.std.proofs.Common.{◌≡◌, inl, inr, ℕ, ◌≤◌, List, [], ◌∷◌, Bool, true, false, refl, ap, subst, Option, Some, None, not, ◌&&◌}
 use Rattle.std.proofs.Common.{arith, cond}
-use Rattle.std.proofs.lemmas.Bool.{or_parts, and_parts}
+use Rattle.std.proofs.lemmas.Bool.{or_parts, and_parts, not-true}
 use Rattle.std.specs.Prelude.{count_by}
 use Rattle.std.specs.List.{list_any}
 use Rattle.std.proofs.lemmas.List.Sums.{sum_by-cons}
+use Rattle.laws_words.proofs.BoolLemmas.{one_then}
 use Rattle.sts_code.specs.declared.instr.Joiner.{Joiner}
 use Rattle.sts_model.specs.declared.event.End.{End}
 use Rattle.laws_calls.specs.Tasks.{AllTwo, May, Part, Way, HasWay}
@@ -22,20 +23,10 @@ sure_way j (way ∷ ways) e none (inl same) = by (is_trigger j way.end) refl (or
 sure_way j (way ∷ ways) e none (inr at) = sure_way j ways e (or_parts (not (is_trigger j way.end)) _ none).1 at
 
 sure_end : (j : Joiner) (part : Part) (e : End) → is_sure j part ≡ true → HasWay part.ways e → is_trigger j e ≡ true
-sure_end j part e sure way = sure_way j part.ways e (by (list_any (λ (y : Way). not (is_trigger j y.end)) part.ways) (and_parts (not part.is_open) _ sure).1) way
-  where
-    by : (b : Bool) → not b ≡ true → b ≡ false
-    by true k = cc
-    by false k = refl
+sure_end j part e sure way = sure_way j part.ways e (not-true (list_any (λ (y : Way). not (is_trigger j y.end)) part.ways) (and_parts (not part.is_open) _ sure).1) way
 
 never_sure : (j : Joiner) (part : Part) → part.is_open ≡ true → is_sure j part ≡ false
 never_sure j part is_open = ap (λ b. not b && not (list_any (λ (y : Way). not (is_trigger j y.end)) part.ways)) is_open
-
-sure_one : (a b : Bool) → (a ≡ true → b ≡ true) → cond {A = ℕ} a 1 0 ≤ cond b 1 0
-sure_one true true h = omega arith
-sure_one true false h = let never = h refl in cc
-sure_one false true h = omega arith
-sure_one false false h = omega arith
 
 -- at least as many ends count as parts are sure
 pub sure_few : (j : Joiner) (parts : List Part) (pick : List (Option End)) → AllTwo May parts pick → count_by (is_sure j) parts ≤ triggers j (heard_in pick)
@@ -48,7 +39,7 @@ sure_few j (part ∷ parts) (None ∷ pick) h =
 sure_few j (part ∷ parts) (Some e ∷ pick) h =
     let n = sum_by-cons (λ (y : Part). cond (is_sure j y) 1 0) part parts in
     let m = sum_by-cons (λ (y : End). cond (is_trigger j y) 1 0) e (heard_in pick) in
-    let one = sure_one (is_sure j part) (is_trigger j e) (λ sure. sure_end j part e sure h.0) in
+    let one = one_then (is_sure j part) (is_trigger j e) (λ sure. sure_end j part e sure h.0) in
     let rest = sure_few j parts pick h.1 in
     omega (arith, n, m, one, rest)
 sure_few j [] (q ∷ pick) h = absurd h

@@ -1,28 +1,19 @@
 -- Cancels by a count.
-use Rattle.std.proofs.Common.{◌≡◌, ℕ, zero, suc, ◌+◌, List, [], ◌∷◌, Bool, true, false, refl, sym, ◌∙◌, ap, arith, cond, count_by, sum_by, Some, None, find, ◌||◌, ◌++◌, ◌<◌, ◌≤◌, subst}
+use Rattle.std.proofs.Common.{◌≡◌, ℕ, zero, suc, ◌+◌, List, [], ◌∷◌, Bool, true, false, refl, sym, ◌∙◌, ap, arith, cond, count_by, Some, None, find, ◌++◌, ◌<◌, ◌≤◌, subst}
 use Rattle.std.specs.Option.{option_or}
 use Rattle.std.proofs.lemmas.List.Folds.{find-append}
 use Rattle.std.specs.Prelude.{nat_lt, nat_le}
 use Rattle.std.specs.List.{list_any}
-use Rattle.std.proofs.lemmas.Bool.{lt-ltb, leb-false, leb-true}
-use Rattle.std.proofs.lemmas.List.Sums.{sum_by-cons, sum_by-append}
+use Rattle.std.proofs.lemmas.Bool.{leb-false, leb-true}
+use Rattle.std.proofs.lemmas.List.Sums.{sum_by-cons}
+use Rattle.laws_words.proofs.BoolLemmas.{at_most_one}
+use Rattle.laws_words.proofs.ListLemmas.{any_count, count-push}
 use Rattle.sts_code.specs.declared.instr.Joiner.{Joiner}
 use Rattle.sts_model.specs.declared.event.End.{End}
 use Rattle.sts_code.specs.declared.instr.Joiner.TheVariants.{AllSucceed, AnySucceeds, AwaitOk, AwaitAll, Until}
 use Rattle.sts_code.specs.declared.instr.Pred.TheVariants as pred
 use Rattle.sts_model.specs.Joining.{cancels, is_success, is_failure, is_at_least}
 use Rattle.laws_calls.specs.Triggers.{CancelsByCount, LastCounts, LastIsFound, StopsAtLimit, is_trigger, limit, triggers}
-
-any_count : {X : Type 0} (q : X → Bool) (xs : List X) → list_any q xs ≡ nat_lt 0 (count_by q xs)
-any_count q [] = refl
-any_count {X} q (x ∷ xs) = by (q x) (any_count q xs) ∙ ap (λ m. nat_lt 0 m) (sym (sum_by-cons (λ y. cond (q y) 1 0) x xs))
-  where
-    nothing : (m : ℕ) → m ≡ 0 + m
-    nothing m = omega arith
-
-    by : (b : Bool) → list_any q xs ≡ nat_lt 0 (count_by q xs) → (b || list_any q xs) ≡ nat_lt 0 (cond b 1 0 + count_by q xs)
-    by true h = sym (lt-ltb 0 (1 + count_by q xs) (omega arith))
-    by false h = h ∙ ap (λ m. nat_lt 0 m) (nothing (count_by q xs))
 
 one_or_more : (n : ℕ) → nat_lt 0 n ≡ nat_le 1 n
 one_or_more zero = refl
@@ -49,25 +40,13 @@ cancels_by_count (Until (pred.AtLeast v)) ends = any_one (is_at_least v) ends
 
 -- ---- one end more
 
-more_count : {X : Type 0} (q : X → Bool) (xs : List X) (x : X) → count_by q (xs ++ x ∷ []) ≡ count_by q xs + cond (q x) 1 0
-more_count {X} q xs x =
-    let f : X → ℕ = λ y. cond (q y) 1 0 in
-    let both = sum_by-append f xs (x ∷ []) in
-    let one = sum_by-cons f x [] in
-    let none : sum_by f [] ≡ 0 = refl in
-    omega (arith, both, one, none)
-
 pub going_on : (j : Joiner) (ends : List End) → cancels j ends ≡ false → triggers j ends < limit j
 going_on j ends going = leb-false (limit j) (triggers j ends) (sym (cancels_by_count j ends) ∙ going)
-
-at_most_one : (b : Bool) → cond b 1 0 ≤ 1
-at_most_one true = omega arith
-at_most_one false = omega arith
 
 pub stops_at_limit : StopsAtLimit
 stops_at_limit j ends e going =
     let below = going_on j ends going in
-    let more = more_count (is_trigger j) ends e in
+    let more = count-push (is_trigger j) ends e in
     let one = at_most_one (is_trigger j e) in
     omega (arith, below, more, one)
 
@@ -77,7 +56,7 @@ counts false n m below reaches = absurd (omega (arith, below, reaches))
 
 pub last_counts : LastCounts
 last_counts j ends e going stops =
-    let more = more_count (is_trigger j) ends e in
+    let more = count-push (is_trigger j) ends e in
     let reaches : limit j ≤ triggers j (ends ++ e ∷ []) = leb-true (limit j) (triggers j (ends ++ e ∷ [])) (sym (cancels_by_count j (ends ++ e ∷ [])) ∙ stops) in
     let p = counts (is_trigger j e) (triggers j ends) (limit j) (going_on j ends going) (subst (λ n. limit j ≤ n) more reaches) in
     (p.0, more ∙ p.1)

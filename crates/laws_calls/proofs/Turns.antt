@@ -5,7 +5,8 @@ use Rattle.std.proofs.Common.{arith, cond, nat_eq, ◌||◌}
 use Rattle.std.specs.Prelude.{◌==◌, slice_get, count_by, nat_lt}
 use Rattle.std.specs.List.{list_any}
 use Rattle.std.proofs.lemmas.Bool.Decides.{nat_tests}
-use Rattle.std.proofs.lemmas.List.Sums.{sum_by-cons}
+use Rattle.std.proofs.lemmas.Bool.{or_right}
+use Rattle.laws_words.proofs.ListLemmas.{count-cons}
 use Rattle.sts_model.specs.declared.record.Entry.{Entry}
 use Rattle.sts_model.specs.declared.record.Entry.TheVariants as entry
 use Rattle.sts_model.specs.declared.record.Frame.{Frame}
@@ -30,11 +31,12 @@ use Rattle.sts_model.specs.Misuse.{is_joined}
 use Rattle.laws_calls.specs.Outside.{Outside, may_flag}
 use Rattle.laws_calls.specs.Held.{Held}
 use Rattle.laws_calls.specs.Held as held
-use Rattle.laws_calls.specs.Tasks.{Among, HasWay, Part, Seen, Own, births_in}
+use Rattle.laws_calls.specs.Tasks.{AllTwo, Among, HasWay, Part, Seen, Own, births_in}
 use Rattle.laws_calls.specs.Steps.{Row}
 use Rattle.laws_calls.specs.Covers.{subs, PartFits, ScopeFits, SeenFits, HeldFits, FrameFits, TaskFits}
 use Rattle.laws_calls.specs.Covers.{FlagMayBe, IsCovered, Watched, watched_root, watched_sub, alive_in}
 use Rattle.laws_calls.proofs.Lists.{all_map, among_filter, filter_among, among_range, range_among, Apart, at_among, no}
+use Rattle.laws_calls.proofs.WatchedLemmas.{watched_before, never}
 
 -- what is known of every state of a run
 pub record Facts (w : World) : Type 0 where
@@ -66,9 +68,6 @@ births_has (entry.Scope r ∷ es) s (inr h) = by (r == s) (births_has es s h)
     by true e = refl
     by false e = e
 
-count-cons : {X : Type 0} (test : X → Bool) (x : X) (xs : List X) → count_by test (x ∷ xs) ≡ cond (test x) 1 0 + count_by test xs
-count-cons test x xs = sum_by-cons (λ y. cond (test y) 1 0) x xs
-
 has_counted : (s : ℕ) (es : List Entry) → list_any (is_entry_of s) es ≡ true → 0 < count_by (is_entry_of s) es
 has_counted s [] e = cc
 has_counted s (x ∷ es) e = by (is_entry_of s x) (count-cons (is_entry_of s) x es) e (λ d. has_counted s es d)
@@ -76,10 +75,6 @@ has_counted s (x ∷ es) e = by (is_entry_of s x) (count-cons (is_entry_of s) x 
     by : (b : Bool) → count_by (is_entry_of s) (x ∷ es) ≡ cond b 1 0 + count_by (is_entry_of s) es → (b || list_any (is_entry_of s) es) ≡ true → (list_any (is_entry_of s) es ≡ true → 0 < count_by (is_entry_of s) es) → 0 < count_by (is_entry_of s) (x ∷ es)
     by true k d rest = omega (arith, k)
     by false k d rest = let r = rest d in omega (arith, k, r)
-
-or_true : (a b : Bool) → b ≡ true → (a || b) ≡ true
-or_true true b e = refl
-or_true false b e = e
 
 pub apart_births : (es : List Entry) → ((s : ℕ) → list_any (is_entry_of s) es ≡ true → count_by (is_entry_of s) es ≤ 1) → Apart (births_in es)
 apart_births [] once = tt
@@ -104,7 +99,7 @@ apart_births (entry.Scope r ∷ es) once = (never, apart_births es (λ s has. re
     rest : (s : ℕ) → list_any (is_entry_of s) es ≡ true → count_by (is_entry_of s) es ≤ 1
     rest s has =
         let c : count_by (is_entry_of s) (entry.Scope r ∷ es) ≡ cond {A = ℕ} (r == s) 1 0 + count_by (is_entry_of s) es = count-cons (is_entry_of s) (entry.Scope r) es in
-        let o = once s (or_true (r == s) (list_any (is_entry_of s) es) has) in
+        let o = once s (or_right (r == s) (list_any (is_entry_of s) es) has) in
         omega (arith, c, o)
 
 -- the subtasks of a scope were born
@@ -174,7 +169,7 @@ any_flag outside wide = ap (λ b. b || nat_lt 0 outside.interrupts) wide
 
 -- and also if an interrupt may come
 pub some_flag : (outside : Outside) → 0 < outside.interrupts → may_flag outside ≡ true
-some_flag outside some = or_true outside.cancels (nat_lt 0 outside.interrupts) (grind (arith, nat_tests))
+some_flag outside some = or_right outside.cancels (nat_lt 0 outside.interrupts) (grind (arith, nat_tests))
 
 module _ (outside : Outside) (w : World) (o : Right w) where
   pub owner_covered : (u s : ℕ) → (task_at w u).scope ≡ Some s → IsCovered outside w u → IsCovered outside w (scope_at w s).owner
@@ -198,6 +193,22 @@ module _ (outside : Outside) (w : World) (o : Right w) where
 
 -- ---- one step, from w to v
 
+-- a scope fits with other rows if its parts do
+pub refitted : (rows later : ℕ → Row) (a b : ℕ → Bool) (scope : Scope) (us : List ℕ) (x : Seen) → ScopeFits rows a scope us x → AllTwo (PartFits later b scope) us x.parts → ScopeFits later b scope us x
+refitted rows later a b scope us x k parts =
+    record {
+      joiner = k.joiner;
+      timed = k.timed;
+      environment = k.environment;
+      phase = k.phase;
+      known = k.known;
+      on_time = k.on_time;
+      counts = k.counts;
+      asked = k.asked;
+      order = k.order;
+      parts = parts;
+    }
+
 pub alive_later : (x y : Task) → LaterTask x y → lives y ≡ true → lives x ≡ true
 alive_later x y later e = by (lives x) refl
   where
@@ -206,36 +217,9 @@ alive_later x y later e = by (lives x) refl
     by false h = let d = dead_later x y later h in cc
 
 module _ (w v : World) (h : Facts w) (n : Next w v) where
-  same_scope : (u : ℕ) → u < length w.tasks → (task_at v u).scope ≡ (task_at w u).scope
-  same_scope u born = (n.later.task u born).same.scope
-
-  going : (s : ℕ) → s < length w.scopes → (scope_at v s).cancelled ≡ false → (scope_at w s).cancelled ≡ false
-  going s born e = by (scope_at w s).cancelled refl
-    where
-      by : (b : Bool) → (scope_at w s).cancelled ≡ b → b ≡ false
-      by false d = refl
-      by true d = let k = (n.later.scope s born).marks.cancelled d in cc
-
-  watched_before : (u : ℕ) → u < length w.tasks → Watched v u → Watched w u
-  watched_before u born watched_root = watched_root
-  watched_before u born (watched_sub s inside free owner) =
-      let inside_w : (task_at w u).scope ≡ Some s = sym (same_scope u born) ∙ inside in
-      let b = h.right.sound.born u s inside_w in
-      let less = b.1 in
-      let same : (scope_at v s).owner ≡ (scope_at w s).owner = (n.later.scope s b.0).same.owner in
-      let before : Watched w (scope_at v s).owner = watched_before (scope_at v s).owner (omega (arith, same, less, born)) owner in
-      watched_sub s inside_w (going s b.0 free) (subst (λ o. Watched w o) same before)
-
   pub covered_before : (outside : Outside) (u : ℕ) → u < length w.tasks → IsCovered outside v u → IsCovered outside w u
   covered_before outside u born (inl wide) = inl wide
-  covered_before outside u born (inr watched) = inr (watched_before u born watched)
-
-  never : (u s : ℕ) → u < length w.tasks → (task_at w u).scope ≡ Some s → (scope_at v s).cancelled ≡ true → Watched v u → ⊥
-  never u s born inside gone watched_root = let b = h.right.sound.born u s inside in let less = b.1 in omega (arith, less)
-  never u s born inside gone (watched_sub r inside_v free owner) =
-      let same : Some r ≡ Some s = sym inside_v ∙ same_scope u born ∙ inside in
-      let one : r ≡ s = cc in
-      no (sym gone ∙ ap (λ q. (scope_at v q).cancelled) (sym one) ∙ free)
+  covered_before outside u born (inr watched) = inr (watched_before w v h.right n u born watched)
 
   pub flag_stays : (outside : Outside) → FlagsHaveCause outside w v → (u : ℕ) → u < length w.tasks → IsCovered outside v u → FlagMayBe outside (task_at w u).flag → FlagMayBe outside (task_at v u).flag
   flag_stays outside flags u born (inl wide) before set = any_flag outside wide
@@ -243,14 +227,14 @@ module _ (w v : World) (h : Facts w) (n : Next w v) where
     where
       caused : (may_flag outside ≡ true) ⊎ ((s : ℕ) × ((task_at w u).scope ≡ Some s) × IsCancelled w v s) → may_flag outside ≡ true
       caused (inl may) = may
-      caused (inr c) = absurd (never u c.0 born c.1 c.2.after watched)
+      caused (inr c) = absurd (never w v h.right n u c.0 born c.1 c.2.after watched)
 
       by : (b : Bool) → (task_at w u).flag ≡ b → may_flag outside ≡ true
       by true e = before e
       by false e = caused (flags u e set)
 
   pub environment_stays : (u : ℕ) → u < length w.tasks → (scope_of v u).environment ≡ (scope_of w u).environment
-  environment_stays u born = ap (λ q. (parent v q).environment) (same_scope u born) ∙ by (task_at w u).scope refl
+  environment_stays u born = ap (λ q. (parent v q).environment) (n.later.task u born).same.scope ∙ by (task_at w u).scope refl
     where
       by : (q : Option ℕ) → (task_at w u).scope ≡ q → (parent v q).environment ≡ (parent w q).environment
       by None e = refl
@@ -271,19 +255,9 @@ module _ (w v : World) (h : Facts w) (n : Next w v) where
   seen_same rows later s x same subtasks agree k =
       subst (λ (scope : Scope). ScopeFits later (alive_in v) scope (subs v s) x) (sym same)
       (subst (λ us. ScopeFits later (alive_in v) (scope_at w s) us x) (sym subtasks)
-      (record {
-        joiner = k.joiner;
-        timed = k.timed;
-        environment = k.environment;
-        phase = k.phase;
-        known = k.known;
-        on_time = k.on_time;
-        counts = k.counts;
-        asked = k.asked;
-        order = k.order;
-        parts = all_map (PartFits rows (alive_in w) (scope_at w s)) (PartFits later (alive_in v) (scope_at w s)) (subs w s) x.parts
-            (λ u part at f. part_same rows later (scope_at w s) u part (sub_born w s u at) (agree u (sub_born w s u at)) f) k.parts;
-      }))
+      (refitted rows later (alive_in w) (alive_in v) (scope_at w s) (subs w s) x k
+      (all_map (PartFits rows (alive_in w) (scope_at w s)) (PartFits later (alive_in v) (scope_at w s)) (subs w s) x.parts
+      (λ u part at f. part_same rows later (scope_at w s) u part (sub_born w s u at) (agree u (sub_born w s u at)) f) k.parts)))
 
   -- the slots, if the subtasks of the open scopes keep their places
   pub held_same : (opened : List ℕ) → ((s i u : ℕ) → Among opened s → slice_get (subs w s) i ≡ Some u → slice_get (subs v s) i ≡ Some u) → (x : Slot) (y : Held) → HeldFits w opened x y → HeldFits v opened x y

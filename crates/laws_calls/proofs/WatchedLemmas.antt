@@ -1,6 +1,7 @@
 -- Watched tasks.
 use Rattle.std.proofs.Common.{◌≡◌, ◌≢◌, ℕ, ◌<◌, ◌⊎◌, inl, inr, [], ◌∷◌, ◌++◌, Bool, true, false, Some}
 use Rattle.std.proofs.Common.{refl, sym, ◌∙◌, ap, subst, length, arith}
+use Rattle.laws_calls.proofs.Lists.{no}
 use Rattle.sts_model.specs.declared.event.Event.{Event}
 use Rattle.sts_model.specs.declared.event.Event.TheVariants as event
 use Rattle.sts_model.specs.World.{World, State, Running, Faulted, task_at, scope_at}
@@ -11,9 +12,6 @@ use Rattle.laws_runs.proofs.EventLemmas.{Right, Next, next-leads, each}
 use Rattle.laws_runs.proofs.FlagLemmas.{flags_have_cause}
 use Rattle.laws_calls.specs.Covers.{Watched, watched_root, watched_sub}
 use Rattle.laws_calls.specs.Watching.{WatchedWasWatched, WatchedIsNotCancelled}
-
-no : true ≡ false → ⊥
-no e = cc
 
 -- ---- one event, from w to v
 
@@ -28,7 +26,7 @@ module _ (w v : World) (h : Right w) (n : Next w v) where
       by false d = refl
       by true d = absurd (no (sym ((n.later.scope s born).marks.cancelled d) ∙ e))
 
-  watched_before : (u : ℕ) → u < length w.tasks → Watched v u → Watched w u
+  pub watched_before : (u : ℕ) → u < length w.tasks → Watched v u → Watched w u
   watched_before u born watched_root = watched_root
   watched_before u born (watched_sub s inside free owner) =
       let inside_w : (task_at w u).scope ≡ Some s = sym (same_scope u born) ∙ inside in
@@ -39,7 +37,7 @@ module _ (w v : World) (h : Right w) (n : Next w v) where
       watched_sub s inside_w (going s b.0 free) (subst (λ o. Watched w o) same before)
 
   -- a task of a scope that was cancelled is not watched
-  never : (u s : ℕ) → u < length w.tasks → (task_at w u).scope ≡ Some s → (scope_at v s).cancelled ≡ true → Watched v u → ⊥
+  pub never : (u s : ℕ) → u < length w.tasks → (task_at w u).scope ≡ Some s → (scope_at v s).cancelled ≡ true → Watched v u → ⊥
   never u s born inside gone watched_root = let b = h.sound.born u s inside in let less = b.1 in omega (arith, less)
   never u s born inside gone (watched_sub r inside_v free owner) =
       let same : Some r ≡ Some s = sym inside_v ∙ same_scope u born ∙ inside in

@@ -6,6 +6,7 @@ use Rattle.std.proofs.lemmas.List.{take_more, take-append-drop, map-append, appe
 use Rattle.std.proofs.lemmas.List.Sums.{sum_by-append}
 use Rattle.std.proofs.lemmas.List.Folds.{sum_by-replicate}
 use Rattle.std.proofs.lemmas.Option.{slice_get-get_or}
+use Rattle.laws_words.proofs.ListLemmas.{drop_past}
 use Rattle.sts_repeats.specs.Spread.{spread}
 use Rattle.sts_repeats.specs.declared.runs.Run.{Run}
 
@@ -125,7 +126,7 @@ join_last {X} runs v more last some is same =
     let less : i < length runs = omega (arith, some) in
     let longer : Run X = record { value = v; more = last.more + more + 1 } in
     let there : slice_get runs i ≡ Some last = slice_get-get_or runs i last less ∙ ap Some (sym is) in
-    let none : drop (suc i) runs ≡ [] = by_end runs (suc i) (omega (arith, some)) in
+    let none : drop (suc i) runs ≡ [] = drop_past (suc i) runs (omega (arith, some)) in
     let before : spread runs ≡ spread (take i runs) ++ one last = spread_at runs i last there ∙ ap (λ l. spread (take i runs) ++ (one last ++ spread l)) none ∙ ap (λ l. spread (take i runs) ++ l) (append-nil (one last)) in
     let after : spread (set runs i longer) ≡ spread (take i runs) ++ one longer =
     ap spread (set_split runs i longer less)
@@ -134,12 +135,6 @@ join_last {X} runs v more last some is same =
     after ∙ ap (λ l. spread (take i runs) ++ l) (grown last.more) ∙ sym (append_assoc (spread (take i runs)) (v ∷ replicate last.more v) (v ∷ replicate more v))
     ∙ ap (λ l. l ++ v ∷ replicate more v) (ap (λ y. spread (take i runs) ++ y ∷ replicate last.more y) (sym same) ∙ sym before)
   where
-    by_end : {Y : Type 0} (ys : List Y) (n : ℕ) → length ys ≤ n → drop n ys ≡ []
-    by_end [] zero less = refl
-    by_end [] (suc n) less = refl
-    by_end (y ∷ ys) zero less = absurd (omega (arith, less))
-    by_end (y ∷ ys) (suc n) less = by_end ys n (omega (arith, less))
-
     grown : (k : ℕ) → v ∷ replicate (k + more + 1) v ≡ (v ∷ replicate k v) ++ v ∷ replicate more v
     grown k = ap (λ n. v ∷ replicate n v) (let e : k + more + 1 ≡ k + suc more = omega arith in e) ∙ ap (λ l. v ∷ l) (sym (replicate-append-replicate k (suc more) v))
 
