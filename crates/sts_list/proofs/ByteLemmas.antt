@@ -1,22 +1,14 @@
-use Rattle.std.proofs.Common.{◌≡◌, ℕ, ◌<◌, Bool, true, false, List, [], ◌∷◌, ◌++◌, length, take_all}
+use Rattle.std.proofs.Common.{◌≡◌, ℕ, ◌<◌, Bool, true, List, [], ◌∷◌, ◌++◌, length, take_all}
 use Rattle.std.proofs.Common.{refl, ◌∙◌, ap, arith, append-nil}
 use Rattle.std.specs.Prelude.{◌==◌, ◌&&◌, ◌||◌, not, nat_le, filter, ⊤}
 use Rattle.std.specs.List.{list_all, slice_split, before_first, position_or_len}
 use Rattle.std.proofs.lemmas.List.Folds.{list_all-append}
 use Rattle.std.proofs.lemmas.Bool.Decides.{nat_tests}
+use Rattle.std.proofs.lemmas.Bool.{and_parts, and_from, not-true}
+pub use Rattle.std.proofs.lemmas.Bool.{and_parts as both}
 use Rattle.sts_text.specs.Words.{is_newline, is_blank, is_filled, lines, words}
 use Rattle.sts_asm.specs.Outline.{is_allowed, is_semicolon}
 use Rattle.sts_list.specs.Spelling.{after_spaces}
-
-pub both : (a b : Bool) → (a && b) ≡ true → (a ≡ true) × (b ≡ true)
-both true true e = (refl, refl)
-both true false e = cc
-both false b e = cc
-
-pub joined : (a b : Bool) → a ≡ true → b ≡ true → (a && b) ≡ true
-joined true true e f = refl
-joined true false e f = cc
-joined false b e f = cc
 
 -- a byte of a word of a listing
 abbrev pub is_plain : ℕ → Bool
@@ -28,10 +20,10 @@ is_text b = b == 32 || is_plain b
 
 pub all_implied : (f g : ℕ → Bool) → ((b : ℕ) → f b ≡ true → g b ≡ true) → (xs : List ℕ) → list_all f xs ≡ true → list_all g xs ≡ true
 all_implied f g h [] e = refl
-all_implied f g h (x ∷ xs) e = let p = both (f x) (list_all f xs) e in joined (g x) (list_all g xs) (h x p.0) (all_implied f g h xs p.1)
+all_implied f g h (x ∷ xs) e = let p = and_parts (f x) (list_all f xs) e in and_from (g x) (list_all g xs) (h x p.0) (all_implied f g h xs p.1)
 
 pub all_append : (f : ℕ → Bool) (xs ys : List ℕ) → list_all f xs ≡ true → list_all f ys ≡ true → list_all f (xs ++ ys) ≡ true
-all_append f xs ys e h = list_all-append f xs ys ∙ joined (list_all f xs) (list_all f ys) e h
+all_append f xs ys e h = list_all-append f xs ys ∙ and_from (list_all f xs) (list_all f ys) e h
 
 plain_no_blank : (b : ℕ) → is_plain b ≡ true → not (is_blank b) ≡ true
 plain_no_blank b e = grind (arith, nat_tests)
@@ -48,27 +40,23 @@ text_no_semicolon b e = grind (arith, nat_tests)
 text_allowed : (b : ℕ) → is_text b ≡ true → is_allowed b ≡ true
 text_allowed b e = grind (arith, nat_tests)
 
-not_true : (b : Bool) → not b ≡ true → b ≡ false
-not_true true e = cc
-not_true false e = refl
-
 cut_free : (p : ℕ → Bool) (xs : List ℕ) (y : ℕ) (ys : List ℕ) → list_all (λ x. not (p x)) xs ≡ true → p y ≡ true → slice_split p (xs ++ y ∷ ys) ≡ xs ∷ slice_split p ys
 cut_free p [] y ys f h = rw h refl
 cut_free p (x ∷ xs) y ys f h =
-    let g = both (not (p x)) (list_all (λ x. not (p x)) xs) f in
-    rw (not_true (p x) g.0, cut_free p xs y ys g.1 h) refl
+    let g = and_parts (not (p x)) (list_all (λ x. not (p x)) xs) f in
+    rw (not-true (p x) g.0, cut_free p xs y ys g.1 h) refl
 
 alone_free : (p : ℕ → Bool) (xs : List ℕ) → list_all (λ x. not (p x)) xs ≡ true → slice_split p xs ≡ xs ∷ []
 alone_free p [] f = refl
 alone_free p (x ∷ xs) f =
-    let g = both (not (p x)) (list_all (λ x. not (p x)) xs) f in
-    rw (not_true (p x) g.0, alone_free p xs g.1) refl
+    let g = and_parts (not (p x)) (list_all (λ x. not (p x)) xs) f in
+    rw (not-true (p x) g.0, alone_free p xs g.1) refl
 
 none_found : (p : ℕ → Bool) (xs : List ℕ) → list_all (λ x. not (p x)) xs ≡ true → position_or_len p xs ≡ length xs
 none_found p [] f = refl
 none_found p (x ∷ xs) f =
-    let g = both (not (p x)) (list_all (λ x. not (p x)) xs) f in
-    rw (not_true (p x) g.0) (rw (none_found p xs g.1) (omega arith))
+    let g = and_parts (not (p x)) (list_all (λ x. not (p x)) xs) f in
+    rw (not-true (p x) g.0) (rw (none_found p xs g.1) (omega arith))
 
 first_free : (p : ℕ → Bool) (xs : List ℕ) → list_all (λ x. not (p x)) xs ≡ true → before_first p xs ≡ xs
 first_free p xs f = let e = none_found p xs f in take_all (position_or_len p xs) xs (omega arith)

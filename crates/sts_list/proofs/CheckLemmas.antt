@@ -7,6 +7,8 @@ use Rattle.std.specs.Option.{option_or}
 use Rattle.std.specs.Str.{bytes_eq}
 use Rattle.std.proofs.lemmas.Slice.Eq.{bytes_eq-Decides}
 use Rattle.std.proofs.lemmas.Bool.Decides.{nat_tests}
+use Rattle.std.proofs.lemmas.Bool.{not-false}
+use Rattle.sts_code.proofs.CheckedLemmas.{neither}
 use Rattle.sts_code.specs.Name.{is_name}
 use Rattle.sts_code.specs.Program.{Routine, no_routine}
 use Rattle.sts_code.specs.Checks.{has_bad_target, forks_later, has_bad_range, instr_cause, fault_at}
@@ -25,10 +27,6 @@ use Rattle.sts_list.proofs.SpellingLemmas.{either}
 use Rattle.sts_list.proofs.FunctionLemmas.{names_from}
 
 -- ---- what it says that no check fails
-
-none_or : {A : Type 0} (a b : Option A) → option_or a b ≡ None → (a ≡ None) × (b ≡ None)
-none_or None b e = (refl, e)
-none_or (Some x) b e = cc
 
 none_if : {A : Type 0} (b : Bool) (x : A) (r : Option A) → cond b (Some x) r ≡ None → (b ≡ false) × (r ≡ None)
 none_if true x r e = cc
@@ -54,7 +52,7 @@ instr_checked at n instr e =
 code_checked : (at n pc : ℕ) (code : List Instr) → code_fault at n pc code ≡ None → AllByRecursion (IsChecked at n) code
 code_checked at n pc [] e = tt
 code_checked at n pc (instr ∷ rest) e =
-    let h = none_or (fault_at at pc (instr_cause at n instr)) (code_fault at n (pc + 1) rest) e in
+    let h = neither (fault_at at pc (instr_cause at n instr)) (code_fault at n (pc + 1) rest) e in
     (instr_checked at n instr (no_fault_at at pc (instr_cause at n instr) h.0), code_checked at n (pc + 1) rest h.1)
 
 -- a function that passed, after these
@@ -65,13 +63,9 @@ pub record IsCheckedRoutine (earlier : List Routine) (r : Routine) : Type 0 wher
   pub new : list_any (is_named r.name) earlier ≡ false
   pub code : AllByRecursion (IsChecked (length earlier) (length r.code)) r.code
 
-was_true : (b : Bool) → not b ≡ false → b ≡ true
-was_true true e = refl
-was_true false e = cc
-
 routine_checked : (earlier : List Routine) (r : Routine) → routine_fault earlier r ≡ None → IsCheckedRoutine earlier r
 routine_checked earlier r e =
-    let h = none_or (fault_at (length earlier) 0 (routine_cause earlier r)) (code_fault (length earlier) (length r.code) 0 r.code) e in
+    let h = neither (fault_at (length earlier) 0 (routine_cause earlier r)) (code_fault (length earlier) (length r.code) 0 r.code) e in
     let bad = not (is_name r.name) || nat_lt 8 r.args || length r.code == 0 in
     let taken = cond (list_any (is_named r.name) earlier) (Some DuplicateName) None in
     let a = none_if (nat_lt 4096 (length r.code)) TooLong (cond bad (Some BadRange) taken) (no_fault_at (length earlier) 0 (routine_cause earlier r) h.0) in
@@ -79,7 +73,7 @@ routine_checked earlier r e =
     let c = none_if (list_any (is_named r.name) earlier) DuplicateName None b.1 in
     let d = either (not (is_name r.name) || nat_lt 8 r.args) (length r.code == 0) b.0 in
     let f = either (not (is_name r.name)) (nat_lt 8 r.args) d.0 in
-    record { name = was_true (is_name r.name) f.0; args = grind (arith, nat_tests, f.1); short = grind (arith, nat_tests, a.0); new = c.0; code = code_checked (length earlier) (length r.code) 0 r.code h.1 }
+    record { name = not-false (is_name r.name) f.0; args = grind (arith, nat_tests, f.1); short = grind (arith, nat_tests, a.0); new = c.0; code = code_checked (length earlier) (length r.code) 0 r.code h.1 }
 
 abbrev pub AreChecked : List Routine → List Routine → Type 0
 AreChecked earlier [] = ⊤
@@ -88,13 +82,13 @@ AreChecked earlier (r ∷ rest) = IsCheckedRoutine earlier r × AreChecked (earl
 routines_checked : (earlier rest : List Routine) → routines_fault earlier rest ≡ None → AreChecked earlier rest
 routines_checked earlier [] e = tt
 routines_checked earlier (r ∷ rest) e =
-    let h = none_or (routine_fault earlier r) (routines_fault (earlier ++ r ∷ []) rest) e in
+    let h = neither (routine_fault earlier r) (routines_fault (earlier ++ r ∷ []) rest) e in
     (routine_checked earlier r h.0, routines_checked (earlier ++ r ∷ []) rest h.1)
 
 pub program_checked : (rs : List Routine) → program_fault rs ≡ None → AreChecked [] rs
 program_checked rs e =
     let a = none_if (nat_lt 64 (length rs)) (record { cause = TooManyFunctions; function = 0; pc = 0 }) (option_or (routines_fault [] rs) (cond (ends_with_main rs) None (Some (record { cause = NoMain; function = 0; pc = 0 })))) e in
-    let b = none_or (routines_fault [] rs) (cond (ends_with_main rs) None (Some (record { cause = NoMain; function = 0; pc = 0 }))) a.1 in
+    let b = neither (routines_fault [] rs) (cond (ends_with_main rs) None (Some (record { cause = NoMain; function = 0; pc = 0 }))) a.1 in
     routines_checked [] rs b.0
 
 -- ---- targets and forks

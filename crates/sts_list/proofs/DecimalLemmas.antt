@@ -7,13 +7,14 @@ use Rattle.std.specs.Fmt.{decimal, signed_decimal}
 use Rattle.std.proofs.lemmas.Fmt.{digits_decimal, digits_value-decimal, decimal_nonempty}
 use Rattle.std.proofs.lemmas.Fmt.{length-decimal-le}
 use Rattle.std.proofs.lemmas.Bool.Decides.{nat_tests}
+use Rattle.std.proofs.lemmas.Bool.{and_parts, and_from}
 use Rattle.sts_code.specs.Name.{is_name, is_name_byte}
 use Rattle.sts_text.specs.Number.{is_digits, number, number_up_to, up_to}
 use Rattle.sts_text.proofs.NumberLemmas.{own}
 use Rattle.sts_asm.specs.Operand as operand
 use Rattle.sts_list.specs.Spelling.{label, slot}
 use Rattle.sts_list.specs.RoundTrip.{IsValue}
-use Rattle.sts_list.proofs.ByteLemmas.{both, joined, is_plain, all_implied, IsWord}
+use Rattle.sts_list.proofs.ByteLemmas.{is_plain, all_implied, IsWord}
 
 digit_plain : (b : ℕ) → is_ascii_digit b ≡ true → is_plain b ≡ true
 digit_plain b e = grind (arith, nat_tests)
@@ -28,14 +29,14 @@ pub are_digits : (n : ℕ) → n < 2 ^ 64 → is_digits (decimal n) ≡ true
 are_digits n h =
     let filled = decimal_nonempty n h in
     let t : not (length (decimal n) == 0) ≡ true = grind (arith, nat_tests, filled) in
-    joined (not (length (decimal n) == 0)) (list_all is_ascii_digit (decimal n)) t (digits_of n h)
+    and_from (not (length (decimal n) == 0)) (list_all is_ascii_digit (decimal n)) t (digits_of n h)
 
 pub decimal_word : (n : ℕ) → n < 2 ^ 64 → IsWord (decimal n)
 decimal_word n h = record { filled = decimal_nonempty n h; plain = all_implied is_ascii_digit is_plain digit_plain (decimal n) (digits_of n h) }
 
 no_minus_at : (ds : List ℕ) → list_all is_ascii_digit ds ≡ true → (get_or ds 0 0 == 45) ≡ false
 no_minus_at [] e = refl
-no_minus_at (d ∷ ds) e = let h = (both (is_ascii_digit d) (list_all is_ascii_digit ds) e).0 in grind (arith, nat_tests)
+no_minus_at (d ∷ ds) e = let h = (and_parts (is_ascii_digit d) (list_all is_ascii_digit ds) e).0 in grind (arith, nat_tests)
 
 pub positive_read : (n : ℕ) → n < 2 ^ 63 → number (decimal n) ≡ Some (pos n)
 positive_read n h =

@@ -1,9 +1,10 @@
-use Rattle.std.proofs.Common.{◌≡◌, ℕ, ◌+◌, ◌<◌, ◌-◌, Bool, true, false, List, [], ◌∷◌, ◌++◌, length}
+use Rattle.std.proofs.Common.{◌≡◌, ℕ, ◌+◌, ◌<◌, ◌-◌, true, false, List, [], ◌∷◌, ◌++◌, length}
 use Rattle.std.proofs.Common.{take, get_or, refl, ◌∙◌, ap, arith, append_assoc, append-nil}
 use Rattle.std.proofs.Common.{length-append}
-use Rattle.std.specs.Prelude.{◌==◌, ◌&&◌, Some, None, codes, Ok}
+use Rattle.std.specs.Prelude.{◌==◌, Some, None, codes, Ok}
 use Rattle.std.specs.List.{list_all, AllByRecursion}
 use Rattle.std.specs.Str.{bytes_eq}
+use Rattle.std.proofs.Math.Bool.{and-false}
 use Rattle.sts_code.specs.Name.{is_name}
 use Rattle.sts_code.specs.Program.{Program}
 use Rattle.sts_code.specs.Checks.{has_bad_range}
@@ -47,10 +48,6 @@ indented_said at o p w ws rest h hs e =
     let t : list_all is_text (32 ∷ 32 ∷ (w ++ after_spaces ws)) ≡ true = sentence_text w ws h hs in
     line_step at o p (32 ∷ 32 ∷ (w ++ after_spaces ws)) ((32 ∷ 32 ∷ (w ++ after_spaces ws)) ++ 10 ∷ rest) rest (line_cut (32 ∷ 32 ∷ (w ++ after_spaces ws)) rest t) (ap (at_line at) (text_said at o (32 ∷ 32 ∷ (w ++ after_spaces ws)) (w ∷ ws) t (words_read w ws h hs) ∙ e))
 
-and_false : (b : Bool) → (b && false) ≡ false
-and_false true = refl
-and_false false = refl
-
 -- a first word other than `func`, `end` and `profile`
 record IsInner (w : List ℕ) : Type 0 where
   no_func : bytes_eq w (codes "func") ≡ false
@@ -58,7 +55,7 @@ record IsInner (w : List ℕ) : Type 0 where
   no_profile : bytes_eq w (codes "profile") ≡ false
 
 said_inside : (at : ℕ) (o : Outline) (w : List ℕ) (ws : List (List ℕ)) → IsInner w → said at o (w ∷ ws) ≡ inside at o o.current w ws
-said_inside at o w ws h = rw (h.no_func, h.no_end, h.no_profile, and_false (at == 1)) refl
+said_inside at o w ws h = rw (h.no_func, h.no_end, h.no_profile, and-false (at == 1)) refl
 
 -- ---- labels
 

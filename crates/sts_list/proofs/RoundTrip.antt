@@ -1,8 +1,9 @@
 use Rattle.std.proofs.Common.{◌≡◌, ℕ, ◌+◌, ◌<◌, ◌≤◌, Bool, true, false, List, [], ◌∷◌, ◌++◌, length}
 use Rattle.std.proofs.Common.{refl, sym, ◌∙◌, ap, ◌⊎◌, inl, inr, arith, append_assoc, length-append}
-use Rattle.std.specs.Prelude.{◌==◌, ◌||◌, nat_lt, Option, Some, None, Result, Ok}
+use Rattle.std.specs.Prelude.{◌==◌, nat_lt, Option, Some, None, Result, Ok}
 use Rattle.std.specs.List.{flat_map, AllByRecursion, list_any}
 use Rattle.std.proofs.lemmas.Bool.Decides.{nat_tests}
+use Rattle.std.proofs.lemmas.Bool.{or_right}
 use Rattle.sts_code.specs.Program.{Program, Routine}
 use Rattle.sts_code.specs.Checks.{forks_later}
 use Rattle.sts_code.specs.declared.instr.Instr.{Instr}
@@ -55,13 +56,9 @@ marks_found code pc (instr ∷ rest) to a b c t = elim (order_at (nat_lt pc to) 
 abbrev IsNamed : List ℕ → ℕ → Type 0
 IsNamed all to = list_any (λ t. t == to) all ≡ true
 
-or_true : (a b : Bool) → b ≡ true → (a || b) ≡ true
-or_true true b e = refl
-or_true false b e = e
-
 any_here : (xs ys : List ℕ) (to : ℕ) → IsNamed (xs ++ to ∷ ys) to
 any_here [] ys to = let e : (to == to) ≡ true = grind (arith, nat_tests) in rw e refl
-any_here (x ∷ xs) ys to = or_true (x == to) (list_any (λ t. t == to) (xs ++ to ∷ ys)) (any_here xs ys to)
+any_here (x ∷ xs) ys to = or_right (x == to) (list_any (λ t. t == to) (xs ++ to ∷ ys)) (any_here xs ys to)
 
 named_same : (xs ys ts : List ℕ) → xs ≡ ys → AllByRecursion (IsNamed xs) ts → AllByRecursion (IsNamed ys) ts
 named_same xs ys ts e h = rw (← e) h

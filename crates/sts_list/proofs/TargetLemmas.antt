@@ -6,6 +6,7 @@ use Rattle.std.proofs.lemmas.List.{length-set, get_or-set_other, get_or-replicat
 use Rattle.std.proofs.lemmas.List.{take_more}
 use Rattle.std.proofs.lemmas.Grind.{get_or-set_at, flat_map-append}
 use Rattle.std.proofs.lemmas.Bool.Decides.{nat_tests}
+use Rattle.std.proofs.Math.Bool.{or-false}
 use Rattle.sts_code.specs.declared.instr.Instr.{Instr}
 use Rattle.sts_list.specs.Listing.{with_marks}
 use Rattle.sts_code.specs.Facts.{targets}
@@ -35,16 +36,12 @@ marked_each marks (x ∷ xs) pc h =
     ∙ ap (λ (b : Bool). list_any (λ to. to == pc) xs || b) (set_cases (x == pc) marks x pc refl h)
     ∙ either (x == pc) (list_any (λ to. to == pc) xs) (get_or marks pc false)
 
-or_false : (b : Bool) → (b || false) ≡ b
-or_false true = refl
-or_false false = refl
-
 -- what is marked is what is named
 pub marked_all : (xs : List ℕ) (n pc : ℕ) → pc < n → get_or (with_marks (replicate n false) xs) pc false ≡ list_any (λ to. to == pc) xs
 marked_all xs n pc h =
     marked_each (replicate n false) xs pc (rw (length-replicate n false) h)
     ∙ ap (λ (b : Bool). list_any (λ to. to == pc) xs || b) (get_or-replicate n pc false false h)
-    ∙ or_false (list_any (λ to. to == pc) xs)
+    ∙ or-false (list_any (λ to. to == pc) xs)
 
 -- one instruction more
 pub marks_step : (code : List Instr) (marks : List Bool) (i : ℕ) (d : Instr) → i < length code → with_marks (with_marks marks (flat_map targets (take i code))) (targets (get_or code i d)) ≡ with_marks marks (flat_map targets (take (i + 1) code))

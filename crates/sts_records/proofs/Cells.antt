@@ -5,20 +5,13 @@ use Rattle.std.proofs.Common.{Bool, true, false, get_or-set_same, get_or-set_oth
 use Rattle.std.proofs.Common.{cond, count_by, is_some}
 use Rattle.std.proofs.lemmas.Bool.Decides.{nat_tests}
 use Rattle.std.proofs.lemmas.List.Sums.{sum_by-cons, sum_by-set}
+use Rattle.std.proofs.lemmas.Option.{same_Some}
 use Rattle.sts_records.specs.Pages.{Comes, Extends, Goes, HasPage, IsKept, cell_of, page_of, start_of}
-
-some_same : {X : Type 0} → (a b : X) → Some a ≡ Some b → a ≡ b
-some_same a b e = cc
 
 none_some : {X : Type 0} → (o : Option X) (x : X) → o ≡ None → o ≡ Some x → ⊥
 none_some o x e f = cc
 
 -- ---- lists
-
-pub inside_of : {X : Type 0} → (xs : List (Option X)) (k : ℕ) (x : X) → get_or xs k None ≡ Some x → k < length xs
-inside_of [] k x h = cc
-inside_of (y ∷ ys) zero x h = omega arith
-inside_of (y ∷ ys) (suc k) x h = let i = inside_of ys k x h in omega (arith, i)
 
 -- as many entries, if one is written over
 pub as_many : {X : Type 0} → (xs : List (Option X)) (k : ℕ) (x y : X) → get_or xs k None ≡ Some x → k < length xs → count_by is_some (set xs k (Some y)) ≡ count_by is_some xs
@@ -37,7 +30,7 @@ came {A = A} at after key birth k b c is same other = by (nat_eq k key) refl
     by : (t : Bool) → nat_eq k key ≡ t → A
     by true q =
         let s : k ≡ key = grind (arith, nat_tests) in
-        same s (some_same b birth (sym is ∙ (ap after s ∙ c.is)))
+        same s (same_Some b birth (sym is ∙ (ap after s ∙ c.is)))
     by false q =
         let s : k ≢ key = grind (arith, nat_tests) in
         other s (sym (c.others k s) ∙ is)
@@ -180,7 +173,7 @@ own_unused offsets cells at latest block own kept later k = by (at k) refl
     by (Some b) q e =
         let begun = (kept k b q).begun in
         let offset = own (b / 4096) begun in
-        let page : cell_of offsets b / 4096 ≡ block = some_same _ _ e in
+        let page : cell_of offsets b / 4096 ≡ block = same_Some _ _ e in
         omega (arith, begun, offset, page, later)
 
 -- ---- more pages than records

@@ -28,9 +28,6 @@ has_some (Some x) h = (x, refl)
 pub not_none : {X : Type 0} → (o : Option X) (x : X) → o ≡ Some x → o ≢ None
 not_none o x e f = cc
 
-pub some_same : {X : Type 0} → (a b : X) → Some a ≡ Some b → a ≡ b
-some_same a b e = cc
-
 -- what was read twice
 pub same_read : {X : Type 0} → (xs : List X) (k : ℕ) (x y : X) → k < length xs → x ≡ get_or xs k x → y ≡ get_or xs k y → x ≡ y
 same_read [] k x y less one two = absurd (omega (arith, less))

@@ -8,15 +8,14 @@ use Rattle.std.proofs.lemmas.Bool.Decides.{nat_tests}
 use Rattle.std.proofs.lemmas.List.{ext_get_or, get_or_append_left, get_or_past}
 use Rattle.std.specs.Borrow.{Bor, MutBor}
 use Rattle.std.specs.Option.{option_copied, option_copied_mut, IsSome}
+use Rattle.std.proofs.lemmas.Option.{same_Some}
+use Rattle.laws_words.proofs.ListLemmas.{read_within}
 use Rattle.sts_records.specs.Holes.{Holes, key_at}
 use Rattle.sts_records.specs.Pages.{Comes, Goes, HasPagesFor, KeepsKeys}
 use Rattle.sts_records.specs.Slots.{AreGiven, birth_of, births, body_of, slots}
 use Rattle.sts_records.specs.Places.{Entry, Places, Updates, get}
 use Rattle.sts_records.specs.declared.pages.Pages.{Pages}
-use Rattle.sts_records.proofs.Cells.{came, inside_of, stayed}
-
-some_same : {X : Type 0} → (a b : X) → Some a ≡ Some b → a ≡ b
-some_same a b e = cc
+use Rattle.sts_records.proofs.Cells.{came, stayed}
 
 -- ---- keys that births were given
 
@@ -214,10 +213,6 @@ module _ {T : Type 0} where
     fresh = λ k b is e. (let less = (given k b is).0 in omega (arith, less, e, last));
   }
 
-  -- a look-up of a birth that is yet to come
-  pub past : (keys : List ℕ) (entries : List (Option (Entry T))) (birth : ℕ) → length keys ≤ birth → get_or (slots 0 keys entries) birth None ≡ None
-  past keys entries birth le = slot_past keys entries birth le
-
   -- a look-up that finds the record
   pub found : (keys : List ℕ) (entries : List (Option (Entry T))) (birth key : ℕ) (e : Entry T) → AreGiven keys (births entries) → get_or entries key None ≡ Some e → e.birth ≡ birth → get_or (slots 0 keys entries) birth None ≡ Some e.body
   found keys entries birth key e given is own =
@@ -323,7 +318,7 @@ module _ {T : Type 0} where
   pub lent : (keys : List ℕ) (entries : List (Option (Entry T))) (birth : ℕ) (w : T) (room : ℕ) (s : Stands keys entries birth) → ◌≡◌ {A = Holes T} (record { slots = slots 0 keys (set entries (get_or keys birth 0) (Some (record { birth = s.entry.birth; body = w }))); keys = keys; room = room }) (record { slots = set (slots 0 keys entries) birth (Some w); keys = keys; room = room })
   lent keys entries birth w room s =
       let k : ℕ = get_or keys birth 0 in
-      let less : k < length entries = inside_of entries k s.entry s.is in
+      let less : k < length entries = read_within entries k s.entry s.is in
       let here = get_or-set_same entries k (Some (record { birth = s.entry.birth; body = w })) None less in
       ap (λ (l : List (Option T)). record { slots = l; keys = keys; room = room })
       (rewritten keys entries _ birth s.entry w s.less s.is s.own (here ∙ (rw s.own refl)) (λ j ne. get_or-set_other entries k j _ None ne))
@@ -335,7 +330,7 @@ is_some_got (Some r) x e = refl
 
 pub got_is : {X : Type 0} → (o : Option (Bor X)) (r : Bor X) (x : X) → o ≡ Some r → option_copied o ≡ Some x → r.now ≡ x
 got_is None r x e f = cc
-got_is (Some q) r x e f = let s : q ≡ r = cc in rw s at (some_same _ _ f)
+got_is (Some q) r x e f = let s : q ≡ r = cc in rw s at (same_Some _ _ f)
 
 -- what a `&mut` to a record has
 pub is_some_of : {X : Type 0} → (o : Option (MutBor X)) (x : X) → option_copied_mut o ≡ Some x → IsSome o
@@ -344,8 +339,8 @@ is_some_of (Some r) x e = refl
 
 pub now_of : {X : Type 0} → (o : Option (MutBor X)) (r : MutBor X) (x : X) → o ≡ Some r → option_copied_mut o ≡ Some x → r.now ≡ x
 now_of None r x e f = cc
-now_of (Some q) r x e f = let s : q ≡ r = cc in rw s at (some_same _ _ f)
+now_of (Some q) r x e f = let s : q ≡ r = cc in rw s at (same_Some _ _ f)
 
 -- two records at one key are one
 pub is_entry : {X : Type 0} → {o : Option X} → {a b : X} → o ≡ Some a → o ≡ Some b → a ≡ b
-is_entry e f = some_same _ _ (sym e ∙ f)
+is_entry e f = same_Some _ _ (sym e ∙ f)

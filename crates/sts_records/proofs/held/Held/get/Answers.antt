@@ -1,13 +1,13 @@
 use Rattle.std.proofs.Common.{◌/◌, sym, arith, ◌∙◌}
 use Rattle.sts_records.specs.Slots.{births}
-use Rattle.sts_records.proofs.Slots.{looked_up, past}
+use Rattle.sts_records.proofs.Slots.{looked_up, slot_past}
 use Rattle.sts_records.proofs.held.Held.get.Goals as goal
 
 pub returns-then-birth-self : goal.returns-then-birth-self
 returns-then-birth-self g c =
     let born = c.self.invariant.2 in
     let past_all = c.if-birth-self.true in
-    rw (← c.self.view_is) (sym (past c.self.inside.given.keys c.self.inside.places.slots c.args.birth (omega (arith, born, past_all))))
+    rw (← c.self.view_is) (sym (slot_past c.self.inside.given.keys c.self.inside.places.slots c.args.birth (omega (arith, born, past_all))))
 
 pub key-requires : goal.key-requires
 key-requires g c =

@@ -1,7 +1,8 @@
 use Rattle.std.proofs.Common.{Some, refl, sym, ◌∙◌}
 use Rattle.std.proofs.lemmas.List.{length-map, map-set}
+use Rattle.std.proofs.lemmas.Option.{same_Some}
 use Rattle.sts_records.specs.Cells.{entry_of, slots_of}
-use Rattle.sts_records.proofs.Keys.{inside_cells, parts, read, some_of, not_none, some_same, sound_rewrite, whole_set, with_other}
+use Rattle.sts_records.proofs.Keys.{inside_cells, parts, read, some_of, not_none, sound_rewrite, whole_set, with_other}
 use Rattle.sts_records.proofs.places.Places.at.Goals as goal
 
 pub index_mut-requires : goal.index_mut-requires
@@ -39,5 +40,5 @@ returns g c =
     let is = read cells c.args.key cell (inside_cells cells c.args.key some) c.index_mut.ensures.value in
     let own = c.some_mut.ensures.value in (
       (refl, λ w. rw (← c.self.view_is, map-set, is, own, with_other cell.birth c.some_mut.result.now w) refl),
-      record { writes_back = tt; value = λ e at. some_same _ _ (sym own ∙ (parts cell.birth cell.body e (sym is ∙ (rw (← c.self.view_is) at at))).1) },
+      record { writes_back = tt; value = λ e at. same_Some _ _ (sym own ∙ (parts cell.birth cell.body e (sym is ∙ (rw (← c.self.view_is) at at))).1) },
     )
