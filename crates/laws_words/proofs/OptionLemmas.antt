@@ -1,5 +1,5 @@
 -- Values that may be missing.
-use Rattle.std.proofs.Common.{◌≡◌, Bool, false, Option, Some, None, is_some, option_map}
+use Rattle.std.proofs.Common.{◌≡◌, false, Option, Some, None, is_some, option_map}
 use Rattle.std.proofs.Common.{refl}
 use Rattle.std.specs.Option.{option_or}
 

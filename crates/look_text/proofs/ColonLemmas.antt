@@ -1,5 +1,5 @@
 -- The lines that have a name after their first word.
-use Rattle.std.proofs.Common.{◌≡◌, ℕ, List, ◌∷◌, Some, Bool, sym, ap, ◌∙◌}
+use Rattle.std.proofs.Common.{◌≡◌, ℕ, List, ◌∷◌, Some, sym, ap, ◌∙◌}
 use Rattle.std.specs.Prelude.{◌||◌, slice_get}
 use Rattle.sts_text.specs.Words.{lines}
 use Rattle.sts_asm.specs.Source.{words_of, words_at}

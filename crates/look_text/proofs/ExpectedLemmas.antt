@@ -2,6 +2,7 @@
 use Rattle.std.proofs.Common.{◌≡◌, ℕ, Bool, true, false, cond, List, [], ◌∷◌, ◌++◌, refl, sym, ap, ◌∙◌, inl, inr}
 use Rattle.std.specs.Prelude.{Option, Some, None, Result, Ok, Err, is_some, codes, ◌&&◌, ◌||◌, ◌==◌, slice_set}
 use Rattle.std.specs.Str.{bytes_eq}
+use Rattle.std.proofs.lemmas.Bool.{or_parts}
 use Rattle.sts_code.specs.declared.profile.Profile.{Profile}
 use Rattle.sts_code.specs.declared.profile.Profile.TheVariants.{One, Two}
 use Rattle.sts_text.specs.Number.{number_up_to}
@@ -19,7 +20,7 @@ use Rattle.look_text.specs.declared.wanted.Expected.TheVariants as w
 use Rattle.look_text.specs.Wanted.{fits, stop, of_mnemonic, after_inner, after_first, is_profile}
 use Rattle.look_text.specs.WrongWord.{IsWrong, wrong, missing, Stops, IsOfOperand}
 use Rattle.look_text.proofs.StopLemmas.{StopsFrom, allows, one, one_on, spelled, nothing, none_of, same_kind}
-use Rattle.look_text.proofs.OperandLemmas.{or_left, or_right, same, named_fits, operands}
+use Rattle.look_text.proofs.OperandLemmas.{same, named_fits, operands}
 
 -- ---- what is read is put elsewhere
 
@@ -176,14 +177,14 @@ line_operands at o kind first rest is e = one_on w.First (said at o) kind first 
 
     bad : fits w.First first ≡ false → (k : AsmKind) × ((more : List (List ℕ)) → said at o (first ∷ more) ≡ Err k)
     bad q =
-        let n1 = or_left (bytes_eq first (codes "func")) (bytes_eq first (codes "end") || (bytes_eq first (codes "profile") || (is_some (label_of first) || is_some (mnemonic_of first)))) q in
-        let q1 = or_right (bytes_eq first (codes "func")) (bytes_eq first (codes "end") || (bytes_eq first (codes "profile") || (is_some (label_of first) || is_some (mnemonic_of first)))) q in
-        let n2 = or_left (bytes_eq first (codes "end")) (bytes_eq first (codes "profile") || (is_some (label_of first) || is_some (mnemonic_of first))) q1 in
-        let q2 = or_right (bytes_eq first (codes "end")) (bytes_eq first (codes "profile") || (is_some (label_of first) || is_some (mnemonic_of first))) q1 in
-        let n3 = or_left (bytes_eq first (codes "profile")) (is_some (label_of first) || is_some (mnemonic_of first)) q2 in
-        let q3 = or_right (bytes_eq first (codes "profile")) (is_some (label_of first) || is_some (mnemonic_of first)) q2 in
-        let l : label_of first ≡ None = none_of (label_of first) (or_left (is_some (label_of first)) (is_some (mnemonic_of first)) q3) in
-        let m : mnemonic_of first ≡ None = none_of (mnemonic_of first) (or_right (is_some (label_of first)) (is_some (mnemonic_of first)) q3) in
+        let n1 = (or_parts (bytes_eq first (codes "func")) (bytes_eq first (codes "end") || (bytes_eq first (codes "profile") || (is_some (label_of first) || is_some (mnemonic_of first)))) q).0 in
+        let q1 = (or_parts (bytes_eq first (codes "func")) (bytes_eq first (codes "end") || (bytes_eq first (codes "profile") || (is_some (label_of first) || is_some (mnemonic_of first)))) q).1 in
+        let n2 = (or_parts (bytes_eq first (codes "end")) (bytes_eq first (codes "profile") || (is_some (label_of first) || is_some (mnemonic_of first))) q1).0 in
+        let q2 = (or_parts (bytes_eq first (codes "end")) (bytes_eq first (codes "profile") || (is_some (label_of first) || is_some (mnemonic_of first))) q1).1 in
+        let n3 = (or_parts (bytes_eq first (codes "profile")) (is_some (label_of first) || is_some (mnemonic_of first)) q2).0 in
+        let q3 = (or_parts (bytes_eq first (codes "profile")) (is_some (label_of first) || is_some (mnemonic_of first)) q2).1 in
+        let l : label_of first ≡ None = none_of (label_of first) (or_parts (is_some (label_of first)) (is_some (mnemonic_of first)) q3).0 in
+        let m : mnemonic_of first ≡ None = none_of (mnemonic_of first) (or_parts (is_some (label_of first)) (is_some (mnemonic_of first)) q3).1 in
         let p : (at == 1 && bytes_eq first (codes "profile")) ≡ false = and_false (at == 1) (bytes_eq first (codes "profile")) n3 in
         (UnknownWord, λ more. said_inside more n1 n2 p ∙ inside_unknown at o o.current first more l m)
 

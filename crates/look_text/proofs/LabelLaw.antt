@@ -8,6 +8,8 @@ use Rattle.std.proofs.lemmas.List.Elements.{All-nil, All-push}
 use Rattle.std.proofs.lemmas.List.Folds.{list_any_none, list_any-append}
 use Rattle.std.proofs.lemmas.Option.{slice_get_within, get_or_from_slice_get}
 use Rattle.std.proofs.lemmas.Slice.Eq.{bytes_eq-Decides}
+use Rattle.std.proofs.Math.Bool.{or-false, and-false, and-true}
+use Rattle.std.proofs.lemmas.Bool.{and_parts}
 use Rattle.sts_text.specs.Words.{lines, words}
 use Rattle.sts_asm.specs.declared.fault.AsmKind.TheVariants.{NotAscii, DuplicateLabel, Unclosed, TextTooLong}
 use Rattle.sts_asm.specs.Fault.{◌>>=◌, at_line}
@@ -51,27 +53,11 @@ or_assoc : (a b c : Bool) → (a || (b || c)) ≡ ((a || b) || c)
 or_assoc true b c = refl
 or_assoc false b c = refl
 
-or_false : (a : Bool) → (a || false) ≡ a
-or_false true = refl
-or_false false = refl
-
-and_false : (a : Bool) → (a && false) ≡ false
-and_false true = refl
-and_false false = refl
-
-and_true : (a : Bool) → (a && true) ≡ a
-and_true true = refl
-and_true false = refl
-
-and_right : (a b : Bool) → (a && b) ≡ true → b ≡ true
-and_right true b e = e
-and_right false b e = absurd (cc)
-
 not_le : (a b : ℕ) → b < a → nat_le a b ≡ false
 not_le a b h = grind (arith, h)
 
 too_small : (b : Bool) (n k : ℕ) → k < n → (b && nat_le n k) ≡ false
-too_small b n k h = ap (λ (c : Bool). b && c) (not_le n k h) ∙ and_false b
+too_small b n k h = ap (λ (c : Bool). b && c) (not_le n k h) ∙ and-false b
 
 le_self : (a : ℕ) → nat_le a a ≡ true
 le_self a = grind arith
@@ -116,7 +102,7 @@ ended_settled text at o (Some d) word rest p line ends s c e =
     let growing : Growing text at d = subst (MaybeGrowing text at) (sym c) s.1 in
     let settled : Settled text d = λ h name. (
     let none : giving text (at - 1) name ≡ false = line name ∙ ap (λ (b : Bool). not b && (gives (word ∷ rest) name || giving text (at + 1 - 1) name)) ends in
-    growing.1 h name ∙ ap (λ (b : Bool). names_none d name || b) none ∙ or_false (names_none d name)) in
+    growing.1 h name ∙ ap (λ (b : Bool). names_none d name || b) none ∙ or-false (names_none d name)) in
     subst (AllSettled text (at + 1)) same (All-push (Settled text) o.done d s.0 settled, tt)
 
 -- ---- a label
@@ -125,7 +111,7 @@ label_named : (d : Draft) (x name : List ℕ) → names_none (with_label d x) na
 label_named d x name =
     let p : Mark → Bool = λ (m : Mark). bytes_eq m.name name && nat_le (length d.code) m.at in
     let mark : Mark = record { name = x; at = length d.code } in
-    let here : list_any p (mark ∷ []) ≡ bytes_eq x name = or_false (p mark) ∙ ap (λ (b : Bool). bytes_eq x name && b) (le_self (length d.code)) ∙ and_true (bytes_eq x name) in
+    let here : list_any p (mark ∷ []) ≡ bytes_eq x name = or-false (p mark) ∙ ap (λ (b : Bool). bytes_eq x name && b) (le_self (length d.code)) ∙ and-true (bytes_eq x name) in
     list_any-append p d.labels (mark ∷ []) ∙ ap (λ (b : Bool). list_any p d.labels || b) here
 
 label_growing : (text : List ℕ) (at : ℕ) (d : Draft) (word x : List ℕ) (rest : List (List ℕ)) → Line text at (word ∷ rest) → bytes_eq word (codes "end") ≡ false → label_of word ≡ Some x → Growing text at d → Growing text (at + 1) (with_label d x)
@@ -192,7 +178,7 @@ said_settled text at o (word ∷ rest) p line s h =
     (λ b h. either_way (bytes_eq word (codes "end")) _ _ p h (λ c e. ended_settled text at o o.current word rest p line c s refl e)
     (λ c h. either_way (at == 1 && bytes_eq word (codes "profile")) _ _ p h
     (λ d e. after (profile_at rest) _ p e (λ x r f. (
-    let profile : word ≡ codes "profile" = (bytes_eq-Decides word (codes "profile")).0 (and_right (at == 1) (bytes_eq word (codes "profile")) d) in
+    let profile : word ≡ codes "profile" = (bytes_eq-Decides word (codes "profile")).0 (and_parts (at == 1) (bytes_eq word (codes "profile")) d).1 in
     let same : record o { profile = x } ≡ p = cc in
     subst (AllSettled text (at + 1)) same (s.0, profile_quiet text at word rest o.current line profile s.1))))
     (λ d e. inside_settled text at o o.current word rest p line c s refl e)))

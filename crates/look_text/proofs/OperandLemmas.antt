@@ -3,6 +3,7 @@ use Rattle.std.proofs.Common.{◌≡◌, ℕ, ◌^◌, ◌-◌, Bool, true, fals
 use Rattle.std.specs.Prelude.{Option, Some, None, Result, Ok, is_some, codes, ◌||◌}
 use Rattle.std.specs.Str.{bytes_eq}
 use Rattle.std.proofs.lemmas.Slice.Eq.{bytes_eq-Decides}
+use Rattle.std.proofs.lemmas.Bool.{or_parts}
 use Rattle.sts_code.specs.Name.{is_name}
 use Rattle.sts_code.specs.declared.instr.Instr.{Instr}
 use Rattle.sts_code.specs.declared.instr.Instr.TheVariants as i
@@ -29,14 +30,6 @@ use Rattle.look_text.specs.WrongWord.{Allows}
 use Rattle.look_text.proofs.StopLemmas.{StopsFrom, FailsAfter, GoesOnAfter, allows, one, spelled, nothing, none_of}
 
 -- ---- truths
-
-pub or_left : (a b : Bool) → (a || b) ≡ false → a ≡ false
-or_left true b e = absurd (cc)
-or_left false b e = refl
-
-pub or_right : (a b : Bool) → (a || b) ≡ false → b ≡ false
-or_right true b e = absurd (cc)
-or_right false b e = e
 
 pub or_other : (a b : Bool) → a ≡ false → (a || b) ≡ true → b ≡ true
 or_other true b f e = absurd (cc)
@@ -79,8 +72,8 @@ maybe_word {X} s next fit allowed rest = one s read allowed bad good
 
     bad : (word : List ℕ) → fits s word ≡ false → FailsAfter (λ ws. maybe_target_at None ws >>= λ x. next x.0 x.1) word
     bad word q =
-        let d : bytes_eq word (codes "-") ≡ false = or_left (bytes_eq word (codes "-")) (is_name word) (sym (fit word) ∙ q) in
-        let n : is_name word ≡ false = or_right (bytes_eq word (codes "-")) (is_name word) (sym (fit word) ∙ q) in
+        let d : bytes_eq word (codes "-") ≡ false = (or_parts (bytes_eq word (codes "-")) (is_name word) (sym (fit word) ∙ q)).0 in
+        let n : is_name word ≡ false = (or_parts (bytes_eq word (codes "-")) (is_name word) (sym (fit word) ∙ q)).1 in
         (BadOperands, λ more. rw (d, n) refl)
 
     by : (word : List ℕ) (b : Bool) → bytes_eq word (codes "-") ≡ b → fits s word ≡ true → GoesOnAfter s (λ ws. maybe_target_at None ws >>= λ x. next x.0 x.1) word
@@ -149,9 +142,9 @@ condition build = one w.Condition (opening until_at build) (allows (opening unti
         let f : Bool = bytes_eq word (codes "failed") in
         let s : Bool = bytes_eq word (codes "success") in
         let a : Bool = bytes_eq word (codes "atleast") in
-        let nf : f ≡ false = or_left f (s || a) q in
-        let ns : s ≡ false = or_left s a (or_right f (s || a) q) in
-        let na : a ≡ false = or_right s a (or_right f (s || a) q) in
+        let nf : f ≡ false = (or_parts f (s || a) q).0 in
+        let ns : s ≡ false = (or_parts s a (or_parts f (s || a) q).1).0 in
+        let na : a ≡ false = (or_parts s a (or_parts f (s || a) q).1).1 in
         (BadOperands, λ more. rw (nf, ns, na) refl)
 
     by_success : (word : List ℕ) (b : Bool) → bytes_eq word (codes "failed") ≡ false → bytes_eq word (codes "success") ≡ b → fits w.Condition word ≡ true → GoesOnAfter w.Condition (opening until_at build) word
@@ -171,8 +164,8 @@ joiner build = one w.Joiner (opening joiner_at build) (allows (opening joiner_at
   where
     bad : (word : List ℕ) → fits w.Joiner word ≡ false → FailsAfter (opening joiner_at build) word
     bad word q =
-        let u : bytes_eq word (codes "until") ≡ false = or_left (bytes_eq word (codes "until")) (is_some (looked_up joiners word)) q in
-        let n : looked_up joiners word ≡ None = none_of (looked_up joiners word) (or_right (bytes_eq word (codes "until")) (is_some (looked_up joiners word)) q) in
+        let u : bytes_eq word (codes "until") ≡ false = (or_parts (bytes_eq word (codes "until")) (is_some (looked_up joiners word)) q).0 in
+        let n : looked_up joiners word ≡ None = none_of (looked_up joiners word) (or_parts (bytes_eq word (codes "until")) (is_some (looked_up joiners word)) q).1 in
         (BadOperands, λ more. rw (u, n) refl)
 
     one_word : (word : List ℕ) (o : Option Joiner) → bytes_eq word (codes "until") ≡ false → looked_up joiners word ≡ o → is_some (looked_up joiners word) ≡ true → GoesOnAfter w.Joiner (opening joiner_at build) word
