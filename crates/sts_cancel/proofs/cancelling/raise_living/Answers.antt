@@ -1,14 +1,16 @@
 use Rattle.std.proofs.Common.{suc, Some, None, refl, sym, ◌∙◌, get_or, take, drop, arith, add-one}
+use Rattle.laws_words.proofs.OptionLemmas.{never_some}
+use Rattle.laws_words.proofs.ListLemmas.{drop_past}
 use Rattle.sts_tree.specs.Births.{births}
 use Rattle.sts_tree.specs.Forest.{lives_in}
 use Rattle.sts_tree.proofs.SeeingLemmas.{some_task}
 use Rattle.sts_cancel.proofs.RaisingLemmas.{Raises, done, step, stands_next, has_record, no_rest}
-use Rattle.sts_cancel.proofs.RaisingLemmas.{drop_past, fewer_live, none_next}
+use Rattle.sts_cancel.proofs.RaisingLemmas.{fewer_live}
 use Rattle.sts_cancel.proofs.cancelling.raise_living.Goals as goal
 
 pub returns-in_default : goal.returns-in_default
 returns-in_default g c =
-    let none = none_next c.loop.at (λ t e. c.in_default.not-Some t e) in
+    let none = never_some c.loop.at (λ t e. c.in_default.not-Some t e) in
     done c.args.tree.now c.loop.tree c.args.s c.loop.counter c.loop.at c.loop.invariant (no_rest _ (sym c.loop.invariant.next ∙ none))
 
 pub raise-requires : goal.raise-requires
