@@ -14,7 +14,7 @@ use Rattle.sts_model.specs.declared.record.Slot.{Slot}
 use Rattle.sts_model.specs.declared.record.Slot.TheVariants.{Empty, Own, Lent, Sub}
 use Rattle.sts_model.specs.declared.record.Task.{Task}
 use Rattle.sts_model.specs.World.{World, task_at, scope_at, no_task, with_task, with_scope, with_frame}
-use Rattle.sts_model.specs.Living.{lives, is_in, is_subtask, is_living_subtask, any_lives, subtask_count}
+use Rattle.sts_model.specs.Living.{is_in, is_subtask, is_living_subtask, any_lives, subtask_count}
 use Rattle.sts_model.specs.Living.{parent, scope_of, sub_state, completion_of}
 use Rattle.sts_model.specs.Cancelling.{raise, raised, marked, cancel}
 use Rattle.sts_model.specs.Environment.{environment_of, own_bindings}

@@ -2,11 +2,11 @@
 -- there. The rest of the list leads to a state that shows the same.
 use Rattle.std.proofs.Common.{◌≡◌, ℕ, ◌+◌, ◌<◌, ◌≤◌, List, [], ◌∷◌, Bool, true, false}
 use Rattle.std.proofs.Common.{refl, sym, ◌∙◌, ap, subst, length, arith, get_or, set, cond, fold, count_by}
-use Rattle.std.specs.Prelude.{◌==◌}
 use Rattle.std.specs.List.{sum_by}
 use Rattle.std.proofs.lemmas.Bool.Decides.{nat_tests}
-use Rattle.std.proofs.lemmas.List.Sums.{sum_by-set, sum_by-cons}
+use Rattle.std.proofs.lemmas.List.Sums.{sum_by-set}
 use Rattle.std.proofs.lemmas.Bool.{eqb-false}
+use Rattle.laws_words.proofs.ListLemmas.{count-cons}
 use Rattle.sts_code.specs.Program.{Program, routine}
 use Rattle.sts_model.specs.declared.event.Event.{Event}
 use Rattle.sts_model.specs.declared.event.Event.TheVariants as event
@@ -23,7 +23,6 @@ use Rattle.ends_plain.specs.Own.{has_own_step}
 use Rattle.laws_runs.proofs.BirthLemmas.{born_alive}
 use Rattle.ends_plain.proofs.FuelLemmas.{frame_fuel, frame_fuel_named}
 use Rattle.ends_plain.proofs.OwnLemmas.{OwnStep, own_step, goes_on, IsRun, run_on, Swaps, swaps}
-use Rattle.ends_plain.proofs.WayLemmas.{counted}
 
 -- ---- the list without the step
 
@@ -65,11 +64,11 @@ without_counts q t other (e ∷ es) = by (is_step_of t e) refl (without_counts q
     by : (b : Bool) → is_step_of t e ≡ b → count_by q (without t es) ≡ count_by q es → count_by q (cond b es (e ∷ without t es)) ≡ count_by q (e ∷ es)
     by true is h =
         let none : q e ≡ false = ap q (is_step t e is) ∙ other in
-        let all : count_by q (e ∷ es) ≡ cond (q e) 1 0 + count_by q es = counted q e es in
+        let all : count_by q (e ∷ es) ≡ cond (q e) 1 0 + count_by q es = count-cons q e es in
         let one : Bool → ℕ = λ (b : Bool). cond b 1 0 in
         let nothing : one (q e) ≡ one false = ap one none in
         omega (arith, all, nothing)
-    by false is h = counted q e (without t es) ∙ ap (λ (n : ℕ). cond (q e) 1 0 + n) h ∙ sym (counted q e es)
+    by false is h = count-cons q e (without t es) ∙ ap (λ (n : ℕ). cond (q e) 1 0 + n) h ∙ sym (count-cons q e es)
 
 -- ---- the same is shown
 

@@ -1,12 +1,13 @@
 -- Lists of the events that pass a test.
-use Rattle.std.proofs.Common.{◌≡◌, ℕ, zero, suc, ◌+◌, ◌<◌, ◌≤◌, ◌⊎◌, List, [], ◌∷◌, ◌++◌, length, refl, sym, arith, inl, inr}
+use Rattle.std.proofs.Common.{◌≡◌, ℕ, ◌+◌, ◌<◌, ◌≤◌, ◌⊎◌, List, [], ◌∷◌, ◌++◌, length, refl, arith, inl, inr}
 use Rattle.std.proofs.Common.{Bool, true, false}
-use Rattle.std.specs.Prelude.{slice_index_or, ◌&&◌}
 use Rattle.std.specs.List.{Contains}
 use Rattle.std.proofs.Math.Dec.{ltb}
-use Rattle.std.proofs.lemmas.Bool.{ltb-true, ltb-false, and_right}
+use Rattle.std.proofs.lemmas.Bool.{ltb-true, ltb-false, and_right, and_left}
 use Rattle.std.proofs.lemmas.List.{get_or_past}
 use Rattle.std.proofs.lemmas.List.Elements.{Contains-append_left, Contains-append_right, Contains-append_cases}
+use Rattle.std.proofs.lemmas.List.Elements.{Contains-push}
+use Rattle.laws_words.proofs.ListLemmas.{sole}
 use Rattle.sts_model.specs.declared.event.Event.{Event}
 use Rattle.sts_model.specs.declared.event.Event.TheVariants as event
 use Rattle.sts_code.specs.Program.{Program}
@@ -26,19 +27,12 @@ pub record Below (mk : ℕ → Event) (test : Event → Bool) (n : ℕ) (es : Li
 pub below_none : (mk : ℕ → Event) (test : Event → Bool) → Below mk test 0 []
 below_none mk test = record { all = λ k less. absurd (omega arith); only = λ e h. let less : h.0 < 0 = h.1 in absurd (omega arith) }
 
-sole : (x e : Event) (k : ℕ) → k < 1 → slice_index_or (x ∷ []) k e ≡ e → e ≡ x
-sole x e zero less i = sym i
-sole x e (suc k) less i = absurd (omega arith)
-
-holds_last : (xs : List Event) (x : Event) → Contains (xs ++ x ∷ []) x
-holds_last xs x = Contains-append_right xs (x ∷ []) x (0, omega arith, refl)
-
 pub below_push : (mk : ℕ → Event) (test : Event → Bool) (n : ℕ) (es : List Event) → test (mk n) ≡ true → Below mk test n es → Below mk test (n + 1) (es ++ mk n ∷ [])
 below_push mk test n es pass h = record { all = λ k less e. more k e (split k n less); only = λ e c. by e (Contains-append_cases es (mk n ∷ []) e c) }
   where
     more : (k : ℕ) → test (mk k) ≡ true → (k < n) ⊎ (k ≡ n) → Contains (es ++ mk n ∷ []) (mk k)
     more k e (inl less) = Contains-append_left es (mk n ∷ []) (mk k) (h.all k less e)
-    more k e (inr same) = rw same (holds_last es (mk n))
+    more k e (inr same) = rw same (Contains-push es (mk n))
 
     by : (e : Event) → Contains es e ⊎ Contains (mk n ∷ []) e → test e ≡ true
     by e (inl c) = h.only e c
@@ -52,10 +46,6 @@ below_skip mk test n es pass h = record { all = λ k less e. more k e (split k n
     more k e (inr same) = let f : test (mk n) ≡ true = rw same at e in cc
 
 -- ---- what was never born
-
-false_first : (a b : Bool) → a ≡ false → (a && b) ≡ false
-false_first true b e = cc
-false_first false b e = refl
 
 pub unborn_task : (w : World) (t : ℕ) → length w.tasks ≤ t → lives (task_at w t) ≡ false
 unborn_task w t h = rw (get_or_past w.tasks t no_task h) refl
@@ -74,7 +64,7 @@ pub all_steps : (p : Program) (w : World) (n : ℕ) (es : List Event) → n ≡ 
 all_steps p w n es born_all h = record { all = λ e t. by e t; only = h.only }
   where
     by : (e : Event) → steps_now p w e ≡ true → Contains es e
-    by (event.Step t) pass = h.all t (born t n (can_step p w t) pass (λ past. false_first (lives (task_at w t)) (can_go w (task_at w t) (stand_at p w t)) (unborn_task w t (omega arith)))) pass
+    by (event.Step t) pass = h.all t (born t n (can_step p w t) pass (λ past. and_left (lives (task_at w t)) (can_go w (task_at w t) (stand_at p w t)) (unborn_task w t (omega arith)))) pass
     by (event.Interrupt t) pass = cc
     by (event.Expire s) pass = cc
 

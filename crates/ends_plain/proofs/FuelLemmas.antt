@@ -6,7 +6,7 @@ use Rattle.std.specs.List.{range_with_len, sum_by}
 use Rattle.std.specs.Int.{int_wrapping_div, w64}
 use Rattle.std.specs.Ordering.{int_eq}
 use Rattle.std.proofs.Math.Nat.{mul-lt-mul_of_pos_right, mul-le-mul_right, add-mul, one-mul}
-use Rattle.std.proofs.lemmas.Bool.{ltb-true, leb-false, or_parts}
+use Rattle.std.proofs.lemmas.Bool.{ltb-true, leb-false, or_parts, not-false}
 use Rattle.std.proofs.lemmas.Bool.Decides.{nat_tests}
 use Rattle.std.proofs.lemmas.List.Sums.{get_or-le-sum_by}
 use Rattle.std.proofs.lemmas.Option.{slice_get_within, get_or_from_slice_get}
@@ -61,11 +61,7 @@ at_match (Some m) q e = let same : m ≡ q = grind (arith, nat_tests) in ap Some
 
 -- the innermost loop began before the `next` that closes it
 closes_past : (is : List Instr) (pc : ℕ) (l : Loop) (ls : List Loop) → not (closes_loop is pc (l ∷ ls)) ≡ false → l.at < pc
-closes_past is pc l ls e = match_past is l.at pc (at_match (match_of is l.at) pc (yes (is_at (match_of is l.at) pc) e))
-  where
-    yes : (b : Bool) → not b ≡ false → b ≡ true
-    yes true h = refl
-    yes false h = cc
+closes_past is pc l ls e = match_past is l.at pc (at_match (match_of is l.at) pc (not-false (is_at (match_of is l.at) pc) e))
 
 -- ---- fuel
 

@@ -6,6 +6,7 @@ use Rattle.std.specs.Prelude.{Option}
 use Rattle.std.proofs.lemmas.Bool.{or_parts}
 use Rattle.std.proofs.lemmas.List.{get_or_default, map-append}
 use Rattle.std.proofs.lemmas.List.Elements.{Contains-append_left, Contains-append_right, Contains-append_cases}
+use Rattle.laws_words.proofs.ListLemmas.{sole}
 use Rattle.sts_model.specs.Run.{after}
 use Rattle.sts_plain.specs.declared.misstep.PlainState.{PlainState}
 use Rattle.sts_model.specs.World.{State, Running, Faulted}
@@ -26,10 +27,6 @@ use Rattle.ends_plain.proofs.EventLemmas.{split}
 use Rattle.ends_plain.proofs.WayLemmas.{position_after, allowed}
 use Rattle.ends_plain.proofs.OwnLemmas.{IsRun, run_on}
 use Rattle.ends_plain.proofs.ReachLemmas.{IsOver, shows_all, way_of_tries}
-
-sole : {X : Type 0} (x e : X) (k : ℕ) → k < 1 → slice_index_or (x ∷ []) k e ≡ e → e ≡ x
-sole x e zero less i = sym i
-sole x e (suc k) less i = absurd (omega arith)
 
 pub shown_more : (g : Setting) (first : Config) (found : List Found) (f : Found) → AreShown g first found → IsShownBy g first f → AreShown g first (found ++ f ∷ [])
 shown_more g first found f all here e c = by (Contains-append_cases found (f ∷ []) e c)

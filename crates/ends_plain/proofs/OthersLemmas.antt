@@ -25,14 +25,14 @@ use Rattle.sts_model.specs.declared.record.Slot.{Slot}
 use Rattle.sts_model.specs.declared.record.Slot.TheVariants.{Empty, Own, Lent, Sub}
 use Rattle.sts_model.specs.declared.record.Task.{Task}
 use Rattle.sts_model.specs.World.{World, State, Running, Faulted, task_at, scope_at, no_task, fresh_scope, with_task, with_scope, with_frame, instr_at}
-use Rattle.sts_model.specs.Living.{lives, is_living_subtask, any_lives, subtask_count, scope_of, sub_state, ends}
+use Rattle.sts_model.specs.Living.{lives, any_lives, subtask_count, scope_of, sub_state, ends}
 use Rattle.sts_model.specs.Local.{steps, goes, truth, operand}
 use Rattle.sts_model.specs.Joining.{cancels, result_of}
-use Rattle.sts_model.specs.Cancelling.{raised, marked, cancel}
+use Rattle.sts_model.specs.Cancelling.{cancel}
 use Rattle.sts_model.specs.Environment.{environment_of, read}
 use Rattle.sts_model.specs.Effect.{with_phase, open_scope, fork_task, subtask_of, forked, joined, join_verdict, join_scope}
 use Rattle.sts_model.specs.Effect.{closed, close_scope, cleared, told, decide, complete, tell, ended, end_task, effect}
-use Rattle.sts_model.specs.Effect.{named, case_target, value_or_zero, tally, moved}
+use Rattle.sts_model.specs.Effect.{named, case_target, value_or_zero, moved}
 use Rattle.sts_model.specs.Misuse.{slot, at_own, at_sub, misjoins, has_no_room, is_illegal, breaks_structure, is_unbound, misuse}
 use Rattle.sts_model.specs.Misuse.{fault_of, fault_at, is_opened, is_readable, has_succeeded, has_failed, is_crowded}
 use Rattle.sts_model.specs.Standing.{standing_tasks}

@@ -1,11 +1,11 @@
 -- Each way by events that can come is a list of allowed events. An allowed event that can't come
 -- changes nothing.
-use Rattle.std.proofs.Common.{◌≡◌, ℕ, ◌+◌, ◌<◌, List, [], ◌∷◌, ◌++◌, fold, refl, ap, ◌∙◌, arith, count_by, cond}
+use Rattle.std.proofs.Common.{◌≡◌, ℕ, ◌<◌, List, [], ◌∷◌, ◌++◌, fold, refl, ap, ◌∙◌, arith, count_by}
 use Rattle.std.proofs.Common.{Bool, true, false}
-use Rattle.std.specs.Prelude.{◌&&◌}
-use Rattle.std.proofs.lemmas.List.Sums.{sum_by-cons}
 use Rattle.std.proofs.Math.Dec.{ltb}
 use Rattle.std.proofs.lemmas.Bool.{ltb-true, lt-ltb, and_parts}
+use Rattle.laws_words.proofs.BoolLemmas.{other_false}
+use Rattle.laws_words.proofs.ListLemmas.{count-cons}
 use Rattle.sts_code.specs.Program.{Program}
 use Rattle.sts_model.specs.declared.event.Event.{Event}
 use Rattle.sts_model.specs.declared.event.Event.TheVariants as event
@@ -25,10 +25,6 @@ pub position_after : (g : Setting) (c : Config) (events : List Event) → (fold 
 position_after g c [] = refl
 position_after g c (e ∷ es) = position_after g (next g c e) es
 
--- one event more in front of a count
-pub counted : (p : Event → Bool) (e : Event) (es : List Event) → count_by p (e ∷ es) ≡ cond (p e) 1 0 + count_by p es
-counted p e es = sum_by-cons (λ x. cond (p x) 1 0) e es
-
 -- ---- what can come is allowed
 
 can_interrupt : (g : Setting) (left : ℕ) (s : State) (t : ℕ) → can_come g left s (event.Interrupt t) ≡ true → 0 < left
@@ -43,15 +39,15 @@ pub allowed : (g : Setting) (c : Config) (events : List Event) → CanAll (next 
 allowed g c [] h = record { interrupts = omega arith; expiries = λ e. refl }
 allowed g c (event.Step t ∷ es) h =
     let i = allowed g (next g c (event.Step t)) es h.1 in
-    record { interrupts = omega (arith, i.interrupts, counted is_interrupt (event.Step t) es); expiries = λ e. counted is_expiry (event.Step t) es ∙ omega (arith, i.expiries e) }
+    record { interrupts = omega (arith, i.interrupts, count-cons is_interrupt (event.Step t) es); expiries = λ e. count-cons is_expiry (event.Step t) es ∙ omega (arith, i.expiries e) }
 allowed g c (event.Interrupt t ∷ es) h =
     let i = allowed g (next g c (event.Interrupt t)) es h.1 in
     let some : 0 < c.left = can_interrupt g c.left c.position t h.0 in
-    record { interrupts = omega (arith, i.interrupts, some, counted is_interrupt (event.Interrupt t) es); expiries = λ e. counted is_expiry (event.Interrupt t) es ∙ omega (arith, i.expiries e) }
+    record { interrupts = omega (arith, i.interrupts, some, count-cons is_interrupt (event.Interrupt t) es); expiries = λ e. count-cons is_expiry (event.Interrupt t) es ∙ omega (arith, i.expiries e) }
 allowed g c (event.Expire s ∷ es) h =
     let i = allowed g (next g c (event.Expire s)) es h.1 in
     let may : g.expiries ≡ true = can_expire_only g c.left c.position s h.0 in
-    record { interrupts = omega (arith, i.interrupts, counted is_interrupt (event.Expire s) es); expiries = λ e. cc }
+    record { interrupts = omega (arith, i.interrupts, count-cons is_interrupt (event.Expire s) es); expiries = λ e. cc }
 
 -- ---- what is allowed and cannot come changes nothing
 
@@ -63,10 +59,6 @@ idle_interrupt w t e = rw e refl
 
 idle_expire : (w : World) (s : ℕ) → can_expire (scope_at w s) ≡ false → expire w s ≡ w
 idle_expire w s e = rw e refl
-
-other_false : (a b : Bool) → (a && b) ≡ false → a ≡ true → b ≡ false
-other_false true b e f = e
-other_false false b e f = cc
 
 -- one event is allowed: an expiry if these may come, an interrupt while one is left
 pub IsFirst : Setting → ℕ → Event → Type 0
@@ -90,22 +82,22 @@ not_expiries g false e h = absurd (h refl)
 pub first_of_all : (g : Setting) (left : ℕ) (e : Event) (es : List Event) → IsAllowed g.expiries left (e ∷ es) → IsFirst g left e
 unfolding IsFirst
 first_of_all g left (event.Step t) es h = tt
-first_of_all g left (event.Interrupt t) es h = omega (arith, h.interrupts, counted is_interrupt (event.Interrupt t) es)
-first_of_all g left (event.Expire s) es h = not_expiries g g.expiries refl (λ e. let none = h.expiries e in absurd (omega (arith, none, counted is_expiry (event.Expire s) es)))
+first_of_all g left (event.Interrupt t) es h = omega (arith, h.interrupts, count-cons is_interrupt (event.Interrupt t) es)
+first_of_all g left (event.Expire s) es h = not_expiries g g.expiries refl (λ e. let none = h.expiries e in absurd (omega (arith, none, count-cons is_expiry (event.Expire s) es)))
 
 -- what is left of a count
 no_expiry : (e : Event) (es : List Event) → count_by is_expiry (e ∷ es) ≡ 0 → count_by is_expiry es ≡ 0
-no_expiry e es h = omega (arith, h, counted is_expiry e es)
+no_expiry e es h = omega (arith, h, count-cons is_expiry e es)
 
 -- the rest is allowed after an event that came
 pub rest_after : (g : Setting) (left : ℕ) (e : Event) (es : List Event) → IsAllowed g.expiries left (e ∷ es) → IsAllowed g.expiries (left_after left e) es
-rest_after g left (event.Step t) es h = record { interrupts = omega (arith, h.interrupts, counted is_interrupt (event.Step t) es); expiries = λ e. no_expiry (event.Step t) es (h.expiries e) }
-rest_after g left (event.Interrupt t) es h = record { interrupts = omega (arith, h.interrupts, counted is_interrupt (event.Interrupt t) es); expiries = λ e. no_expiry (event.Interrupt t) es (h.expiries e) }
-rest_after g left (event.Expire s) es h = record { interrupts = omega (arith, h.interrupts, counted is_interrupt (event.Expire s) es); expiries = λ e. no_expiry (event.Expire s) es (h.expiries e) }
+rest_after g left (event.Step t) es h = record { interrupts = omega (arith, h.interrupts, count-cons is_interrupt (event.Step t) es); expiries = λ e. no_expiry (event.Step t) es (h.expiries e) }
+rest_after g left (event.Interrupt t) es h = record { interrupts = omega (arith, h.interrupts, count-cons is_interrupt (event.Interrupt t) es); expiries = λ e. no_expiry (event.Interrupt t) es (h.expiries e) }
+rest_after g left (event.Expire s) es h = record { interrupts = omega (arith, h.interrupts, count-cons is_interrupt (event.Expire s) es); expiries = λ e. no_expiry (event.Expire s) es (h.expiries e) }
 
 -- and after one that is left out
 pub rest_without : (g : Setting) (left : ℕ) (e : Event) (es : List Event) → IsAllowed g.expiries left (e ∷ es) → IsAllowed g.expiries left es
-rest_without g left e es h = record { interrupts = omega (arith, h.interrupts, counted is_interrupt e es); expiries = λ f. no_expiry e es (h.expiries f) }
+rest_without g left e es h = record { interrupts = omega (arith, h.interrupts, count-cons is_interrupt e es); expiries = λ f. no_expiry e es (h.expiries f) }
 
 -- ---- a way and one event more
 
