@@ -1,10 +1,10 @@
 -- The edges of instructions go forward and stay inside the function.
-use Rattle.std.proofs.Common.{◌≡◌, ℕ, ◌+◌, ◌<◌, ◌≤◌, ◌⊎◌, inl, inr, Bool, true, false, ◌||◌}
+use Rattle.std.proofs.Common.{◌≡◌, ℕ, ◌+◌, ◌<◌, ◌≤◌, ◌⊎◌, inl, inr, true, false}
 use Rattle.std.proofs.Common.{List, [], ◌∷◌, ◌++◌, map, Option, Some, None, option_map}
 use Rattle.std.proofs.Common.{option_to_list, slice_get, Ok, leb, cond, eqb-true, leb-false, refl}
 use Rattle.std.proofs.Common.{sym, ap, subst, arith}
-use Rattle.std.specs.List.{list_any}
-use Rattle.std.proofs.lemmas.Bool.{not-false}
+use Rattle.std.proofs.lemmas.Bool.{not-false, or_parts}
+use Rattle.sts_types.proofs.AmongLemmas.{none_passes, among_left, among_right}
 use Rattle.sts_code.specs.Program.{Program, routine, instr_at}
 use Rattle.sts_code.specs.declared.instr.Instr.{Instr}
 use Rattle.sts_code.specs.declared.instr.Instr.TheVariants.{Div, Jmp, Jz, Times, Next, Join, Case}
@@ -16,6 +16,7 @@ use Rattle.sts_rules.specs.TypeState.{TypeState}
 use Rattle.sts_rules.specs.Around.{next_place, skipped_to}
 use Rattle.sts_code.specs.Facts.{targets, falls_through}
 use Rattle.sts_rules.specs.Causes.{closes_loop}
+use Rattle.sts_rules.specs.ControlPaths.{Among}
 use Rattle.sts_rules.specs.Edges.{follows, to_optional, moved, or_cause, back_of, typing}
 use Rattle.sts_rules.specs.Fits.{Fits}
 use Rattle.sts_rules.specs.Flow.{Leads}
@@ -24,34 +25,6 @@ use Rattle.sts_types.proofs.Fitting.{fits}
 use Rattle.sts_types.proofs.FollowLemmas.{at_place}
 use Rattle.sts_types.proofs.MatchingLemmas.{ends}
 use Rattle.sts_types.proofs.Passing.{IsForward}
-
--- the list has the place
-abbrev pub Among : List ℕ → ℕ → Type 0
-Among [] to = ⊥
-Among (x ∷ xs) to = (x ≡ to) ⊎ Among xs to
-
-pub among_left : (xs ys : List ℕ) (to : ℕ) → Among xs to → Among (xs ++ ys) to
-among_left [] ys to m = elim m [ ]
-among_left (x ∷ xs) ys to (inl e) = inl e
-among_left (x ∷ xs) ys to (inr m) = inr (among_left xs ys to m)
-
-pub among_right : (xs ys : List ℕ) (to : ℕ) → Among ys to → Among (xs ++ ys) to
-among_right [] ys to m = m
-among_right (x ∷ xs) ys to m = inr (among_right xs ys to m)
-
-first_passes : (test : ℕ → Bool) (x to : ℕ) (rest b : Bool) → test x ≡ b → b || rest ≡ false → x ≡ to → test to ≡ false
-first_passes test x to rest true is e same = cc
-first_passes test x to rest false is e same = subst (λ y. test y ≡ false) same is
-
-rest_passes : (a b : Bool) → a || b ≡ false → b ≡ false
-rest_passes true b e = cc
-rest_passes false b e = e
-
--- a test that no place passes
-pub none_passes : (test : ℕ → Bool) (xs : List ℕ) (to : ℕ) → list_any test xs ≡ false → Among xs to → test to ≡ false
-none_passes test [] to e m = elim m [ ]
-none_passes test (x ∷ xs) to e (inl same) = first_passes test x to (list_any test xs) (test x) refl e same
-none_passes test (x ∷ xs) to e (inr m) = none_passes test xs to (rest_passes (test x) (list_any test xs) e) m
 
 -- an instruction leads to a place that it names, to the next, or past its loop
 abbrev pub LeadsTo : List Instr → ℕ → Instr → ℕ → Type 0
@@ -152,13 +125,9 @@ ends_before code pc (l ∷ ls) q e b = by (match_of code l.at) refl e
         let after = (ends code l.at end m).after in
         omega arith
 
-first_false : (a b : Bool) → a || b ≡ false → a ≡ false
-first_false true b e = cc
-first_false false b e = refl
-
 pub back_down : (p : Program) (f pc : ℕ) (i : Instr) (s : TypeState) (q : ℕ) → Fits p f pc i s → back_of i s ≡ Some q → q ≤ pc
 back_down p f pc Next s q fit b =
-    let matched = first_false _ _ (first_false _ _ fit.loops) in
+    let matched = (or_parts _ _ (or_parts _ _ fit.loops).0).0 in
     ends_before (routine p f).code pc s.loops q (not-false (closes_loop (routine p f).code pc s.loops) matched) b
 back_down p f pc _ s q fit b = cc
 

@@ -1,3 +1,4 @@
+pub mod AmongLemmas
 pub mod Arriving
 pub mod ComparingLemmas
 pub mod EdgeLemmas

@@ -6,7 +6,7 @@ use Rattle.std.proofs.Common.{bytes_eq, eqb, eqb-true, eq-eqb, is_none, is_some,
 use Rattle.std.specs.Option.{option_eq}
 use Rattle.std.specs.List.{range_with_len}
 use Rattle.std.proofs.lemmas.List.{reverse-append, get_or-map, length-map, drop_more, drop_all}
-use Rattle.std.proofs.lemmas.Bool.{cases_lt}
+use Rattle.std.proofs.lemmas.Bool.{cases_lt, and_parts}
 use Rattle.std.proofs.lemmas.Bool.Decides.{nat_tests}
 use Rattle.sts_code.specs.declared.instr.Instr.{Instr}
 use Rattle.sts_code.specs.Loops.{match_of, is_times}
@@ -37,13 +37,9 @@ pub record IsWithin (code : List Instr) (pc p : ℕ) : Type 0 where
   pub match : match_of code p ≡ Some end
   pub reach : pc ≤ end
 
-both : (a b : Bool) → a && b ≡ true → (a ≡ true) × (b ≡ true)
-both true b e = (refl, e)
-both false b e = cc
-
 pub within : (code : List Instr) (pc p : ℕ) → is_inside code pc p ≡ true → IsWithin code pc p
 within code pc p e =
-    let h = both (is_times (instr_at code p)) (reaches_to pc (match_of code p)) e in
+    let h = and_parts (is_times (instr_at code p)) (reaches_to pc (match_of code p)) e in
     by h.0 (match_of code p) refl h.1
   where
     by : is_times (instr_at code p) ≡ true → (o : Option ℕ) → match_of code p ≡ o → reaches_to pc o ≡ true → IsWithin code pc p

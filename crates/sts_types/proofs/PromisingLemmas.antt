@@ -1,15 +1,17 @@
 -- The promises of typing: the open loops of a typestate that is reached are those around its place.
-use Rattle.std.proofs.Common.{◌≡◌, ℕ, ◌<◌, ◌⊎◌, inl, inr, Bool, true, false, ◌||◌, not, List, []}
+use Rattle.std.proofs.Common.{◌≡◌, ℕ, ◌<◌, ◌⊎◌, inl, inr, false, ◌||◌, List, []}
 use Rattle.std.proofs.Common.{◌∷◌, ◌++◌, map, drop, Option, Some, None, Ok, bytes_eq, refl, sym, ap}
 use Rattle.std.proofs.Common.{◌∙◌, subst}
 use Rattle.std.specs.List.{list_any}
-use Rattle.std.proofs.lemmas.Bool.{or_parts}
+use Rattle.std.proofs.lemmas.Bool.{or_parts, not-false}
+use Rattle.sts_types.proofs.AmongLemmas.{none_passes, among_left, among_right}
 use lib.Pointwise.{bytes_decides}
 use Rattle.sts_code.specs.Program.{Program, routine, instr_at}
 use Rattle.sts_code.specs.Checks.{program_fault}
 use Rattle.sts_code.specs.declared.instr.Instr.{Instr}
 use Rattle.sts_code.specs.declared.instr.Instr.TheVariants.{Div, Jz, Times, Next, Fork, Join, Case}
 use Rattle.sts_code.specs.declared.instr.Instr.TheVariants.{Ret, Fail}
+use Rattle.sts_rules.specs.ControlPaths.{Among}
 use Rattle.sts_rules.specs.declared.typing.TypedLoop.{TypedLoop}
 use Rattle.sts_rules.specs.TypeState.{TypeState, heads}
 use Rattle.sts_rules.specs.Around.{next_place, skipped_to, around, open_after}
@@ -23,7 +25,7 @@ use Rattle.sts_rules.specs.Refusal.{size, IsAccepted}
 use Rattle.sts_code.proofs.LimitLemmas.{has_code}
 use Rattle.sts_types.proofs.Fitting.{fits}
 use Rattle.sts_types.proofs.FollowLemmas.{at_place}
-use Rattle.sts_types.proofs.Laws.{Among, LeadsTo, among_left, among_right, next_among, none_passes}
+use Rattle.sts_types.proofs.Laws.{LeadsTo, next_among}
 use Rattle.sts_types.proofs.Laws.{follow_leads, leads_among, or_cause_ok, laws}
 
 -- each edge has these loops open
@@ -55,7 +57,7 @@ plain code pc i loops to x same (inl m) k = inl (among_left (targets i) (skipped
 plain code pc i loops to x same (inr (inl h)) k = inr (next_among pc i to h, k ∙ sym same)
 plain code pc i loops to x same (inr (inr m)) k = inl (among_right (targets i) (skipped_to code pc i) to m, k)
 
-heads_dropped : (loops : List TypedLoop) → heads (drop 1 loops) ≡ drop 1 (heads loops)
+pub heads_dropped : (loops : List TypedLoop) → heads (drop 1 loops) ≡ drop 1 (heads loops)
 heads_dropped [] = refl
 heads_dropped (l ∷ ls) = refl
 
@@ -75,12 +77,8 @@ opens p code pc Ret s to x l = elim l [ ]
 opens p code pc Fail s to x l = elim l [ ]
 opens p code pc i s to x l = plain code pc i (heads s.loops) to x refl (follow_leads p code pc i s to x l) (kept (heads s.loops) (follows p code pc i s) to x (refl, tt) l)
 
-not_other : (code : List Instr) (loops : List ℕ) (to : ℕ) → is_other_loop code loops to ≡ false → around code to ≡ loops
-not_other code loops to e = (bytes_decides (around code to) loops).0 (by (bytes_eq (around code to) loops) e)
-  where
-    by : (b : Bool) → not b ≡ false → b ≡ true
-    by true e = refl
-    by false e = cc
+pub not_other : (code : List Instr) (loops : List ℕ) (to : ℕ) → is_other_loop code loops to ≡ false → around code to ≡ loops
+not_other code loops to e = (bytes_decides (around code to) loops).0 (not-false (bytes_eq (around code to) loops) e)
 
 -- if no cause holds, the loops that an edge leaves open are those around its place
 opened : (p : Program) (f pc : ℕ) (i : Instr) (s : TypeState) (to : ℕ) (after : List ℕ) → Fits p f pc i s → OpensAt (routine p f).code pc i (heads s.loops) to after → after ≡ around (routine p f).code to

@@ -3,6 +3,7 @@ use Rattle.std.proofs.Common.{◌≡◌, ℕ, ◌+◌, ◌-◌, ◌<◌, ◌≤�
 use Rattle.std.proofs.Common.{Option, Some, None, IfSome, is_some, leb, ltb, refl, arith, leb-false}
 use Rattle.std.proofs.Common.{ltb-false}
 use Rattle.std.proofs.lemmas.Bool.{not-false, or_parts}
+use Rattle.laws_words.proofs.BoolLemmas.{other_true, other_false}
 use Rattle.sts_code.specs.Program.{Program}
 use Rattle.sts_code.specs.declared.instr.Instr.{Instr}
 use Rattle.sts_code.specs.declared.instr.Instr.TheVariants.{Join}
@@ -20,20 +21,11 @@ use Rattle.sts_rules.specs.Fits.{Fits}
 use Rattle.sts_types.specs.Room.{HasRoom, JoinHasRoom}
 
 -- a slot that is or_parts of the others is the task's own
-is_owned : (k : SlotKind) → not (is_own k || is_lent k) ≡ false → is_lent k ≡ false → is_own k ≡ true
+pub is_owned : (k : SlotKind) → not (is_own k || is_lent k) ≡ false → is_lent k ≡ false → is_own k ≡ true
 is_owned Empty a b = cc
 is_owned Own a b = refl
 is_owned Lent a b = cc
 is_owned (Sub x state) a b = cc
-
-holds_not : (own passed : Bool) → own ≡ true → own && not passed ≡ false → passed ≡ true
-holds_not true true o e = refl
-holds_not true false o e = cc
-holds_not false passed o e = cc
-
-not_true : (own other : Bool) → own ≡ true → own && other ≡ false → other ≡ false
-not_true true other o e = e
-not_true false other o e = cc
 
 less : (h : ℕ) (b : Bool) → leb 32 h ≡ b → b && true ≡ false → h < 32
 less h true is f = cc
@@ -71,9 +63,9 @@ outcomes : (p : Program) (f pc : ℕ) (i : Instr) (s : TypeState) → Fits p f p
 outcomes p f pc (Join x failed timeout interrupted) s fit =
     let few : s.height ≤ 32 = omega (arith, ltb-false 32 (s.height - 0 + 0) (or_parts (ltb 32 (s.height - 0 + 0)) _ fit.room).0) in
     let own : is_own (kind s x) ≡ true = is_owned (kind s x) (or_parts _ false fit.slots).0 fit.own in
-    let legal : passes can_join (scope_in s.entries x) ≡ true = holds_not (is_own (kind s x)) _ own fit.legal in
+    let legal : passes can_join (scope_in s.entries x) ≡ true = other_true (is_own (kind s x)) _ fit.legal own in
     let room : leb 32 s.height && passes (λ scope. not (is_await_all scope.joiner)) (scope_in s.entries x) ≡ false = swapped (leb 32 s.height) (is_own (kind s x)) _ own (or_parts (ltb 32 (s.height - 0 + 0)) _ fit.room).1 in
-    joins s.height failed timeout (scope_in s.entries x) few room legal (not_true (is_own (kind s x)) _ own fit.joins)
+    joins s.height failed timeout (scope_in s.entries x) few room legal (other_false (is_own (kind s x)) _ fit.joins own)
 outcomes p f pc _ s fit = tt
 
 pub has_room : (p : Program) (f pc : ℕ) (i : Instr) (s : TypeState) → Fits p f pc i s → HasRoom p i s

@@ -1,9 +1,10 @@
 -- Causes at an instruction that only pops and pushes.
-use Rattle.std.proofs.Common.{◌≡◌, ℕ, ◌+◌, Bool, true, false, ◌||◌, Option, Some, None, List, length}
+use Rattle.std.proofs.Common.{◌≡◌, ℕ, ◌+◌, Bool, true, false, Option, Some, None, List, length}
 use Rattle.std.proofs.Common.{cond, leb, refl, sym, ap, subst, ◌∙◌, ◌-◌, ◌≤◌, [], ◌∷◌}
 use Rattle.std.proofs.Common.{◌<◌, IfSome, arith}
 use Rattle.std.specs.List.{All}
-use Rattle.std.proofs.lemmas.Bool.{le-ltb}
+use Rattle.std.proofs.lemmas.Bool.{le-ltb, or_from}
+use Rattle.std.proofs.Math.Bool.{or-false}
 use Rattle.sts_code.specs.Program.{Program, routine}
 use Rattle.sts_code.specs.Facts.{pops, pushes}
 use Rattle.sts_code.specs.declared.instr.Instr.{Instr}
@@ -19,21 +20,17 @@ use Rattle.sts_types.specs.Arrivals.{Arrive, at_height}
 use Rattle.sts_types.specs.Simple.{is_simple, is_straight, IsShort}
 use Rattle.sts_types.proofs.Fitting.{one_of, after_leads, lead_missed}
 
-or_false : (b : Bool) → b || false ≡ b
-or_false true = refl
-or_false false = refl
-
 falls : (code : List Instr) (pc : ℕ) (i : Instr) → is_straight i ≡ true → falls_off code pc i ≡ leb (length code) (pc + 1)
-falls code pc (Push k) e = or_false (leb (length code) (pc + 1))
-falls code pc _ e = let same = or_false (leb (length code) (pc + 1)) in cc
+falls code pc (Push k) e = or-false (leb (length code) (pc + 1))
+falls code pc _ e = let same = or-false (leb (length code) (pc + 1)) in cc
 
 jumps : (pc : ℕ) (i : Instr) → is_straight i ≡ true → jumps_back pc i ≡ false
 jumps pc (Push k) e = refl
 jumps pc _ e = cc
 
 mismatched : (code : List Instr) (pc : ℕ) (i : Instr) (s : TypeState) → is_straight i ≡ true → mismatches code pc i s ≡ is_other_loop code (heads s.loops) (pc + 1)
-mismatched code pc (Push k) s e = or_false (is_other_loop code (heads s.loops) (pc + 1))
-mismatched code pc _ s e = let same = or_false (is_other_loop code (heads s.loops) (pc + 1)) in cc
+mismatched code pc (Push k) s e = or-false (is_other_loop code (heads s.loops) (pc + 1))
+mismatched code pc _ s e = let same = or-false (is_other_loop code (heads s.loops) (pc + 1)) in cc
 
 three : (x y z a b : Bool) (p q r : Cause) → x ≡ a → y ≡ false → z ≡ b → cond a (Some p) (cond b (Some r) None) ≡ one_of x y z p q r None
 three x y z a b p q r e f g = rw (e, f, g) refl
@@ -58,11 +55,8 @@ no_join : (i : Instr) (s : TypeState) → is_simple i ≡ true → join_overflow
 no_join (Push k) s e = refl
 no_join _ s e = cc
 
-neither : (a b : Bool) → a ≡ false → b ≡ false → a || b ≡ false
-neither a b e f = rw (e, f) refl
-
 fits_in : (p : Program) (i : Instr) (s : TypeState) (n : ℕ) → is_simple i ≡ true → n ≡ s.height - pops p i + pushes i → n ≤ 32 → overflows p i s ≡ false
-fits_in p i s n e count few = neither _ _ (le-ltb 32 (s.height - pops p i + pushes i) (subst (λ m. m ≤ 32) count few)) (no_join i s e)
+fits_in p i s n e count few = or_from _ _ (le-ltb 32 (s.height - pops p i + pushes i) (subst (λ m. m ≤ 32) count few)) (no_join i s e)
 
 -- what is tested on the short way is enough
 pub short : (p : Program) (f pc : ℕ) (i : Instr) (s : TypeState) (code : List Instr) (n : ℕ) → is_simple i ≡ true → code ≡ (routine p f).code → lacks_operands p i s ≡ false → n ≡ s.height - pops p i + pushes i → n ≤ 32 → None ≡ cond (leb (length code) (pc + 1)) (Some FallsOff) (cond (is_other_loop code (heads s.loops) (pc + 1)) (Some LoopMismatch) None) → IsShort p f pc i s n
