@@ -96,6 +96,7 @@ fn shortened<'a>(alloc: Global, draft: Draft<'a>) -> Result<Kept<'a>, AllocError
 }
 
 /// Takes the first function that was not taken yet out of the outline, and keeps what is needed.
+#[inline(never)]
 fn keep_next<'a>(
     alloc: Global,
     outline: &mut Outline<'a>,
@@ -114,7 +115,9 @@ fn keep_next<'a>(
     Ok(())
 }
 
-/// Keeps what is needed of each function that has ended, and drops its other lines.
+/// Keeps what is needed of each function that has ended, and drops its other lines. Kept in line, as
+/// few lines end a function.
+#[inline(always)]
 pub(crate) fn keep_ended<'a>(
     alloc: Global,
     outline: &mut Outline<'a>,

@@ -39,6 +39,7 @@ fn cut_class(class: Class, text: &[u8]) -> Option<(&[u8], &[u8])>
 
 /// The first line, the text after its newline, and what is known of the line's bytes. Most lines
 /// are found and judged in one pass.
+#[inline(always)]
 fn cut_line(text: &[u8]) -> Option<(&[u8], &[u8], Known)>
     ensures lines { MatchOption result (lines text.now ≡ text.now ∷ [])
         (λ cut. lines text.now ≡ cut.0.now ∷ lines cut.1.now) }
