@@ -9,3 +9,5 @@ pub mod PlainLemmas
 pub mod TableLemmas
 pub mod TextLemmas
 pub mod SourceLemmas
+pub mod KeptLemmas
+pub mod TakenLemmas

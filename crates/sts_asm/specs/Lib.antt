@@ -9,3 +9,4 @@ pub mod Outline
 pub mod Plain
 pub mod Source
 pub mod Text
+pub mod Kept

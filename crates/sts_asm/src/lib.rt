@@ -2,6 +2,7 @@
 #![tactic(auto)]
 
 mod fault;
+mod kept;
 mod laws;
 mod line;
 mod marks;

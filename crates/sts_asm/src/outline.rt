@@ -2,6 +2,7 @@
 
 ghost use Rattle.std.specs.Prelude.{◌≡◌, ◌∷◌, ◌++◌, ◌+◌, ◌<◌, ◌≤◌, ◌^◌, [], length, option_map};
 ghost use Rattle.std.specs.Prelude.{is_some, None, OnOk, IfOk, IfSome, MatchResult, Ok, IsTrue, true};
+ghost use Rattle.std.specs.Prelude.{Some, slice_get, slice_set};
 ghost use Rattle.std.specs.List.{list_all, position, before_first};
 ghost use Rattle.sts_text.specs.Words.{words as words_in};
 ghost use Rattle.sts_asm.specs.Fault.{Steps, Fails};
@@ -11,6 +12,7 @@ ghost use Rattle.sts_asm.specs.Outline as def;
 ghost use Rattle.sts_asm.specs.Outline.{no_needs, profile_at, with_keys, keys_at, needs_at};
 ghost use Rattle.sts_asm.specs.Outline.{label_of, is_allowed, is_semicolon, is_plain, size_of};
 ghost use Rattle.sts_asm.specs.Outline.{instructions};
+ghost use Rattle.sts_asm.specs.Kept.{no_draft};
 
 use crate::fault::{AsmKind, LineFault, LineKind};
 use crate::line::{operandless_of, with_operands};
@@ -19,6 +21,7 @@ use crate::operand::{byte_at, is_word, name_at, name_text};
 use crate::plain::Known;
 use std::alloc::{AllocError, Global};
 use std::marker::Model;
+use std::mem;
 use sts_code::{Instr, Profile, is_name};
 use sts_text::{Words, number_up_to};
 
@@ -36,6 +39,17 @@ impl<'a> Model for Sentence<'a> {
     ghost Value = { Sentence };
 
     ghost view = { λ s. record { line = s.line; words = words s.text.now } };
+}
+
+impl<'a> Sentence<'a> {
+    pub(crate) fn copy(&self) -> Sentence<'a>
+        ensures { result ≡ self.now }
+    {
+        Sentence {
+            line: self.line,
+            text: self.text,
+        }
+    }
 }
 
 /// The lines of a function's instructions, and the instruction of each, as read without names.
@@ -57,6 +71,16 @@ impl<'a> Model for Lines<'a> {
 }
 
 impl<'a> Lines<'a> {
+    /// No line.
+    fn new(alloc: Global) -> Lines<'a>
+        ensures { result ≡ [] }
+    {
+        Lines {
+            sentences: Vec::new(alloc),
+            unnamed: Vec::new(alloc),
+        }
+    }
+
     /// No line yet, and room for `count` lines.
     fn with_room(alloc: Global, count: usize) -> Result<Lines<'a>, AllocError>
         ensures { IfOk result (λ lines. lines ≡ []) }
@@ -204,6 +228,19 @@ pub fn label_of(word: &[u8]) -> Option<&[u8]>
 }
 
 impl<'a> Draft<'a> {
+    /// A function without a name and without lines.
+    fn new(alloc: Global) -> Draft<'a>
+        ensures { result ≡ no_draft }
+    {
+        Draft {
+            name: "",
+            args: 0,
+            needs: [false; 16],
+            labels: Marks::new(alloc),
+            code: Lines::new(alloc),
+        }
+    }
+
     #[inline(never)]
     fn label(&mut self, name: &'a [u8]) -> Result<(), LineFault>
         requires { length self.old.code < 2 ^ 32 }
@@ -262,6 +299,8 @@ pub struct Outline<'a> {
     pub(crate) functions: Marks<'a>,
     pub(crate) done: Vec<Draft<'a>>,
     pub(crate) current: Option<Draft<'a>>,
+    /// How many instructions the function has that ended last.
+    room: usize,
     pub(crate) alloc: Global,
 }
 
@@ -335,6 +374,7 @@ impl<'a> Outline<'a> {
             functions: Marks::new(alloc),
             done: Vec::new(alloc),
             current: None,
+            room: 0,
             alloc,
         }
     }
@@ -346,12 +386,16 @@ impl<'a> Outline<'a> {
         self.current.is_some()
     }
 
-    /// How many instructions the function before has, as functions of a text are often alike.
-    fn last_length(&self) -> usize {
-        match self.done.last() {
-            Some(draft) => draft.code.len(),
-            None => 0,
-        }
+    /// Takes an ended function out, and leaves an empty one in its place.
+    pub(crate) fn take(&mut self, number: usize) -> Draft<'a>
+        requires { number < length self.old.done }
+        ensures taken { slice_get self.old.done number ≡ Some result }
+        ensures left { self.new ≡ record self.old {
+          done = slice_set self.old.done number no_draft;
+        } }
+    {
+        let empty = Draft::new(self.alloc);
+        mem::replace(&mut self.done[number], empty)
     }
 
     #[inline(never)]
@@ -372,7 +416,8 @@ impl<'a> Outline<'a> {
         if self.current.is_some() {
             return Err(LineFault(LineKind::Unclosed));
         }
-        let draft = header_at(self.alloc, self.last_length(), rest)?;
+        // Functions of a text are often alike, so there's room for as many lines as the last had.
+        let draft = header_at(self.alloc, self.room, rest)?;
         self.open(draft)?;
         Ok(())
     }
@@ -408,6 +453,7 @@ impl<'a> Outline<'a> {
     {
         self.done.reserve(1)?;
         if let Some(draft) = self.current.take() {
+            self.room = draft.code.len();
             self.done.push_reserved(draft);
         }
         Ok(())

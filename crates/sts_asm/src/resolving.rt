@@ -4,13 +4,15 @@ ghost use Rattle.std.specs.Prelude.{◌≡◌, Some};
 ghost use Rattle.sts_code.specs.Checks.{program_fault};
 ghost use Rattle.sts_text.specs.Words.{words as words_in};
 ghost use Rattle.sts_asm.specs.Fault.{Judges};
+ghost use Rattle.sts_asm.specs.Kept.{filled, routine_of, program_of};
 ghost use Rattle.sts_asm.specs.Line.{has_names, instr_of};
-ghost use Rattle.sts_asm.specs.Text.{each, instr_at, routine_of, checked, program_of};
+ghost use Rattle.sts_asm.specs.Text.{each, instr_at, checked};
 
 use crate::fault::{AsmError, AsmKind, LineFault, LineKind};
+use crate::kept::Kept;
 use crate::line::instr_of;
 use crate::marks::{Marks, Names};
-use crate::outline::{Draft, Lines, Outline, Sentence};
+use crate::outline::{Outline, Sentence};
 use std::alloc::Global;
 use sts_code::{Function, Instr, Profile, Program};
 use sts_text::Words;
@@ -26,7 +28,7 @@ fn instr_in(text: &[u8], names: &Names<'_, '_>) -> Result<Instr, LineFault>
 }
 
 /// Does it name a label or a function?
-fn has_names(instr: &Instr) -> bool
+pub(crate) fn has_names(instr: &Instr) -> bool
     ensures { result ≡ has_names instr.now }
 {
     matches!(
@@ -56,15 +58,24 @@ fn instr_at(names: &Names<'_, '_>, sentence: &Sentence<'_>) -> Result<Instr, Asm
     }
 }
 
-/// The instructions of the lines. An instruction without names was read before.
-fn code_of(names: &Names<'_, '_>, lines: Lines<'_>) -> Result<Vec<Instr>, AsmError>
-    ensures { Judges (λ code. code.items) result (each (instr_at names.now) lines.entry) }
+/// The instructions of a function. Those that name something are read again, from their lines.
+fn filled(
+    names: &Names<'_, '_>,
+    again: &[Sentence<'_>],
+    code: Vec<Instr>,
+) -> Result<Vec<Instr>, AsmError>
+    ensures { Judges (λ code. code.items) result
+        (filled (instr_at names.now) again.now code.items) }
 {
-    let Lines { sentences, unnamed } = lines;
-    let mut code = unnamed;
-    for (at, sentence) in sentences.iter().enumerate() {
+    let mut code = code;
+    let mut next = 0;
+    for at in 0..code.len() {
+        if next == again.len() {
+            return Ok(code);
+        }
         if has_names(&code[at]) {
-            code[at] = instr_at(names, sentence)?;
+            code[at] = instr_at(names, &again[next])?;
+            next += 1;
         }
     }
     Ok(code)
@@ -73,19 +84,20 @@ fn code_of(names: &Names<'_, '_>, lines: Lines<'_>) -> Result<Vec<Instr>, AsmErr
 fn routine_of<'a>(
     alloc: Global,
     functions: &Marks<'a>,
-    draft: Draft<'a>,
+    kept: Kept<'a>,
 ) -> Result<Function, AsmError>
-    ensures { Judges (λ f. f) result (routine_of functions.now draft.entry) }
+    ensures { Judges (λ f. f) result (routine_of functions.now kept.entry) }
 {
-    let Draft {
+    let Kept {
         name,
         args,
         needs,
         labels,
+        again,
         code,
-    } = draft;
+    } = kept;
     let names = Names::new(&labels, functions);
-    let code = code_of(&names, code)?;
+    let code = filled(&names, again.as_slice(), code)?;
     let name = String::from_str(alloc, name)?;
     Ok(Function {
         name,
@@ -98,13 +110,13 @@ fn routine_of<'a>(
 fn routines_of<'a>(
     alloc: Global,
     functions: &Marks<'a>,
-    drafts: Vec<Draft<'a>>,
+    all: Vec<Kept<'a>>,
 ) -> Result<Vec<Function>, AsmError>
-    ensures { Judges (λ fs. fs.items) result (each (routine_of functions.now) drafts.entry.items) }
+    ensures { Judges (λ fs. fs.items) result (each (routine_of functions.now) all.entry.items) }
 {
     let mut routines = Vec::new(alloc);
-    for draft in drafts {
-        let routine = routine_of(alloc, functions, draft)?;
+    for kept in all {
+        let routine = routine_of(alloc, functions, kept)?;
         routines.push(routine)?;
     }
     Ok(routines)
@@ -115,25 +127,15 @@ fn routines_of<'a>(
 /// # Errors
 ///
 /// The first fault with its line, or memory ran out.
-pub fn program_of(alloc: Global, outline: Outline<'_>) -> Result<Program, AsmError>
-    ensures { Judges (λ p. p) result (program_of outline.entry) }
+pub(crate) fn program_of<'a>(
+    alloc: Global,
+    outline: &Outline<'a>,
+    all: Vec<Kept<'a>>,
+) -> Result<Program, AsmError>
+    ensures { Judges (λ p. p) result (program_of outline.now all.entry.items) }
 {
-    let profile = outline.profile;
-    let routines = all_routines(alloc, outline)?;
-    checked(profile, routines)
-}
-
-/// The functions of a text, the names in their lines looked up.
-fn all_routines(alloc: Global, outline: Outline<'_>) -> Result<Vec<Function>, AsmError>
-    ensures { Judges (λ fs. fs.items) result
-        (each (routine_of outline.entry.functions) outline.entry.done) }
-{
-    let Outline {
-        functions,
-        done,
-        ..
-    } = outline;
-    routines_of(alloc, &functions, done)
+    let routines = routines_of(alloc, &outline.functions, all)?;
+    checked(outline.profile, routines)
 }
 
 /// The program of these functions, or the program check that fails.

@@ -7,10 +7,12 @@ ghost use Rattle.sts_text.specs.Words.{lines};
 ghost use Rattle.sts_asm.specs.Fault.{Judges, StepsAt, at_line};
 ghost use Rattle.sts_asm.specs.Outline.{empty, outline_of, line_read, size_of};
 ghost use Rattle.sts_asm.specs.Outline.{is_plain, is_allowed};
+ghost use Rattle.sts_asm.specs.Kept.{AllTaken};
 ghost use Rattle.sts_asm.specs.Plain.{is_in};
 ghost use Rattle.sts_asm.specs.Text.{judged};
 
 use crate::fault::{AsmError, AsmKind, LineFault, LineKind};
+use crate::kept::{Kept, keep_ended};
 use crate::outline::Outline;
 use crate::plain::{Class, Known, end_of};
 use crate::resolving::program_of;
@@ -37,6 +39,7 @@ fn cut_class(class: Class, text: &[u8]) -> Option<(&[u8], &[u8])>
 
 /// The first line, the text after its newline, and what is known of the line's bytes. Most lines
 /// are found and judged in one pass.
+#[inline(always)]
 fn cut_line(text: &[u8]) -> Option<(&[u8], &[u8], Known)>
     ensures lines { MatchOption result (lines text.now ≡ text.now ∷ [])
         (λ cut. lines text.now ≡ cut.0.now ∷ lines cut.1.now) }
@@ -123,6 +126,42 @@ fn read_text<'a>(outline: &mut Outline<'a>, text: &'a [u8]) -> Result<(), AsmErr
     Ok(())
 }
 
+/// Reads the text into the outline before the first line. Functions that have ended are taken out
+/// of it, and lines that aren't read again are dropped.
+fn read_kept<'a>(
+    alloc: Global,
+    outline: &mut Outline<'a>,
+    all: &mut Vec<Kept<'a>>,
+    text: &'a [u8],
+) -> Result<(), AsmError>
+    requires new { outline.old ≡ empty }
+    requires none { all.old.items ≡ [] }
+    requires short { length text.now ≤ 1048576 }
+    ensures { AllTaken result outline.new all.new.items (outline_of text.now) }
+{
+    let mut rest = text;
+    let mut at: u32 = 1;
+    while let Some((line, after, known)) = cut_line(rest) {
+        line_at(outline, at, line, known)?;
+        keep_ended(alloc, outline, all)?;
+        rest = after;
+        at += 1;
+    }
+    let unknown = Known {
+        plain: false,
+        allowed: false,
+    };
+    line_at(outline, at, rest, unknown)?;
+    keep_ended(alloc, outline, all)?;
+    if outline.is_open() {
+        return Err(AsmError {
+            line: at,
+            kind: AsmKind::Unclosed,
+        });
+    }
+    Ok(())
+}
+
 /// The functions of the text, before names are looked up.
 pub(crate) fn outline_of<'a>(alloc: Global, text: &'a [u8]) -> Result<Outline<'a>, AsmError>
     requires { length text.now ≤ 1048576 }
@@ -146,6 +185,8 @@ pub fn assemble(alloc: Global, text: &[u8]) -> Result<Program, AsmError>
             kind: AsmKind::TextTooLong,
         });
     }
-    let outline = outline_of(alloc, text)?;
-    program_of(alloc, outline)
+    let mut outline = Outline::new(alloc);
+    let mut all = Vec::new(alloc);
+    read_kept(alloc, &mut outline, &mut all, text)?;
+    program_of(alloc, &outline, all)
 }

@@ -1,0 +1,146 @@
+-- A function is assembled alike from what is kept of it.
+use Rattle.std.proofs.Common.{◌≡◌, ℕ, suc, ◌+◌, get_or, ◌<◌, ◌≤◌, Bool, true, false}
+use Rattle.std.proofs.Common.{List, [], ◌∷◌, ◌++◌, length, take, drop, refl, sym, ◌∙◌, ap, arith}
+use Rattle.std.specs.Prelude.{Some, None, Result, Ok, Err, if◌then◌else◌}
+use Rattle.std.proofs.lemmas.List.{append-nil, append_assoc, drop_all, take_all, take-append-drop}
+use Rattle.sts_code.specs.declared.instr.Instr.{Instr}
+use Rattle.sts_asm.specs.declared.fault.AsmKind.{AsmKind}
+use Rattle.sts_asm.specs.declared.fault.AsmKind.TheVariants.{UnknownWord}
+use Rattle.sts_asm.specs.declared.fault.AsmError.{AsmError}
+use Rattle.sts_asm.specs.Fault.{◌>>=◌, at_line, FailsAt}
+use Rattle.sts_asm.specs.Marks.{Mark, Names}
+use Rattle.sts_asm.specs.Line.{has_names, instr_of}
+use Rattle.sts_asm.specs.Outline.{Sentence, Draft, AreUnnamed}
+use Rattle.sts_asm.specs.Text.{each, instr_at, routine_of}
+use Rattle.sts_asm.specs.Kept as kept
+use Rattle.sts_asm.specs.Kept.{Kept, IsKept, AreKept, naming_lines, filled}
+use Rattle.sts_asm.proofs.EachLemmas.{with_front}
+use Rattle.sts_asm.proofs.InPlaceLemmas.{moved, next_of}
+use Rattle.sts_asm.proofs.NamelessLemmas.{nameless}
+use Rattle.sts_asm.proofs.TextLemmas.{fails_on, ok_bind, err_bind}
+
+-- ---- the lines that are read again
+
+bool_cases : {P : Type 0} (b : Bool) → (b ≡ true → P) → (b ≡ false → P) → P
+bool_cases true f g = f refl
+bool_cases false f g = g refl
+
+-- each instruction has its line
+pub same_length : (lines : List Sentence) (code : List Instr) → AreUnnamed lines code → length lines ≡ length code
+same_length [] [] h = refl
+same_length [] (i ∷ code) h = absurd (cc)
+same_length (s ∷ ss) [] h = absurd (cc)
+same_length (s ∷ ss) (i ∷ code) h = ap suc (same_length ss code (ap (drop 1) h))
+
+naming_next : (lines : List Sentence) (code : List Instr) (at : ℕ) (s : Sentence) (d c : Instr) → at < length lines → s ≡ get_or lines at s → at < length code → c ≡ get_or code at d → naming_lines (drop at lines) (drop at code) ≡ naming_lines (s ∷ drop (at + 1) lines) (c ∷ drop (at + 1) code)
+naming_next lines code at s d c low is room c_is = rw (next_of lines at s s low is, next_of code at d c room c_is) refl
+
+-- one line more
+pub naming_step : (lines : List Sentence) (code : List Instr) (front after whole : List Sentence) (at : ℕ) (s : Sentence) (d c : Instr) → at < length lines → s ≡ get_or lines at s → at < length code → c ≡ get_or code at d → after ≡ (if has_names c then front ++ s ∷ [] else front) → front ++ naming_lines (drop at lines) (drop at code) ≡ whole → after ++ naming_lines (drop (at + 1) lines) (drop (at + 1) code) ≡ whole
+naming_step lines code front after whole at s d c low is room c_is more h =
+    let rest : List Sentence = naming_lines (drop (at + 1) lines) (drop (at + 1) code) in
+    let next = naming_next lines code at s d c low is room c_is in
+    bool_cases (has_names c)
+    (λ e.
+    let first : naming_lines (s ∷ drop (at + 1) lines) (c ∷ drop (at + 1) code) ≡ s ∷ rest = rw e refl in
+    let here : naming_lines (drop at lines) (drop at code) ≡ s ∷ rest = next ∙ first in
+    rw (more, e) (append_assoc front (s ∷ []) rest ∙ sym (ap (λ (xs : List Sentence). front ++ xs) here) ∙ h))
+    (λ e.
+    let first : naming_lines (s ∷ drop (at + 1) lines) (c ∷ drop (at + 1) code) ≡ rest = rw e refl in
+    let here : naming_lines (drop at lines) (drop at code) ≡ rest = next ∙ first in
+    rw (more, e) (sym (ap (λ (xs : List Sentence). front ++ xs) here) ∙ h))
+
+-- ---- the instructions
+
+pub filled_skip : (read : Sentence → Result Instr AsmError) (again : List Sentence) (c : Instr) (code : List Instr) → has_names c ≡ false → filled read again (c ∷ code) ≡ (filled read again code >>= λ (is : List Instr). Ok (c ∷ is))
+filled_skip read [] c code e = refl
+filled_skip read (line ∷ again) c code e = rw e refl
+
+pub filled_take : (read : Sentence → Result Instr AsmError) (line : Sentence) (again : List Sentence) (c : Instr) (code : List Instr) → has_names c ≡ true → filled read (line ∷ again) (c ∷ code) ≡ (read line >>= λ (j : Instr). filled read again code >>= λ (is : List Instr). Ok (j ∷ is))
+filled_take read line again c code e = rw e refl
+
+-- nothing is left to be filled
+pub filled_end : (read : Sentence → Result Instr AsmError) (again : List Sentence) → filled read again [] ≡ Ok []
+filled_end read [] = refl
+filled_end read (line ∷ again) = refl
+
+-- the lines that are read again give what all lines give
+pub filled_each : (names : Names) (lines : List Sentence) (code : List Instr) → AreUnnamed lines code → filled (instr_at names) (naming_lines lines code) code ≡ each (instr_at names) lines
+filled_each names [] [] h = refl
+filled_each names [] (i ∷ code) h = absurd (cc)
+filled_each names (s ∷ ss) [] h = absurd (cc)
+filled_each names (s ∷ ss) (i ∷ code) h =
+    let read : Sentence → Result Instr AsmError = instr_at names in
+    let more : filled read (naming_lines ss code) code ≡ each read ss = filled_each names ss code (ap (drop 1) h) in
+    let first : instr_of None s.words ≡ Ok i = ap (λ (rs : List (Result Instr AsmKind)). get_or rs 0 (Err UnknownWord)) h in
+    bool_cases (has_names i)
+    (λ e. rw (e, e, more) refl)
+    (λ e.
+    let said : instr_at names s ≡ Ok i = ap (at_line s.line) (nameless (Some names) i s.words e first) in
+    let skip : filled read (naming_lines ss code) (i ∷ code) ≡ (filled read (naming_lines ss code) code >>= λ (is : List Instr). Ok (i ∷ is)) = filled_skip read (naming_lines ss code) i code e in
+    let last : (filled read (naming_lines ss code) code >>= λ (is : List Instr). Ok (i ∷ is)) ≡ each read (s ∷ ss) = rw (more, said) refl in
+    rw e (skip ∙ last))
+
+-- ---- one place more
+
+place_next : (read : Sentence → Result Instr AsmError) (again : List Sentence) (code : List Instr) (at : ℕ) (c : Instr) → at < length code → c ≡ get_or code at c → filled read again (drop at code) ≡ filled read again (c ∷ drop (at + 1) code)
+place_next read again code at c room is = ap (λ (cs : List Instr). filled read again cs) (next_of code at c c room is)
+
+-- an instruction that names something was read again
+pub filled_more : (read : Sentence → Result Instr AsmError) (again : List Sentence) (next : ℕ) (line : Sentence) (code after : List Instr) (at : ℕ) (c y : Instr) (whole : Result (List Instr) AsmError) → drop next again ≡ line ∷ drop (next + 1) again → at < length code → c ≡ get_or code at c → has_names c ≡ true → read line ≡ Ok y → take (at + 1) after ≡ take at code ++ y ∷ [] → drop (at + 1) after ≡ drop (at + 1) code → with_front (take at code) (filled read (drop next again) (drop at code)) ≡ whole → with_front (take (at + 1) after) (filled read (drop (next + 1) again) (drop (at + 1) after)) ≡ whole
+filled_more read again next line code after at c y whole l room is e said front more h =
+    let rest : Result (List Instr) AsmError = filled read (drop (next + 1) again) (drop (at + 1) code) in
+    let here : filled read (drop next again) (drop at code) ≡ (rest >>= λ (is : List Instr). Ok (y ∷ is)) =
+    place_next read (drop next again) code at c room is ∙ ap (λ (ls : List Sentence). filled read ls (c ∷ drop (at + 1) code)) l
+    ∙ filled_take read line (drop (next + 1) again) c (drop (at + 1) code) e ∙ ok_bind (read line) (λ (j : Instr). rest >>= λ (is : List Instr). Ok (j ∷ is)) y said in
+    rw (front, more) (moved (take at code) y rest ∙ sym (ap (with_front (take at code)) here) ∙ h)
+
+-- an instruction that names nothing stays
+pub filled_less : (read : Sentence → Result Instr AsmError) (again : List Sentence) (next : ℕ) (code after : List Instr) (at : ℕ) (c : Instr) (whole : Result (List Instr) AsmError) → at < length code → c ≡ get_or code at c → has_names c ≡ false → take (at + 1) after ≡ take at code ++ c ∷ [] → drop (at + 1) after ≡ drop (at + 1) code → with_front (take at code) (filled read (drop next again) (drop at code)) ≡ whole → with_front (take (at + 1) after) (filled read (drop next again) (drop (at + 1) after)) ≡ whole
+filled_less read again next code after at c whole room is e front more h =
+    let rest : Result (List Instr) AsmError = filled read (drop next again) (drop (at + 1) code) in
+    let here : filled read (drop next again) (drop at code) ≡ (rest >>= λ (is : List Instr). Ok (c ∷ is)) =
+    place_next read (drop next again) code at c room is ∙ filled_skip read (drop next again) c (drop (at + 1) code) e in
+    rw (front, more) (moved (take at code) c rest ∙ sym (ap (with_front (take at code)) here) ∙ h)
+
+fault_here : (read : Sentence → Result Instr AsmError) (again : List Sentence) (next : ℕ) (line : Sentence) (code : List Instr) (at : ℕ) (c : Instr) (whole : Result (List Instr) AsmError) (f : AsmError) → drop next again ≡ line ∷ drop (next + 1) again → at < length code → c ≡ get_or code at c → has_names c ≡ true → with_front (take at code) (filled read (drop next again) (drop at code)) ≡ whole → read line ≡ Err f → whole ≡ Err f
+fault_here read again next line code at c whole f l room is e h said =
+    let rest : Result (List Instr) AsmError = filled read (drop (next + 1) again) (drop (at + 1) code) in
+    let here : filled read (drop next again) (drop at code) ≡ Err f =
+    place_next read (drop next again) code at c room is ∙ ap (λ (ls : List Sentence). filled read ls (c ∷ drop (at + 1) code)) l
+    ∙ filled_take read line (drop (next + 1) again) c (drop (at + 1) code) e ∙ err_bind (read line) (λ (j : Instr). rest >>= λ (is : List Instr). Ok (j ∷ is)) f said in
+    sym h ∙ ap (with_front (take at code)) here
+
+-- the fault of a line that is read again is the first
+pub filled_fails : (read : Sentence → Result Instr AsmError) (again : List Sentence) (next : ℕ) (line : Sentence) (code : List Instr) (at : ℕ) (c : Instr) (whole : Result (List Instr) AsmError) (f : AsmError) → drop next again ≡ line ∷ drop (next + 1) again → at < length code → c ≡ get_or code at c → has_names c ≡ true → with_front (take at code) (filled read (drop next again) (drop at code)) ≡ whole → FailsAt f f.kind (read line) → FailsAt f f.kind whole
+filled_fails read again next line code at c whole f l room is e h fails =
+    fails_on f.kind f (read line) whole (fault_here read again next line code at c whole f l room is e h) fails
+
+-- all places are filled
+pub filled_done : (read : Sentence → Result Instr AsmError) (again : List Sentence) (code : List Instr) (at : ℕ) (whole : Result (List Instr) AsmError) → length code ≤ at → with_front (take at code) (filled read again (drop at code)) ≡ whole → whole ≡ Ok code
+filled_done read again code at whole end h =
+    let none : filled read again (drop at code) ≡ Ok [] = rw (drop_all at code end) (filled_end read again) in
+    let all : with_front (take at code) (Ok []) ≡ Ok code = rw (append-nil (take at code), take_all at code end) refl in
+    sym h ∙ ap (with_front (take at code)) none ∙ all
+
+-- no line is left to be read again
+pub filled_none : (read : Sentence → Result Instr AsmError) (again : List Sentence) (next : ℕ) (code : List Instr) (at : ℕ) (whole : Result (List Instr) AsmError) → next ≡ length again → with_front (take at code) (filled read (drop next again) (drop at code)) ≡ whole → whole ≡ Ok code
+filled_none read again next code at whole end h =
+    let none : drop next again ≡ [] = drop_all next again (omega arith) in
+    let rest : filled read (drop next again) (drop at code) ≡ Ok (drop at code) = rw none refl in
+    let all : with_front (take at code) (Ok (drop at code)) ≡ Ok code = rw (take-append-drop at code) refl in
+    sym h ∙ ap (with_front (take at code)) rest ∙ all
+
+-- ---- functions
+
+routine_same : (functions : List Mark) (d : Draft) (k : Kept) → IsKept d k → kept.routine_of functions k ≡ routine_of functions d
+routine_same functions d k h =
+    let names : Names = record { labels = d.labels; functions = functions } in
+    let code : filled (instr_at names) (naming_lines d.code k.code) k.code ≡ each (instr_at names) d.code = filled_each names d.code k.code h.unnamed in
+    rw (h.labels, h.again, h.name, h.args, h.needs, code) refl
+
+pub routines_same : (functions : List Mark) (ds : List Draft) (ks : List Kept) → AreKept ds ks → each (kept.routine_of functions) ks ≡ each (routine_of functions) ds
+routines_same functions [] [] h = refl
+routines_same functions [] (k ∷ ks) h = absurd h
+routines_same functions (d ∷ ds) [] h = absurd h
+routines_same functions (d ∷ ds) (k ∷ ks) h = rw (routine_same functions d k h.0, routines_same functions ds ks h.1) refl

@@ -1,0 +1,136 @@
+//! What is kept of a function that has ended.
+
+ghost use Rattle.std.specs.Prelude.{◌≡◌, ◌<◌, ◌≤◌, ◌+◌, ◌++◌, ◌∷◌, [], length, IfOk, OnOk};
+ghost use Rattle.std.specs.Prelude.{if◌then◌else◌};
+ghost use Rattle.sts_asm.specs.Kept as def;
+ghost use Rattle.sts_asm.specs.Kept.{AreTaken, IsKept};
+ghost use Rattle.sts_asm.specs.Line.{has_names};
+ghost use Rattle.sts_asm.specs.Outline.{Outline, size_of};
+
+use crate::marks::Marks;
+use crate::outline::{Draft, Lines, Outline, Sentence};
+use crate::resolving::has_names;
+use std::alloc::{AllocError, Global};
+use std::marker::Model;
+use sts_code::Instr;
+
+/// A function that has ended: its instructions as they were read without names, and the lines that
+/// are read again, since they name a label or a function.
+#[derive(Drop)]
+pub(crate) struct Kept<'a> {
+    pub(crate) name: &'a str,
+    pub(crate) args: u8,
+    pub(crate) needs: [bool; 16],
+    pub(crate) labels: Marks<'a>,
+    pub(crate) again: Vec<Sentence<'a>>,
+    pub(crate) code: Vec<Instr>,
+}
+
+impl<'a> Model for Kept<'a> {
+    ghost use Rattle.sts_asm.specs.Kept.{Kept};
+
+    ghost Value = { Kept };
+
+    ghost view = { λ k. record {
+      name = k.name.now;
+      args = k.args;
+      needs = k.needs;
+      labels = k.labels;
+      again = k.again.items;
+      code = k.code.items;
+    } };
+}
+
+/// Adds a line if its instruction names a label or a function.
+fn add_naming<'a>(
+    again: &mut Vec<Sentence<'a>>,
+    line: &Sentence<'a>,
+    instr: &Instr,
+) -> Result<(), AllocError>
+    ensures { OnOk result (again.new.items ≡ (if has_names instr.now
+        then again.old.items ++ line.now ∷ [] else again.old.items)) }
+{
+    if has_names(instr) {
+        again.push(line.copy())?;
+    }
+    Ok(())
+}
+
+/// The lines whose instructions name a label or a function.
+fn naming_lines<'a>(
+    alloc: Global,
+    lines: &[Sentence<'a>],
+    code: &[Instr],
+) -> Result<Vec<Sentence<'a>>, AllocError>
+    requires { length lines.now ≡ length code.now }
+    ensures { IfOk result (λ again. again.items ≡ def.naming_lines lines.now code.now) }
+{
+    let mut again = Vec::new(alloc);
+    for at in 0..lines.len() {
+        add_naming(&mut again, &lines[at], &code[at])?;
+    }
+    Ok(again)
+}
+
+/// Keeps what is needed of a function, and drops its other lines.
+fn shortened<'a>(alloc: Global, draft: Draft<'a>) -> Result<Kept<'a>, AllocError>
+    ensures { IfOk result (IsKept draft.entry) }
+{
+    let Draft {
+        name,
+        args,
+        needs,
+        labels,
+        code,
+    } = draft;
+    let Lines { sentences, unnamed } = code;
+    let again = naming_lines(alloc, sentences.as_slice(), unnamed.as_slice())?;
+    Ok(Kept {
+        name,
+        args,
+        needs,
+        labels,
+        again,
+        code: unnamed,
+    })
+}
+
+/// Takes the first function that was not taken yet out of the outline, and keeps what is needed.
+#[inline(never)]
+fn keep_next<'a>(
+    alloc: Global,
+    outline: &mut Outline<'a>,
+    all: &mut Vec<Kept<'a>>,
+) -> Result<(), AllocError>
+    requires { length all.old.items < length outline.old.done }
+    ensures taken { OnOk result ((o : Outline) → AreTaken o outline.old all.old.items →
+        AreTaken o outline.new all.new.items) }
+    ensures size { OnOk result (size_of outline.new ≡ size_of outline.old) }
+    ensures done { OnOk result (length outline.new.done ≡ length outline.old.done) }
+    ensures more { OnOk result (length all.new.items ≡ length all.old.items + 1) }
+{
+    let draft = outline.take(all.len());
+    let function = shortened(alloc, draft)?;
+    all.push(function)?;
+    Ok(())
+}
+
+/// Keeps what is needed of each function that has ended, and drops its other lines. Kept in line, as
+/// few lines end a function.
+#[inline(always)]
+pub(crate) fn keep_ended<'a>(
+    alloc: Global,
+    outline: &mut Outline<'a>,
+    all: &mut Vec<Kept<'a>>,
+) -> Result<(), AllocError>
+    requires { length all.old.items ≤ length outline.old.done }
+    ensures taken { OnOk result ((o : Outline) → AreTaken o outline.old all.old.items →
+        AreTaken o outline.new all.new.items) }
+    ensures size { OnOk result (size_of outline.new ≡ size_of outline.old) }
+    ensures all { OnOk result (length all.new.items ≡ length outline.new.done) }
+{
+    while all.len() < outline.function_count() {
+        keep_next(alloc, outline, all)?;
+    }
+    Ok(())
+}
