@@ -1,6 +1,9 @@
-use Rattle.std.proofs.Common.{rules}
+use Rattle.std.proofs.Common.{rules, sym, ◌∙◌}
 use Rattle.std.proofs.lemmas.Fn.{filter_same}
 use Rattle.sts_pool.proofs.book.forget.Goals as goal
+
+pub returns-then-is_alone-clause-items : goal.returns-then-is_alone-clause-items
+returns-then-is_alone-clause-items c = ?
 
 pub returns-clause-items : goal.returns-clause-items
 returns-clause-items c = filter_same _ _ _ (λ x b f' k. search rules) _ _ c.retain.ensures.filtered
