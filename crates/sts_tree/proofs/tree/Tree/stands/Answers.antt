@@ -52,7 +52,8 @@ returns-clause-can_step g c =
     in
     let is : c.if-was.can_step ≡ (x.lives && can_go mid x.flag c.args.stand) =
     elim c.if-was.branch [
-      then-was w ↦ let s = ap (λ b. b && can_go mid x.flag c.args.stand) w.if-was.true in cc (s, w.can_step-is, w.can_go-can_step.ensures)
-    | else-was w ↦ let s = ap (λ b. b && can_go mid x.flag c.args.stand) w.if-was.false in cc (s, w.can_step-is) ]
+      | then-was w ↦ let s = ap (λ b. b && can_go mid x.flag c.args.stand) w.if-was.true in cc (s, w.can_step-is, w.can_go-can_step.ensures)
+      | else-was w ↦ let s = ap (λ b. b && can_go mid x.flag c.args.stand) w.if-was.false in cc (s, w.can_step-is)
+    ]
     in
     is ∙ sym own ∙ sym (same_steps c.settle_at.new.forest mid c.settle_at.ensures.seen c.args.t)
