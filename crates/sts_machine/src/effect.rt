@@ -20,7 +20,6 @@ use sts_store::Store;
 
 /// Does the next instruction of a living task, which isn't a local one. It must be no misuse, and
 /// there must be room for it.
-#[inline(always)]
 pub(crate) fn effect(store: &mut Store, program: &Program, code: &[Instr], t: u32, instr: &Instr)
     requires lives { lives_in (live_of store.old) t ≡ true }
     requires own_code { code.now ≡ world.code program.now (frame_of store.old t) }
