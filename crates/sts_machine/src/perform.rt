@@ -18,7 +18,7 @@ ghost use Rattle.laws_live.specs.Order.{InOrder};
 ghost use Rattle.sts_store.specs.Parts.{frame_of, live_of, stand_in, unseen_of};
 
 use crate::effect::effect;
-use crate::stands::{can_go_on, say_stand, say_stand_if_near};
+use crate::stands::{say_stand, say_stand_if_near};
 use laws_live::{effects_move_one, idle_stand_free};
 use sts_code::{Instr, Program};
 use sts_frames::is_local;
@@ -139,6 +139,5 @@ pub(crate) fn perform(
     if ends_task(instr) {
         return false;
     }
-    let stand = say_stand(store, program, t, may_wait(instr));
-    can_go_on(store, program, t, stand)
+    say_stand(store, program, t, may_wait(instr))
 }

@@ -66,10 +66,10 @@ fn is_free(stand: Stand) -> bool
     matches!(stand, Stand::Free)
 }
 
-/// Records at which scope a living task is, and answers that. For a task that can't have waited no
-/// scope is recorded, so it needs no new record.
+/// Records at which scope a living task is, and answers whether it can step. For a task that can't
+/// have waited no scope is recorded. If it is at none, it needs no new record, and can step.
 #[inline(always)]
-pub(crate) fn say_stand(store: &mut Store, program: &Program, t: u32, waited: bool) -> Stand
+pub(crate) fn say_stand(store: &mut Store, program: &Program, t: u32, waited: bool) -> bool
     requires lives { lives_in (live_of store.old) t ≡ true }
     requires order { InOrder (live_of store.old) }
     requires others { AreStandingBut program.now (live_of store.old) (unseen_of store.old) t }
@@ -80,29 +80,14 @@ pub(crate) fn say_stand(store: &mut Store, program: &Program, t: u32, waited: bo
     ensures standing { AreStanding program.now (live_of store.new) (unseen_of store.new) }
     ensures room { (b : AnyBudgets) → HasRoomOf b (live_of store.old) (unseen_of store.old)
         → HasRoomOf b (live_of store.new) (unseen_of store.new) }
-    ensures stand { result ≡ live_stand_at program.now (live_of store.new) t }
+    ensures can_step { result ≡ live_can_step program.now (live_of store.new) t }
 {
     stands_are_owned();
     let stand = stand_at(store, program, t);
     if waited || !is_free(stand) {
-        store.stand(t, stand);
+        return store.stands(t, stand);
     }
-    stand
-}
-
-/// Whether a living task can step that is at this scope, or at none. A task that is at none can.
-#[inline(always)]
-pub(crate) fn can_go_on(store: &Store, program: &Program, t: u32, stand: Stand) -> bool
-    requires lives { lives_in (live_of store.now) t ≡ true }
-    requires standing { AreStanding program.now (live_of store.now) (unseen_of store.now) }
-    requires stand { stand ≡ live_stand_at program.now (live_of store.now) t }
-    ensures { result ≡ live_can_step program.now (live_of store.now) t }
-{
-    let _ = program;
-    if is_free(stand) {
-        return true;
-    }
-    store.can_step(t)
+    true
 }
 
 /// Records at which scope a living task is that was at none before, and answers whether it can step.
@@ -125,6 +110,5 @@ pub(crate) fn say_stand_if_near(store: &mut Store, program: &Program, t: u32, is
     if !is_near {
         return true;
     }
-    let stand = say_stand(store, program, t, false);
-    can_go_on(store, program, t, stand)
+    say_stand(store, program, t, false)
 }

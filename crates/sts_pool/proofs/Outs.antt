@@ -44,6 +44,15 @@ apart_more xs t apart absent = IsDistinct-push nat_eq_equiv xs t apart (sym (amo
 abbrev pub without : ℕ → List ℕ → List ℕ
 without t xs = filter (λ o. not (o == t)) xs
 
+-- the list of one task, without that one
+pub alone_without : (t : ℕ) (xs : List ℕ) → length xs ≡ 1 → get_or xs 0 0 ≡ t → without t xs ≡ []
+alone_without t [] long is = absurd (cc)
+alone_without t (x ∷ []) long is = ap (λ b. cond (not b) (x ∷ []) []) (same x t is)
+  where
+    same : (a b : ℕ) → a ≡ b → (a == b) ≡ true
+    same a b e = grind (arith, nat_tests)
+alone_without t (x ∷ (y ∷ ys)) long is = absurd (cc)
+
 pub taken_out : (t : ℕ) (xs : List ℕ) → among (without t xs) t ≡ false
 taken_out t xs = any-filter_same (λ o. o == t) (λ o. not (o == t)) false (λ k e. ap not e) xs
 

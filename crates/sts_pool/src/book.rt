@@ -412,6 +412,7 @@ impl<'p> Book<'p> {
     }
 
     /// Is there another task that can step, or one that is out?
+    #[inline(never)]
     pub(crate) fn has_other(&self, task: u32) -> bool {
         !self.out.is_empty() || self.machine.ready_beside(&[task]).is_some()
     }
@@ -449,10 +450,25 @@ fn is_among(out: &[u32], task: u32) -> bool
     !out.is_empty() && out.contains(&task)
 }
 
-/// Takes one task out of a list.
+/// Is the task the only one of the list?
+#[inline(always)]
+fn is_alone(out: &[u32], task: u32) -> bool
+    ensures { result ≡ true → filter (λ o. not (o == task)) out.now ≡ [] }
+{
+    if out.len() != 1 {
+        return false;
+    }
+    out[0] == task
+}
+
+/// Takes one task out of a list. Usually it is the only one.
 fn forget(out: &mut Vec<u32>, task: u32)
     ensures items { out.new.items ≡ filter (λ o. not (o == task)) out.old.items }
     ensures capacity { vec_capacity out.new ≡ vec_capacity out.old }
 {
+    if is_alone(out.as_slice(), task) {
+        out.clear();
+        return;
+    }
     out.retain(|t| *t != task);
 }

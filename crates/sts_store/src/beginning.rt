@@ -11,26 +11,26 @@ use sts_model::{Frame, Slot};
 use sts_records::Held;
 
 /// A frame at place 0, with these locals, and this slot 0.
-fn first_frame(function: u32, locals: [i64; 16], slot: Slot) -> Frame
-    ensures { result ≡ record (def.entry_frame function [] slot) { locals = locals } }
+fn first_frame(function: u32, locals: &[i64; 16], slot: Slot) -> Frame
+    ensures { result ≡ record (def.entry_frame function [] slot) { locals = locals.now } }
 {
     let mut frame = root_frame(function);
-    frame.locals = locals;
+    frame.locals = *locals;
     frame.slots[0] = slot;
     frame
 }
 
 /// Writes the frame at place 0, with these locals and this slot 0, over another one.
 #[inline(always)]
-fn begin_over(frame: &mut Frame, function: u32, locals: [i64; 16], slot: Slot)
-    ensures { frame.new ≡ record (def.entry_frame function [] slot) { locals = locals } }
+fn begin_over(frame: &mut Frame, function: u32, locals: &[i64; 16], slot: Slot)
+    ensures { frame.new ≡ record (def.entry_frame function [] slot) { locals = locals.now } }
 {
     frame.function = function;
     frame.pc = 0;
     frame.operands.drop_top(frame.operands.len());
     frame.loops.drop_top(frame.loops.len());
     frame.entries.drop_top(frame.entries.len());
-    frame.locals = locals;
+    frame.locals = *locals;
     frame.slots = [Slot::Empty; 16];
     frame.slots[0] = slot;
 }
@@ -40,14 +40,14 @@ fn begin_over(frame: &mut Frame, function: u32, locals: [i64; 16], slot: Slot)
 pub(crate) fn begin(
     frames: &mut Held<Running>,
     function: u32,
-    locals: [i64; 16],
+    locals: &[i64; 16],
     slot: Slot,
     env: Env,
 )
     requires room { 0 < frames.old.room }
     requires births { length frames.old.slots < MAX_BIRTHS }
     ensures slots { frames.new.slots ≡ frames.old.slots ++ Some (record {
-      frame = record (def.entry_frame function [] slot) { locals = locals };
+      frame = record (def.entry_frame function [] slot) { locals = locals.now };
       env = env;
     }) ∷ [] }
     ensures room { frames.new.room ≡ frames.old.room - 1 }

@@ -17,6 +17,7 @@ use sts_tree::Tree;
 
 /// Ends a living task and tells the joiner of its scope. Cancels the scope if the joiner asks for
 /// it.
+#[inline(always)]
 fn finish(tree: &mut Tree<Env>, t: u32, end: End)
     requires { (x : AnyTask)
         × (slice_index_or tree.old.tasks t None ≡ Some x) × (x.lives ≡ true) }
@@ -25,7 +26,7 @@ fn finish(tree: &mut Tree<Env>, t: u32, end: End)
     ensures home { (x : AnyTask) (s : ℕ) → slice_index_or tree.old.tasks t None ≡ Some x →
         x.scope ≡ Some s → slice_index_or tree.old.scopes s None ≢ None }
 {
-    let home = tree.task(t).unwrap().scope;
+    let home = tree.node(t).scope;
     let asks = tree.end_task(t, end);
     if asks {
         if let Some(s) = home {
@@ -34,16 +35,20 @@ fn finish(tree: &mut Tree<Env>, t: u32, end: End)
     }
 }
 
-/// How the root ended, once a task has.
-fn root_end_after(root_end: Option<End>, t: u32, end: End) -> Option<End>
-    ensures { result ≡ (if t == 0 then Some end else root_end) }
+/// Notes how a task ended, if it is the root.
+#[inline(always)]
+fn note_root_end(root_end: &mut Option<End>, t: u32, end: End)
+    ensures { root_end.new ≡ (if t == 0 then Some end else root_end.old) }
 {
-    if t == 0 { Some(end) } else { root_end }
+    if t == 0 {
+        *root_end = Some(end);
+    }
 }
 
 impl Store {
     /// Ends a living task. The joiner of its scope is told unless the scope is cancelled, and may
     /// ask to cancel it.
+    #[inline(always)]
     pub fn end(&mut self, t: u32, end: End)
         requires { lives_in (live_of self.old) t ≡ true }
         ensures live { live_of self.new ≡ live_end (live_of self.old) t end }
@@ -53,6 +58,6 @@ impl Store {
     {
         finish(&mut self.tree, t, end);
         self.frames.discard(t as usize);
-        self.root_end = root_end_after(self.root_end, t, end);
+        note_root_end(&mut self.root_end, t, end);
     }
 }

@@ -26,7 +26,7 @@ use sts_records::Held;
 fn place(
     frames: &mut Held<Running>,
     function: u32,
-    locals: [i64; 16],
+    locals: &[i64; 16],
     slot: Slot,
     env: Env,
     lives: bool,
@@ -34,7 +34,7 @@ fn place(
     requires room { 0 < frames.old.room }
     requires births { length frames.old.slots < MAX_BIRTHS }
     ensures slots { frames.new.slots ≡ frames.old.slots ++ (if lives then Some (record {
-      frame = record (def.entry_frame function [] slot) { locals = locals };
+      frame = record (def.entry_frame function [] slot) { locals = locals.now };
       env = env;
     }) else None) ∷ [] }
     ensures room { frames.new.room
@@ -78,7 +78,7 @@ impl Store {
         place(
             &mut self.frames,
             function,
-            entry.locals,
+            &entry.locals,
             Slot::Lent(s),
             env,
             lives,

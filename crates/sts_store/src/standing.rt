@@ -20,7 +20,20 @@ impl Store {
         ensures live { live_of self.new ≡ live_of self.old }
         ensures unseen { unseen_of self.new ≡ stood_unseen (unseen_of self.old) t stand }
     {
-        self.tree.stand(t, stand);
+        self.stands(t, stand);
+    }
+
+    /// Records whether a living task is at a scope of its own, or at none, and answers whether it may
+    /// step then.
+    #[inline(always)]
+    pub fn stands(&mut self, t: u32, stand: Stand) -> bool
+        requires lives { lives_in (live_of self.old) t ≡ true }
+        requires owned { (s : ℕ) → is_stand_at s stand ≡ true → IsOwned (live_of self.old) t s }
+        ensures live { live_of self.new ≡ live_of self.old }
+        ensures unseen { unseen_of self.new ≡ stood_unseen (unseen_of self.old) t stand }
+        ensures can_step { result ≡ can_go_on self.new t }
+    {
+        self.tree.stands(t, stand)
     }
 
     /// May the task step, by the scope that is recorded for it?

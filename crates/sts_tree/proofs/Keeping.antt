@@ -1,7 +1,7 @@
 -- After one change, which tasks can step, and which own which scopes.
 use Rattle.std.proofs.Common.{◌≡◌, ◌≢◌, ℕ, zero, suc, ◌<◌, List, [], ◌∷◌, ◌++◌, map, Bool, true, false, ◌&&◌, ◌||◌, not, Option, Some, None, refl, sym, ◌∙◌, ap, arith, get_or, set, get_or-set_same, get_or-set_other, is_some, nat_eq, nat_lt, length}
 use Rattle.std.proofs.lemmas.Bool.Decides.{nat_tests}
-use Rattle.std.proofs.lemmas.List.{get_or_append_left, get_or_past}
+use Rattle.std.proofs.lemmas.List.{get_or_append_left, get_or_past, set-get_or}
 use Rattle.std.specs.Prelude.{option_map}
 use Rattle.std.proofs.lemmas.Option.{same_Some}
 use Rattle.sts_model.specs.declared.event.Stand.{Stand}
@@ -59,6 +59,17 @@ module _ {E : Type 0} where
       by : (o : Option TaskNode) → step_of (with_task f t y) o ≡ step_of f o
       by None = refl
       by (Some z) = ap (λ b. z.lives && b) (go_task f t x y z.flag z.stand is scope lives)
+
+  -- the step of the task that is written
+  pub steps_own : (f : Forest E) (t : ℕ) (x y : TaskNode) → get_or f.tasks t None ≡ Some x → can_step (with_task f t y) t ≡ (y.lives && can_go (with_task f t y) y.flag y.stand)
+  steps_own f t x y is =
+      ap (step_of (with_task f t y)) (get_or-set_same f.tasks t (Some y) None (inside_of f.tasks t (λ n. let q : Some x ≡ None = sym is ∙ n in cc)))
+
+  -- a task is written as it was
+  pub same_task : (f : Forest E) (t : ℕ) (x : TaskNode) → get_or f.tasks t None ≡ Some x → with_task f t x ≡ f
+  same_task f t x is =
+      ap (λ o. record f { tasks = set f.tasks t o }) (sym is)
+      ∙ ap (λ ts. record f { tasks = ts }) (set-get_or f.tasks t None)
 
   pub owned_task : (f : Forest E) (t : ℕ) (x y : TaskNode) → Owned f → get_or f.tasks t None ≡ Some x → ((s : ℕ) → y.lives ≡ true → stands_at s y.stand ≡ true → (c : ScopeNode E) × (get_or f.scopes s None ≡ Some c) × (c.owner ≡ t)) → Owned (with_task f t y)
   owned_task f t x y owned is here u s z at lives stands =
@@ -273,6 +284,34 @@ module _ {E : Type 0} where
             ∙ sym (ap (λ (h : Forest E). can_step h u) e)));
         owned = owned_seen one two seen2 (owned_seen (with_more f y keys room) one (seen1 ∙ ap (λ (h : Forest E). seen h) e) (owned_more f keys room y is.owned free));
       }
+
+  at_none : (f g : Forest E) (x : TaskNode) → x.stand ≡ Free → step_of f (Some x) ≡ step_of g (Some x)
+  at_none f g x free = rw free refl
+
+  -- a task at no scope is where it belongs after another one was added and settled
+  pub added_free : (f mid one : Forest E) (keys : List ℕ) (room n owner : ℕ) (x y : TaskNode) → IsTree f → mid ≡ with_more f y keys room → n ≡ length f.tasks → seen one ≡ seen mid → ((u : ℕ) → (u ≢ n → has u mid.ready ≡ can_step mid u) → has u one.ready ≡ can_step one u) → get_or one.tasks owner None ≡ Some x → x.stand ≡ Free → has owner one.ready ≡ can_step one owner
+  added_free f mid one keys room n owner x y is e size seen1 ready1 at free =
+      ready1 owner (λ ne.
+      ap (λ (h : Forest E). has owner h.ready) e ∙ is.ready owner ∙ sym (same ne)
+      ∙ sym (ap (λ (h : Forest E). can_step h owner) e))
+    where
+      more : Forest E
+      more = with_more f y keys room
+
+      there : option_map unmarked (get_or more.tasks owner None) ≡ Some (unmarked x)
+      there =
+          sym (map_at unmarked more.tasks owner)
+          ∙ ap (λ (h : Forest E). get_or h.tasks owner None) (sym (seen1 ∙ ap (λ (h : Forest E). seen h) e))
+          ∙ map_at unmarked one.tasks owner ∙ ap (option_map unmarked) at
+
+      by : (o : Option TaskNode) → option_map unmarked o ≡ Some (unmarked x) → step_of more o ≡ step_of f o
+      by None q = refl
+      by (Some z) q = at_none more f z (ap (λ (w : TaskNode). w.stand) (same_Some (unmarked z) (unmarked x) q) ∙ free)
+
+      same : owner ≢ n → can_step more owner ≡ can_step f owner
+      same ne =
+          let r = read_more f.tasks y owner (λ q. ne (q ∙ sym size)) in
+          ap (step_of more) r ∙ by (get_or f.tasks owner None) (ap (option_map unmarked) (sym r) ∙ there)
 
   -- a new subtask can step if it lives
   pub fresh_step : (f mid : Forest E) (lives : Bool) (s t : ℕ) (keys : List ℕ) (room : ℕ) → mid ≡ with_more f (subtask s lives) keys room → t ≡ length f.tasks → lives ≡ can_step mid t

@@ -238,13 +238,29 @@ impl<E: Drop> Forest<E> {
         ensures was { (x : AnyTask) → slice_index_or self.old.tasks t None ≡ Some x →
             result ≡ true → x.stand ≡ stand }
     {
+        self.swap_stand(t, stand).1
+    }
+
+    /// Sets whether a task is at a `join`, at a `close` or at neither. Returns the task as it was, and
+    /// whether it was there before.
+    #[inline(always)]
+    pub(crate) fn swap_stand(&mut self, t: u32, stand: Stand) -> (TaskNode, bool)
+        requires { slice_index_or self.old.tasks t None ≢ None }
+        ensures was { slice_index_or self.old.tasks t None ≡ Some result.0 }
+        ensures same { result.1 ≡ true → result.0.stand ≡ stand }
+        ensures ready { result.0.ready ≡ has t self.old.ready }
+        ensures set { self.new ≡ record self.old {
+          tasks = slice_set self.old.tasks t (Some (record result.0 { stand = stand }));
+        } }
+    {
         let task = &mut self.tasks.held.at(t as usize).task;
-        let was = task.stand == stand;
+        let was = *task;
         task.stand = stand;
-        was
+        (was, was.stand == stand)
     }
 
     /// Appends a task to the ready list.
+    #[inline(always)]
     pub fn push_ready(&mut self, t: u32)
         requires stands { slice_index_or self.old.tasks t None ≢ None }
         requires waits { has t self.old.ready ≡ false }
@@ -259,6 +275,7 @@ impl<E: Drop> Forest<E> {
     }
 
     /// Takes a task out of the ready list.
+    #[inline(always)]
     pub fn drop_ready(&mut self, t: u32)
         requires stands { slice_index_or self.old.tasks t None ≢ None }
         requires ready { has t self.old.ready ≡ true }

@@ -17,6 +17,14 @@ use crate::tree::Tree;
 use sts_code::{Joiner, Kind};
 use sts_model::{End, Phase, Verdict};
 
+/// Is the task in the list? Usually the list is empty.
+#[inline(always)]
+fn contains(list: &[u32], t: u32) -> bool
+    ensures value { result ≡ list_any (λ o. o == t) list.now }
+{
+    !list.is_empty() && list.contains(&t)
+}
+
 impl<E: Drop> Tree<E> {
     ghost use Rattle.sts_tree.specs.declared.record.ScopeNode.{ScopeNode as AnyScope};
 
@@ -27,6 +35,17 @@ impl<E: Drop> Tree<E> {
             x.scope ≡ Some s → slice_index_or self.now.scopes s None ≢ None }
     {
         self.forest.task(t)
+    }
+
+    /// The task of a birth. It must still count.
+    #[inline(always)]
+    pub fn node(&self, t: u32) -> &TaskNode
+        requires { slice_index_or self.now.tasks t None ≢ None }
+        ensures value { slice_index_or self.now.tasks t None ≡ Some result.now }
+        ensures home { (s : ℕ) → result.now.scope ≡ Some s →
+            slice_index_or self.now.scopes s None ≢ None }
+    {
+        self.forest.task_node(t)
     }
 
     /// The scope of a birth, if it isn't closed.
@@ -263,7 +282,7 @@ impl<E: Drop> Tree<E> {
     {
         let mut at = self.ready_front();
         while let Some(t) = at {
-            if !out.contains(&t) {
+            if !contains(out, t) {
                 return Some(t);
             }
             at = self.ready_after(t);

@@ -12,7 +12,7 @@ ghost use Rattle.sts_tree.specs.Steps as steps;
 ghost use Rattle.sts_tree.specs.Steps.{seen, with_task, with_scope, stands_at};
 
 use crate::forest::Forest;
-use crate::settling::{Place, settle, settle_at};
+use crate::settling::{Place, can_go, settle, settle_at, settle_waiting};
 use std::alloc::{AllocError, Global};
 use std::marker::Model;
 use sts_code::Joiner;
@@ -104,7 +104,7 @@ impl<E: Drop> Tree<E> {
             is_ready: false,
         };
         settle_at(&mut self.forest, t, place);
-        settle(&mut self.forest, owner);
+        settle_waiting(&mut self.forest, owner);
         (t, lives)
     }
 
@@ -198,9 +198,31 @@ impl<E: Drop> Tree<E> {
         ensures { (x : AnyTask) → slice_index_or self.old.tasks t None ≡ Some x →
             seen self.new ≡ seen (with_task self.old t (record x { stand = stand })) }
     {
-        if !self.forest.set_stand(t, stand) {
-            settle(&mut self.forest, t);
+        self.stands(t, stand);
+    }
+
+    /// Sets whether a task is at a `join`, at a `close` or at neither, and answers whether it can step
+    /// then.
+    #[inline(always)]
+    pub fn stands(&mut self, t: u32, stand: Stand) -> bool
+        requires stands { slice_index_or self.old.tasks t None ≢ None }
+        requires owner { (s : ℕ) → stands_at s stand ≡ true →
+            (c : AnyScope E) × (slice_index_or self.old.scopes s None ≡ Some c) × (c.owner ≡ t) }
+        ensures seen { (x : AnyTask) → slice_index_or self.old.tasks t None ≡ Some x →
+            seen self.new ≡ seen (with_task self.old t (record x { stand = stand })) }
+        ensures can_step { result ≡ steps.can_step self.new t }
+    {
+        let (was, is_same) = self.forest.swap_stand(t, stand);
+        if is_same {
+            return was.ready;
         }
+        let can_step = was.lives && can_go(&self.forest, was.flag, stand);
+        let place = Place {
+            can_step,
+            is_ready: was.ready,
+        };
+        settle_at(&mut self.forest, t, place);
+        can_step
     }
 
     /// Marks a scope as cancelled, and wakes its owner.

@@ -1,6 +1,6 @@
 //! What a worker does at one hold of the lock.
 
-ghost use Rattle.std.specs.Prelude.{◌≡◌};
+ghost use Rattle.std.specs.Prelude.{◌≡◌, IfSome};
 
 use crate::tasks::Tasks;
 use crate::waits::Waits;
@@ -24,29 +24,48 @@ impl Waits {
     pub fn hold<T: Tasks>(&mut self, tasks: &mut T, worker: Worker, batch: &mut T::Batch) -> Held
         ensures ended { result.worker ≡ Worker.Ended → result.wake ≡ Wake.All }
     {
+        if worker == Worker::Ended {
+            return Held::last();
+        }
+        if let Some(task) = self.works(tasks, worker, batch) {
+            if let Some(held) = self.lend(tasks, task, batch) {
+                return held;
+            }
+        }
+        let looks = match worker {
+            Worker::Looking(looks) => looks.saturating_add(1),
+            _ => 0,
+        };
+        self.find(tasks, looks)
+    }
+
+    /// Does a worker's steps under the lock. Answers with a task whose slice is to be taken, if there
+    /// is one.
+    #[inline(always)]
+    fn works<T: Tasks>(
+        &mut self,
+        tasks: &mut T,
+        worker: Worker,
+        batch: &mut T::Batch,
+    ) -> Option<u32> {
         match worker {
-            Worker::New => {
-                self.comes();
-                self.find(tasks, 0)
-            }
-            Worker::Looking(looks) => self.find(tasks, looks.saturating_add(1)),
-            Worker::Asleep => {
-                self.rises();
-                self.find(tasks, 0)
-            }
             Worker::Claiming(task) => {
                 tasks.release(task);
-                if !self.has_stopped && self.has_long_row(tasks, task) {
-                    self.lend(tasks, task, batch)
-                } else {
-                    self.find(tasks, 0)
+                if self.has_stopped || !self.has_long_row(tasks, task) {
+                    return None;
                 }
+                Some(task)
             }
-            Worker::Out { slices, .. } => match self.take_back_all(tasks, slices, batch) {
-                Some(task) => self.lend(tasks, task, batch),
-                None => self.find(tasks, 0),
-            },
-            Worker::Ended => Held::last(),
+            Worker::Out { slices, .. } => self.take_back_all(tasks, slices, batch),
+            Worker::New => {
+                self.comes();
+                None
+            }
+            Worker::Asleep => {
+                self.rises();
+                None
+            }
+            Worker::Looking(_) | Worker::Ended => None,
         }
     }
 
@@ -106,6 +125,7 @@ impl Waits {
     /// Does a task's steps under the lock: turns, and local instructions in place behind some turns
     /// in a row. Answers whether a slice of the task is to be taken, since it has a long row of local
     /// instructions. If not, the task can't step, or it had its share of this hold.
+    #[inline(always)]
     fn has_long_row<T: Tasks>(&mut self, tasks: &mut T, task: u32) -> bool {
         let mut left = self.in_a_hold();
         let mut turns = self.limits.in_a_row;
@@ -140,10 +160,10 @@ impl Waits {
         self.wants_batches() && tasks.is_at_hand(task.saturating_add(self.limits.many))
     }
 
-    /// Takes a slice of a task, or slices of it and of those born next if many tasks can step. Finds
-    /// a task if none of them can.
-    fn lend<T: Tasks>(&mut self, tasks: &mut T, task: u32, batch: &mut T::Batch) -> Held
-        ensures { result.worker ≡ Worker.Ended → result.wake ≡ Wake.All }
+    /// Takes a slice of a task, or slices of it and of those born next if many tasks can step. Answers
+    /// `None` if none of them can.
+    fn lend<T: Tasks>(&mut self, tasks: &mut T, task: u32, batch: &mut T::Batch) -> Option<Held>
+        ensures { IfSome result (λ h. h.worker ≡ Worker.Ended → h.wake ≡ Wake.All) }
     {
         tasks.ask();
         let has_many = self.has_many(tasks, task);
@@ -156,21 +176,22 @@ impl Waits {
             }
         }
         if slices == 0 {
-            return self.find(tasks, 0);
+            return None;
         }
         self.next = end;
         self.lends(has_many);
         let wake = self.wake(tasks);
         let limit = self.at_once(slices);
-        Held {
+        Some(Held {
             worker: Worker::Out { slices, limit },
             wake,
-        }
+        })
     }
 
     /// Takes back the slice at a place of a batch, and does its task's steps under the lock. Returns
     /// the task if a slice of it is to be taken again. A slice of another run stops this one; none
     /// ever comes.
+    #[inline(never)]
     fn take_back<T: Tasks>(
         &mut self,
         tasks: &mut T,

@@ -138,10 +138,12 @@ impl Waits {
         self.tries > 0
     }
 
-    /// A worker claimed a task.
+    /// A worker claimed a task. Only several workers need the mean.
     pub(crate) fn claims(&mut self) {
         self.tries = self.tries.saturating_sub(1);
-        self.averages(self.row);
+        if self.workers > 1 {
+            self.averages(self.row);
+        }
         self.row = 0;
     }
 
