@@ -7,10 +7,11 @@ use Rattle.std.proofs.lemmas.List.Sums.{fold-append}
 use Rattle.std.proofs.Math.ListN.{get_or-append}
 use Rattle.std.proofs.Math.Seq.{get_or-append_seam}
 use Rattle.std.specs.Prelude.{slice_index_or, Option, None, drop}
+use Rattle.std.proofs.lemmas.List.Elements.{Contains-push}
 use Rattle.sts_model.specs.declared.event.Event.{Event}
 use Rattle.ends_search.specs.declared.origin.Origin.{Origin}
 use Rattle.ends_search.specs.Search.{Grows, Begins, Follows, LeadsInto, IsKept, AreKept, IsAmong, IsSpace, CanAt, mark_at, state_at, states_of, with_next}
-use Rattle.ends_search.proofs.SearchLemmas.{split, traced_more, searched_on, searched_more, holds_last}
+use Rattle.ends_search.proofs.SearchLemmas.{split, traced_more, searched_on, searched_more}
 
 -- ---- the states
 
@@ -92,7 +93,7 @@ follows_there next alike first origins o some within =
     let states = states_of next first origins in
     let new = next (state_at next first origins o.parent) o.event in
     follows next alike states (states_of next first (origins ++ o ∷ [])) o.parent first o.event within
-    (record { other = new; there = rw (states_more next first origins o some) (holds_last states new); same = inl refl })
+    (record { other = new; there = rw (states_more next first origins o some) (Contains-push states new); same = inl refl })
 
 -- what an event leads to from a state, which is this one
 pub comes_on : {S : Type 0} (next : S → Event → S) (x y s : S) (e : Event) → s ≡ next x e → x ≡ y → s ≡ next y e

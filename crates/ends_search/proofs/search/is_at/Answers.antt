@@ -1,4 +1,4 @@
-use Rattle.std.proofs.Common.{◌≡◌, ◌<◌, ◌∙◌, length, sym, arith, inr, subst}
+use Rattle.std.proofs.Common.{◌<◌, ◌∙◌, length, sym, arith, inr}
 use Rattle.std.proofs.lemmas.List.{get_or_default}
 use Rattle.std.proofs.lemmas.Result.{IfOk-weaker}
 use Rattle.ends_search.specs.Search.{states_of}
