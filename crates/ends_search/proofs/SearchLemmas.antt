@@ -9,7 +9,7 @@ use Rattle.std.specs.List.{Contains}
 use Rattle.std.proofs.lemmas.List.{reverse-append}
 use Rattle.std.proofs.Math.ListN.{get_or-append}
 use Rattle.std.proofs.Math.Seq.{get_or-append_seam}
-use Rattle.std.proofs.lemmas.List.Elements.{Contains-append_left}
+use Rattle.std.proofs.lemmas.List.Elements.{Contains-append_left, Contains-push}
 use Rattle.sts_model.specs.declared.event.Event.{Event}
 use Rattle.ends_search.specs.declared.origin.Origin.{Origin}
 use Rattle.ends_search.specs.Search.{IsTraced, IsSearched, ComesFrom, IsAmong, Grows, LeadsInto, Begins, Follows, IsClosed, origin_at, no_origin, CanAt, CanAll, IsWay}
@@ -138,6 +138,17 @@ can_at can old mid k x events n e0 within is only grows less d =
     let same : slice_index_or mid k d ≡ x = ap (λ xs. slice_index_or xs k d) grows.same ∙ get_or-append old grows.more d k within ∙ get_or_default old k d x within ∙ sym is in
     rw same (only e listed)
 
+-- all listed events but the last one
+pub only_front : {S : Type 0} (can : S → Event → Bool) (x : S) (events front : List Event) (last : Event) → events ≡ front ++ last ∷ [] → ((e : Event) → Contains events e → can x e ≡ true) → (e : Event) → Contains front e → can x e ≡ true
+only_front can x events front last are only e listed = only e (subst (λ es. Contains es e) (sym are) (Contains-append_left front (last ∷ []) e listed))
+
+-- the last one
+pub can_last : {S : Type 0} (can : S → Event → Bool) (old mid : List S) (k : ℕ) (x : S) (events front : List Event) (last : Event) → k < length old → x ≡ slice_index_or old k x
+    → events ≡ front ++ last ∷ [] → ((e : Event) → Contains events e → can x e ≡ true) → Grows old mid → CanAt can mid k last
+can_last can old mid k x events front last within is are only grows d =
+    let same : slice_index_or mid k d ≡ x = ap (λ xs. slice_index_or xs k d) grows.same ∙ get_or-append old grows.more d k within ∙ get_or_default old k d x within ∙ sym is in
+    rw same (only last (subst (λ es. Contains es last) (sym are) (Contains-push front last)))
+
 -- the first n of these events lead from the state at k to states that are there
 pub record Spreads {S : Type 0} (next : S → Event → S) (alike : S → S → Type 0) (old : List S) (k : ℕ) (events : List Event) (n : ℕ) (new : List S) : Type 0 where
   pub there : (j : ℕ) → j < n → (e0 : Event) → Follows next alike old k (slice_index_or events j e0) new
@@ -151,6 +162,14 @@ spread_more {S} next alike old mid new k events n e within less is before after 
     by j e0 (inr same) =
         let is' : slice_index_or events j e0 ≡ e = rw same (get_or_default events n e0 e less ∙ sym is) in
         rw is' (at_older old mid new next alike k e before within h)
+
+-- all of these events, and one more
+pub spread_last : {S : Type 0} (next : S → Event → S) (alike : S → S → Type 0) (old mid new : List S) (k : ℕ) (events : List Event) (e : Event) → k < length old → Grows old mid → Grows mid new → Follows next alike mid k e new
+    → Spreads next alike old k events (length events) mid → Spreads next alike old k (events ++ e ∷ []) (length (events ++ e ∷ [])) new
+spread_last next alike old mid new k events e within before after h spread =
+    rw (length-append events (e ∷ []))
+    (spread_more next alike old mid new k (events ++ e ∷ []) (length events) e within (omega (arith, length-append events (e ∷ []))) (sym (get_or-append_seam events e [] e)) before after h
+    (record { there = λ j less e0. rw (get_or-append events (e ∷ []) e0 j less) (spread.there j less e0) }))
 
 pub leads : {S : Type 0} (next : S → Event → S) (can : S → Event → Bool) (alike : S → S → Type 0) (old new : List S) (k : ℕ) (events : List Event) (x : S) → k < length old → x ≡ slice_index_or old k x
     → ((e : Event) → can x e ≡ true → Contains events e) → Spreads next alike old k events (length events) new → LeadsInto next can alike old k new

@@ -11,9 +11,12 @@ use crate::origin::Origin;
 use std::alloc::{AllocError, Global};
 use sts_model::Event;
 
-/// On average, one of this number of states is kept whole. The others are made again from a whole
-/// one when they are needed.
-const WHOLE_ONES: u64 = 16;
+/// At least this number of events lead from a state that is kept whole to the next one. The states
+/// between are made again from the whole one when they are needed.
+const LEAST_EVENTS: u64 = 12;
+
+/// Any of this number of events more, by the state's hash. So the whole ones are spread evenly.
+const MORE_EVENTS: u64 = 16;
 
 /// A search so far.
 ///
@@ -36,7 +39,20 @@ pub struct Space<S> {
     pub kept: Vec<S>,
     /// For each state, its place among those that are kept whole, if it is one of them.
     pub marks: Vec<Option<u32>>,
+    /// For each state, the number of events from the last state before it that is kept whole.
+    events_behind: Vec<u8>,
     index: Index,
+}
+
+impl<S> Space<S> {
+    /// The number of events from the last whole state to one that comes after that at this place.
+    fn events_to_next(&self, place: usize) -> u8 {
+        self.events_behind
+            .get(place)
+            .copied()
+            .unwrap_or(0)
+            .saturating_add(1)
+    }
 }
 
 /// The state at a place, if it is kept whole. The first one is.
@@ -138,12 +154,17 @@ fn is_known<S: StateMachine>(
     Ok(false)
 }
 
-/// Keeps a state whole if its hash says so, and returns its place.
-fn keep<S: StateMachine>(kept: &mut Vec<S>, state: S, hash: u64) -> Result<Option<u32>, AllocError>
+/// Keeps a state whole if enough events lead to it from the last whole one, and returns its place.
+fn keep<S: StateMachine>(
+    kept: &mut Vec<S>,
+    state: S,
+    hash: u64,
+    events: u8,
+) -> Result<Option<u32>, AllocError>
     ensures grows { OnOk result (Grows kept.old.items kept.new.items) }
     ensures is_kept { IfOk result (λ mark. IsKept kept.new.items mark state) }
 {
-    if hash % WHOLE_ONES > 0 {
+    if u64::from(events) < LEAST_EVENTS + hash % MORE_EVENTS {
         return Ok(None);
     }
     let mark = u32::try_from(kept.len()).ok();
@@ -153,6 +174,16 @@ fn keep<S: StateMachine>(kept: &mut Vec<S>, state: S, hash: u64) -> Result<Optio
     Ok(mark)
 }
 
+/// Notes how many events lead to one more state from the last whole one: none if it is one.
+fn note_events(
+    events_behind: &mut Vec<u8>,
+    mark: Option<u32>,
+    events: u8,
+) -> Result<(), AllocError> {
+    events_behind.push(if mark.is_some() { 0 } else { events })?;
+    Ok(())
+}
+
 /// Adds a state, which an event leads to from the state at a place, unless it is there already.
 /// Returns `false` if there is no room for it.
 fn add<S: StateMachine>(
@@ -160,15 +191,15 @@ fn add<S: StateMachine>(
     setting: &S::Setting,
     space: &mut Space<S>,
     state: S,
-    origin: Origin,
+    place: usize,
+    event: Event,
 ) -> Result<bool, AllocError>
-    requires within { origin.parent < length space.old.origins.items }
+    requires within { place < length space.old.origins.items }
     requires can { CanAt (S.can setting.now)
         (states_of (S.next setting.now) space.old.first space.old.origins.items)
-        origin.parent origin.event }
+        place event }
     requires comes { state ≡ S.next setting.now (state_at (S.next setting.now)
-        space.old.first space.old.origins.items origin.parent) origin.event }
-    requires marked { origin.is_last ≡ S.last state }
+        space.old.first space.old.origins.items place) event }
     requires space { IsSpace (S.next setting.now) (S.can setting.now)
         (S.alike setting.now) S.last space.old.first space.old.origins.items space.old.closed
         space.old.kept.items space.old.marks.items }
@@ -183,7 +214,7 @@ fn add<S: StateMachine>(
     ensures there { IfOk result (λ there. there ≡ true
         → Follows (S.next setting.now) (S.alike setting.now)
         (states_of (S.next setting.now) space.old.first space.old.origins.items)
-        origin.parent origin.event
+        place event
         (states_of (S.next setting.now) space.new.first space.new.origins.items)) }
 {
     let hash = state.hash(alloc, setting)?;
@@ -194,7 +225,14 @@ fn add<S: StateMachine>(
         return Ok(false);
     }
     space.index.add(alloc, hash)?;
-    let mark = keep(&mut space.kept, state, hash)?;
+    let origin = Origin {
+        parent: place,
+        event,
+        is_last: state.is_last(),
+    };
+    let events = space.events_to_next(place);
+    let mark = keep(&mut space.kept, state, hash, events)?;
+    note_events(&mut space.events_behind, mark, events)?;
     space.marks.push(mark)?;
     space.origins.push(origin)?;
     Ok(true)
@@ -240,20 +278,21 @@ fn expand<S: StateMachine>(
         (states_of (S.next setting.now) space.new.first space.new.origins.items)) }
 {
     let state = restored(alloc, setting, space, place)?;
-    let events = state.events(alloc, setting)?;
+    let mut events = state.events(alloc, setting)?;
+    let Some(last) = events.pop() else {
+        return Ok(true);
+    };
     for event in &events {
         let next = after(alloc, setting, &state, *event)?;
-        let origin = Origin {
-            parent: place,
-            event: *event,
-            is_last: next.is_last(),
-        };
-        let there = add(alloc, setting, space, next, origin)?;
+        let there = add(alloc, setting, space, next, place, *event)?;
         if !there {
             return Ok(false);
         }
     }
-    Ok(true)
+    let mut next = state;
+    next.apply(alloc, setting, last)?;
+    let is_there = add(alloc, setting, space, next, place, last)?;
+    Ok(is_there)
 }
 
 /// A search that has found its first state. It keeps at most `most` states, and at least this one.
@@ -276,6 +315,8 @@ pub fn begin<S: StateMachine>(
     let mut marks = Vec::new(alloc);
     let mut index = Index::new(alloc)?;
     index.add(alloc, first.hash(alloc, setting)?)?;
+    let mut events_behind = Vec::new(alloc);
+    events_behind.push(0)?;
     marks.push(None)?;
     origins.push(Origin {
         parent: 0,
@@ -290,6 +331,7 @@ pub fn begin<S: StateMachine>(
         is_full: false,
         kept: Vec::new(alloc),
         marks,
+        events_behind,
         index,
     })
 }
