@@ -24,7 +24,7 @@ use Rattle.sts_model.specs.World.{World, task_at, scope_at}
 use Rattle.sts_list.specs.Spelling.{after_spaces, joiner_words}
 use Rattle.sts_output.specs.Printed.{ended}
 use Rattle.look_options.specs.declared.views.ViewOptions.{ViewOptions}
-use Rattle.look_lines.specs.Naming.{Naming}
+use Rattle.look_lines.specs.Naming.{Naming, plain}
 
 -- a word, if the condition holds
 abbrev pub only_if : Bool → List ℕ → List ℕ
@@ -68,9 +68,13 @@ ended_words n w t =
 abbrev pub rest_words : Naming → World → ℕ → List ℕ
 rest_words n w t = if (task_at w t).started then ended_words n w t else codes " never-started"
 
-abbrev pub stand_words : Naming → Program → World → ℕ → List ℕ
-stand_words n p w t =
+abbrev pub state_words : Naming → Program → World → ℕ → List ℕ
+state_words n p w t =
     if lives (task_at w t) then life_words (can_step p w t) (stand_at p w t) else rest_words n w t
+
+-- the same without names of a text
+abbrev pub stand_words : Program → World → ℕ → List ℕ
+stand_words p w t = state_words plain p w t
 
 -- `task T under S in NAME at PC`, and what is said of the place
 abbrev pub task_place : Naming → Program → World → ℕ → List ℕ
@@ -82,7 +86,7 @@ task_place n p w t =
 -- the state of the task, and whether an interrupt is pending
 abbrev pub task_stand : Naming → Program → World → ℕ → List ℕ
 task_stand n p w t =
-    stand_words n p w t ++ ended (only_if (task_at w t).flag (codes " interrupted"))
+    state_words n p w t ++ ended (only_if (task_at w t).flag (codes " interrupted"))
 
 abbrev pub task_line : Naming → Program → World → ℕ → List ℕ
 task_line n p w t = task_place n p w t ++ task_stand n p w t

@@ -26,8 +26,12 @@ stand_lines n wanted m =
     task_lines n m.program wanted m.last m.last.tasks 0
     ++ (scope_lines n wanted m.last m.last.scopes 0 ++ others wanted m.last)
 
-abbrev pub view_lines : Naming → ViewOptions → Watched → List ℕ
-view_lines n wanted m = run_lines n m ++ stand_lines n wanted m
+abbrev pub state_lines : Naming → ViewOptions → Watched → List ℕ
+state_lines n wanted m = run_lines n m ++ stand_lines n wanted m
+
+-- the same without lines and names of a text
+abbrev pub view_lines : ViewOptions → Watched → List ℕ
+view_lines wanted m = state_lines plain wanted m
 
 -- `after N EVENT` for the N-th event; `idle` if it doesn't count
 abbrev pub event_line : Applied → List ℕ
@@ -37,11 +41,11 @@ event_line a =
 
 -- an event and the state after it
 abbrev pub event_block : Naming → ViewOptions → Applied → Watched → List ℕ
-event_block n wanted a m = event_line a ++ view_lines n wanted m
+event_block n wanted a m = event_line a ++ state_lines n wanted m
 
 abbrev pub lines_view : Naming → ViewOptions → View
 lines_view n wanted =
-    record { state = λ number m. view_lines n wanted m; event = event_block n wanted }
+    record { state = λ number m. state_lines n wanted m; event = event_block n wanted }
 
 abbrev pub lines_output : Naming → ViewOptions → Program → List Event → Output
 lines_output n wanted p events = view_output (lines_view n wanted) wanted.each p events

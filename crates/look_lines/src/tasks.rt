@@ -7,7 +7,7 @@ ghost use Rattle.sts_model.specs.World as model;
 ghost use Rattle.sts_output.specs.Printed.{ended};
 ghost use Rattle.look_lines.specs.Lines as def;
 
-use crate::naming::Naming;
+use crate::naming::{Naming, Plain};
 use look_options::ViewOptions;
 use std::alloc::AllocError;
 use std::fmt::Write;
@@ -105,11 +105,7 @@ fn rest_words<N: Naming>(
 }
 
 /// The state of a task: ready, what it waits for, or how it ended.
-///
-/// # Errors
-///
-/// Memory ran out; `out` may then have a part of it.
-pub fn stand_words<N: Naming>(
+fn state_words<N: Naming>(
     out: &mut String,
     naming: &N,
     program: &Program,
@@ -118,7 +114,7 @@ pub fn stand_words<N: Naming>(
 ) -> Result<(), AllocError>
     requires { t < length world.now.tasks }
     ensures { OnOk result (string_bytes out.new ≡ string_bytes out.old
-        ++ def.stand_words (N.names naming.now) program.now world.now t) }
+        ++ def.state_words (N.names naming.now) program.now world.now t) }
 {
     if !world.records().lives(t) {
         return rest_words(out, naming, world, t);
@@ -127,6 +123,24 @@ pub fn stand_words<N: Naming>(
         return write!(out, " ready");
     }
     wait_words(out, stand_at(world, program, t))
+}
+
+/// Appends the state of a task without names of a text.
+///
+/// # Errors
+///
+/// Memory ran out; `out` may then have a part of it.
+pub fn stand_words(
+    out: &mut String,
+    program: &Program,
+    world: &World,
+    t: u32,
+) -> Result<(), AllocError>
+    requires { t < length world.now.tasks }
+    ensures { OnOk result (string_bytes out.new
+        ≡ string_bytes out.old ++ def.stand_words program.now world.now t) }
+{
+    state_words(out, &Plain, program, world, t)
 }
 
 /// The scope that a task is a subtask of, or `-` for the root.
@@ -175,7 +189,7 @@ fn task_stand<N: Naming>(
     ensures { OnOk result (string_bytes out.new ≡ string_bytes out.old
         ++ def.task_stand (N.names naming.now) program.now world.now t) }
 {
-    stand_words(out, naming, program, world, t)?;
+    state_words(out, naming, program, world, t)?;
     ended_by(out, world.records().flag(t), " interrupted")
 }
 

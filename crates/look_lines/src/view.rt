@@ -47,22 +47,34 @@ fn stand_lines<N: Naming>(
     others(out, wanted, records)
 }
 
-/// Appends the state of the machine, the steps that it took, then the tasks and the scopes.
-///
-/// # Errors
-///
-/// Memory ran out; `out` may then have a part of them.
-pub fn view_lines<N: Naming>(
+/// The state of the machine, the steps that it took, then the tasks and the scopes.
+fn state_lines<N: Naming>(
     out: &mut String,
     naming: &N,
     watch: &Watch<'_>,
     wanted: ViewOptions,
 ) -> Result<(), AllocError>
     ensures { OnOk result (string_bytes out.new
-        ≡ string_bytes out.old ++ def.view_lines (N.names naming.now) wanted watch.now) }
+        ≡ string_bytes out.old ++ def.state_lines (N.names naming.now) wanted watch.now) }
 {
     run_lines(out, naming, watch)?;
     stand_lines(out, naming, watch, wanted)
+}
+
+/// Appends the same without lines and names of a text.
+///
+/// # Errors
+///
+/// Memory ran out; `out` may then have a part of them.
+pub fn view_lines(
+    out: &mut String,
+    watch: &Watch<'_>,
+    wanted: ViewOptions,
+) -> Result<(), AllocError>
+    ensures { OnOk result (string_bytes out.new
+        ≡ string_bytes out.old ++ def.view_lines wanted watch.now) }
+{
+    state_lines(out, &Plain, watch, wanted)
 }
 
 /// An event as a trace spells it.
@@ -108,7 +120,7 @@ impl<'n, N: Naming> View for LinesView<'n, N> {
         _number: usize,
         watch: &Watch<'_>,
     ) -> Result<(), AllocError> {
-        view_lines(out, self.naming, watch, self.wanted)
+        state_lines(out, self.naming, watch, self.wanted)
     }
 
     fn say_event(
@@ -119,7 +131,7 @@ impl<'n, N: Naming> View for LinesView<'n, N> {
         watch: &Watch<'_>,
     ) -> Result<(), AllocError> {
         event_line(out, applied)?;
-        view_lines(out, self.naming, watch, self.wanted)
+        state_lines(out, self.naming, watch, self.wanted)
     }
 }
 

@@ -9,7 +9,6 @@ use Rattle.sts_model.specs.Living.{lives}
 use Rattle.sts_model.specs.Waiting.{can_step}
 use Rattle.sts_model.specs.World.{World, task_at, scope_at}
 use Rattle.look_lines.specs.Lines.{is_heard, stand_words, under_words}
-use Rattle.look_lines.specs.Naming.{plain}
 use Rattle.look_names.specs.Words.{value_words}
 use Rattle.look_tell.specs.Story.{Story, world_of}
 use Rattle.look_tell.specs.Words.{called_words}
@@ -39,7 +38,7 @@ rests w t = nat_lt t (length w.tasks) && not (lives (task_at w t))
 
 -- `task T`, and its state
 abbrev pub told : Program → World → ℕ → List ℕ
-told p w t = codes "task " ++ decimal t ++ stand_words plain p w t
+told p w t = codes "task " ++ decimal t ++ stand_words p w t
 
 -- the room to the right of the last column
 abbrev pub value_room : Room

@@ -12,7 +12,6 @@ use Rattle.sts_plain.specs.Seen.{shown}
 use Rattle.sts_output.specs.Output.{Output, state_status}
 use Rattle.sts_output.specs.Printed.{state_line, steps_line}
 use Rattle.look_lines.specs.Form.{Form, IsShownOf, plain_form}
-use Rattle.look_lines.specs.Naming.{plain}
 use Rattle.look_lines.specs.View.{view_lines}
 use Rattle.look_lines.specs.Views.{applied}
 use Rattle.look_lines.specs.Watched.{Watched, watched}
@@ -179,7 +178,7 @@ sized m brief columns letters keys =
 
 -- the lines of all tasks and scopes
 unfoldable pub standing_lines : Watched → List ℕ
-standing_lines m = view_lines plain (record { each = false; full = false; living = false }) m
+standing_lines m = view_lines (record { each = false; full = false; living = false }) m
 
 unfoldable pub description_start : List ℕ
 description_start = codes "</title>\n<desc>"

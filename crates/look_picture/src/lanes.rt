@@ -8,7 +8,7 @@ use crate::change::Change;
 use crate::marks::Mark;
 use crate::place::{lane, over_lane};
 use crate::writing::{Room, fitted_text, mark_end, mark_start, text_end, text_start};
-use look_lines::{Plain, is_heard, stand_words, under_words};
+use look_lines::{is_heard, stand_words, under_words};
 use look_names::{Names, say_value};
 use look_tell::{Story, say_called};
 use std::alloc::{AllocError, Global};
@@ -62,7 +62,7 @@ fn told(out: &mut String, change: Change<'_>, t: u32) -> Result<(), AllocError>
         ≡ string_bytes out.old ++ def.told change.entry.program.now change.entry.world.now t) }
 {
     write!(out, "task {t}")?;
-    stand_words(out, &Plain, change.program, change.world, t)
+    stand_words(out, change.program, change.world, t)
 }
 
 /// The value or the code that a task ended with, next to the mark.

@@ -26,7 +26,7 @@ use crate::told::event_words;
 use crate::window::{Drawn, left_out, shown_events};
 use crate::words::{next_word, step_word};
 use crate::writing::{escape, mark_end, mark_start, text_end, text_start};
-use look_lines::{Applied, Form, Plain, Run, Watch, after, view_lines, write_run};
+use look_lines::{Applied, Form, Run, Watch, after, view_lines, write_run};
 use look_names::Names;
 use look_options::{DrawOptions, ViewOptions};
 use look_tell::{Story, say_end};
@@ -431,7 +431,7 @@ fn standing_lines(out: &mut String, watch: &Watch<'_>) -> Result<(), AllocError>
         full: false,
         living: false,
     };
-    view_lines(out, &Plain, watch, wanted)
+    view_lines(out, watch, wanted)
 }
 
 fn description_start(out: &mut String) -> Result<(), AllocError>
