@@ -2,6 +2,7 @@
 #![tactic(auto)]
 
 mod form;
+mod naming;
 mod of_text;
 mod others;
 mod scopes;
@@ -11,10 +12,11 @@ mod views;
 mod watch;
 
 pub use form::{Form, Run};
+pub use naming::{Naming, Plain};
 pub use of_text::{shown, write_run};
 pub use others::{closed, resting};
 pub use scopes::{phase_word, scope_place};
 pub use tasks::{is_heard, stand_words, under_words};
-pub use view::{event_words, view_lines};
+pub use view::{event_words, lines_output, view_lines};
 pub use views::{View, after, view_output};
 pub use watch::{Applied, Watch};

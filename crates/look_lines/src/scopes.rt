@@ -1,11 +1,11 @@
 //! The lines of the scopes.
 
 ghost use Rattle.std.specs.Prelude.{◌≡◌, ◌++◌, OnOk};
-ghost use Rattle.std.specs.List.{flat_map};
 ghost use Rattle.std.specs.String.{string_bytes};
 ghost use Rattle.sts_model.specs.World as model;
 ghost use Rattle.look_lines.specs.Lines as def;
 
+use crate::naming::Naming;
 use crate::tasks::{end_words, ended_by};
 use look_options::ViewOptions;
 use std::alloc::AllocError;
@@ -63,35 +63,41 @@ fn scope_marks(out: &mut String, records: &Records, s: u32) -> Result<(), AllocE
 }
 
 /// `told T success V` or `told T failed C`
-fn told_line(out: &mut String, told: Completion) -> Result<(), AllocError>
-    ensures { OnOk result (string_bytes out.new ≡ string_bytes out.old ++ def.told_line told) }
+fn told_line<N: Naming>(out: &mut String, naming: &N, told: Completion) -> Result<(), AllocError>
+    ensures { OnOk result (string_bytes out.new
+        ≡ string_bytes out.old ++ def.told_line (N.names naming.now) told) }
 {
     let t = told.task;
     write!(out, "  told {t}")?;
-    end_words(out, Some(told.end))?;
+    end_words(out, naming, Some(told.end))?;
     writeln!(out)
 }
 
 /// The ends that a joiner was told of.
-fn told_lines(out: &mut String, completions: &[Completion]) -> Result<(), AllocError>
+fn told_lines<N: Naming>(
+    out: &mut String,
+    naming: &N,
+    completions: &[Completion],
+) -> Result<(), AllocError>
     ensures { OnOk result (string_bytes out.new
-        ≡ string_bytes out.old ++ flat_map def.told_line completions.now) }
+        ≡ string_bytes out.old ++ def.told_lines (N.names naming.now) completions.now) }
 {
     for told in completions {
-        told_line(out, *told)?;
+        told_line(out, naming, *told)?;
     }
     Ok(())
 }
 
 /// The lines of a scope that is wanted. In full they show all ends that the joiner counted.
-fn scope_block(
+fn scope_block<N: Naming>(
     out: &mut String,
+    naming: &N,
     wanted: ViewOptions,
     records: &Records,
     s: u32,
 ) -> Result<(), AllocError>
-    ensures { OnOk result (string_bytes out.new
-        ≡ string_bytes out.old ++ def.scope_block wanted s (model.scope_at records.now s)) }
+    ensures { OnOk result (string_bytes out.new ≡ string_bytes out.old ++ def.scope_block
+        (N.names naming.now) wanted s (model.scope_at records.now s)) }
 {
     if wanted.living && records.phase(s).is_closed() {
         return Ok(());
@@ -99,7 +105,7 @@ fn scope_block(
     scope_place(out, records, s)?;
     scope_marks(out, records, s)?;
     if wanted.full {
-        told_lines(out, records.completions(s))?;
+        told_lines(out, naming, records.completions(s))?;
     }
     Ok(())
 }
@@ -109,16 +115,17 @@ fn scope_block(
 /// # Errors
 ///
 /// Memory ran out; `out` may then have a part of them.
-pub fn scope_lines(
+pub fn scope_lines<N: Naming>(
     out: &mut String,
+    naming: &N,
     wanted: ViewOptions,
     records: &Records,
 ) -> Result<(), AllocError>
-    ensures { OnOk result (string_bytes out.new
-        ≡ string_bytes out.old ++ def.scope_lines wanted records.now records.now.scopes 0) }
+    ensures { OnOk result (string_bytes out.new ≡ string_bytes out.old ++ def.scope_lines
+        (N.names naming.now) wanted records.now records.now.scopes 0) }
 {
     for s in 0..records.scopes_born() {
-        scope_block(out, wanted, records, s as u32)?;
+        scope_block(out, naming, wanted, records, s as u32)?;
     }
     Ok(())
 }

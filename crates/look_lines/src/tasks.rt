@@ -1,17 +1,17 @@
 //! The lines of the tasks.
 
 ghost use Rattle.std.specs.Prelude.{◌≡◌, ◌++◌, ◌<◌, OnOk, length, reverse, true};
-ghost use Rattle.std.specs.List.{flat_map};
 ghost use Rattle.std.specs.String.{string_bytes};
 ghost use Rattle.sts_model.specs.Living as living;
 ghost use Rattle.sts_model.specs.World as model;
 ghost use Rattle.sts_output.specs.Printed.{ended};
 ghost use Rattle.look_lines.specs.Lines as def;
 
+use crate::naming::{Naming, Plain};
 use look_options::ViewOptions;
 use std::alloc::AllocError;
 use std::fmt::Write;
-use sts_code::{Program, name_of};
+use sts_code::Program;
 use sts_model::{End, Stand};
 use sts_plain::{can_step, stand_at};
 use sts_world::{Records, World};
@@ -29,13 +29,24 @@ pub(crate) fn ended_by(out: &mut String, holds: bool, word: &str) -> Result<(), 
 }
 
 /// How a task ended.
-pub(crate) fn end_words(out: &mut String, end: Option<End>) -> Result<(), AllocError>
-    ensures { OnOk result (string_bytes out.new ≡ string_bytes out.old ++ def.end_words end) }
+pub(crate) fn end_words<N: Naming>(
+    out: &mut String,
+    naming: &N,
+    end: Option<End>,
+) -> Result<(), AllocError>
+    ensures { OnOk result (string_bytes out.new
+        ≡ string_bytes out.old ++ def.end_words (N.names naming.now) end) }
 {
     match end {
         None => Ok(()),
-        Some(End::Success(v)) => write!(out, " success {v}"),
-        Some(End::Failed(c)) => write!(out, " failed {c}"),
+        Some(End::Success(value)) => {
+            out.push_str(" success ")?;
+            naming.say_value(out, value)
+        }
+        Some(End::Failed(code)) => {
+            out.push_str(" failed ")?;
+            naming.say_value(out, code)
+        }
     }
 }
 
@@ -61,29 +72,60 @@ pub fn is_heard(world: &World, t: u32) -> bool
 }
 
 /// How a task ended that was started.
-fn ended_words(out: &mut String, world: &World, t: u32) -> Result<(), AllocError>
+fn ended_words<N: Naming>(
+    out: &mut String,
+    naming: &N,
+    world: &World,
+    t: u32,
+) -> Result<(), AllocError>
     ensures { OnOk result (string_bytes out.new
-        ≡ string_bytes out.old ++ def.ended_words world.now t) }
+        ≡ string_bytes out.old ++ def.ended_words (N.names naming.now) world.now t) }
 {
     if !is_heard(world, t) {
         write!(out, " unheard")?;
     }
-    end_words(out, world.records().outcome(t))
+    end_words(out, naming, world.records().outcome(t))
 }
 
 /// The state of a task that doesn't live.
-fn rest_words(out: &mut String, world: &World, t: u32) -> Result<(), AllocError>
+fn rest_words<N: Naming>(
+    out: &mut String,
+    naming: &N,
+    world: &World,
+    t: u32,
+) -> Result<(), AllocError>
     ensures { OnOk result (string_bytes out.new
-        ≡ string_bytes out.old ++ def.rest_words world.now t) }
+        ≡ string_bytes out.old ++ def.rest_words (N.names naming.now) world.now t) }
 {
     if world.records().has_started(t) {
-        ended_words(out, world, t)
+        ended_words(out, naming, world, t)
     } else {
         write!(out, " never-started")
     }
 }
 
 /// The state of a task: ready, what it waits for, or how it ended.
+fn state_words<N: Naming>(
+    out: &mut String,
+    naming: &N,
+    program: &Program,
+    world: &World,
+    t: u32,
+) -> Result<(), AllocError>
+    requires { t < length world.now.tasks }
+    ensures { OnOk result (string_bytes out.new ≡ string_bytes out.old
+        ++ def.state_words (N.names naming.now) program.now world.now t) }
+{
+    if !world.records().lives(t) {
+        return rest_words(out, naming, world, t);
+    }
+    if can_step(world, program, t) {
+        return write!(out, " ready");
+    }
+    wait_words(out, stand_at(world, program, t))
+}
+
+/// Appends the state of a task without names of a text.
 ///
 /// # Errors
 ///
@@ -98,13 +140,7 @@ pub fn stand_words(
     ensures { OnOk result (string_bytes out.new
         ≡ string_bytes out.old ++ def.stand_words program.now world.now t) }
 {
-    if !world.records().lives(t) {
-        return rest_words(out, world, t);
-    }
-    if can_step(world, program, t) {
-        return write!(out, " ready");
-    }
-    wait_words(out, stand_at(world, program, t))
+    state_words(out, &Plain, program, world, t)
 }
 
 /// The scope that a task is a subtask of, or `-` for the root.
@@ -121,134 +157,198 @@ pub fn under_words(out: &mut String, scope: Option<u32>) -> Result<(), AllocErro
     }
 }
 
-/// `task T under S in NAME at PC`
-fn task_place(
+/// `task T under S in NAME at PC`, and what is said of the place
+fn task_place<N: Naming>(
     out: &mut String,
+    naming: &N,
     program: &Program,
     records: &Records,
     t: u32,
 ) -> Result<(), AllocError>
-    ensures { OnOk result (string_bytes out.new
-        ≡ string_bytes out.old ++ def.task_place program.now records.now t) }
+    ensures { OnOk result (string_bytes out.new ≡ string_bytes out.old
+        ++ def.task_place (N.names naming.now) program.now records.now t) }
 {
-    let name = name_of(program, records.function(t));
     let pc = records.pc(t);
     write!(out, "task {t} under ")?;
     under_words(out, records.parent(t))?;
-    write!(out, " in {name} at {pc}")
+    out.push_str(" in ")?;
+    naming.say_function(out, program, records.function(t))?;
+    write!(out, " at {pc}")?;
+    naming.say_place(out, records, t)
 }
 
 /// The state of a task, and whether an interrupt is pending.
-fn task_stand(out: &mut String, program: &Program, world: &World, t: u32) -> Result<(), AllocError>
+fn task_stand<N: Naming>(
+    out: &mut String,
+    naming: &N,
+    program: &Program,
+    world: &World,
+    t: u32,
+) -> Result<(), AllocError>
     requires { t < length world.now.tasks }
-    ensures { OnOk result (string_bytes out.new
-        ≡ string_bytes out.old ++ def.task_stand program.now world.now t) }
+    ensures { OnOk result (string_bytes out.new ≡ string_bytes out.old
+        ++ def.task_stand (N.names naming.now) program.now world.now t) }
 {
-    stand_words(out, program, world, t)?;
+    state_words(out, naming, program, world, t)?;
     ended_by(out, world.records().flag(t), " interrupted")
 }
 
-fn task_line(out: &mut String, program: &Program, world: &World, t: u32) -> Result<(), AllocError>
+fn task_line<N: Naming>(
+    out: &mut String,
+    naming: &N,
+    program: &Program,
+    world: &World,
+    t: u32,
+) -> Result<(), AllocError>
     requires { t < length world.now.tasks }
-    ensures { OnOk result (string_bytes out.new
-        ≡ string_bytes out.old ++ def.task_line program.now world.now t) }
+    ensures { OnOk result (string_bytes out.new ≡ string_bytes out.old
+        ++ def.task_line (N.names naming.now) program.now world.now t) }
 {
-    task_place(out, program, world.records(), t)?;
-    task_stand(out, program, world, t)
+    task_place(out, naming, program, world.records(), t)?;
+    task_stand(out, naming, program, world, t)
+}
+
+/// A value after a blank.
+fn operand_words<N: Naming>(out: &mut String, naming: &N, value: i64) -> Result<(), AllocError>
+    ensures { OnOk result (string_bytes out.new
+        ≡ string_bytes out.old ++ def.operand_words (N.names naming.now) value) }
+{
+    out.push_str(" ")?;
+    naming.say_value(out, value)
 }
 
 /// The operands, the top last.
-fn operands_line(out: &mut String, operands: &[i64]) -> Result<(), AllocError>
-    ensures { OnOk result (string_bytes out.new
-        ≡ string_bytes out.old ++ def.operands_line (reverse operands.now)) }
+fn operands_line<N: Naming>(
+    out: &mut String,
+    naming: &N,
+    operands: &[i64],
+) -> Result<(), AllocError>
+    ensures { OnOk result (string_bytes out.new ≡ string_bytes out.old
+        ++ def.operands_line (N.names naming.now) (reverse operands.now)) }
 {
     write!(out, "  operands")?;
     for value in operands {
-        write!(out, " {value}")?;
+        operand_words(out, naming, *value)?;
     }
     writeln!(out)
 }
 
-/// The value of a local, unless it is 0.
-fn local_words(out: &mut String, x: usize, value: i64) -> Result<(), AllocError>
+/// ` N=V`
+fn pair_words<N: Naming>(
+    out: &mut String,
+    naming: &N,
+    n: usize,
+    value: i64,
+) -> Result<(), AllocError>
     ensures { OnOk result (string_bytes out.new
-        ≡ string_bytes out.old ++ def.local_word x value) }
+        ≡ string_bytes out.old ++ def.pair_words (N.names naming.now) n value) }
+{
+    write!(out, " {n}=")?;
+    naming.say_value(out, value)
+}
+
+/// The value of a local, unless it is 0.
+fn local_words<N: Naming>(
+    out: &mut String,
+    naming: &N,
+    x: usize,
+    value: i64,
+) -> Result<(), AllocError>
+    ensures { OnOk result (string_bytes out.new
+        ≡ string_bytes out.old ++ def.local_word (N.names naming.now) x value) }
 {
     if value == 0 {
         Ok(())
     } else {
-        write!(out, " {x}={value}")
+        pair_words(out, naming, x, value)
     }
 }
 
 /// The locals that aren't 0.
-fn locals_line(out: &mut String, locals: &[i64]) -> Result<(), AllocError>
+fn locals_line<N: Naming>(out: &mut String, naming: &N, locals: &[i64]) -> Result<(), AllocError>
     ensures { OnOk result (string_bytes out.new
-        ≡ string_bytes out.old ++ def.locals_line locals.now) }
+        ≡ string_bytes out.old ++ def.locals_line (N.names naming.now) locals.now) }
 {
     write!(out, "  locals")?;
     for x in 0..locals.len() {
-        local_words(out, x, locals[x])?;
+        local_words(out, naming, x, locals[x])?;
     }
     writeln!(out)
 }
 
 /// The bound keys among these, with their values.
-fn key_words(out: &mut String, records: &Records, t: u32, keys: &[u8]) -> Result<(), AllocError>
-    ensures { OnOk result (string_bytes out.new
-        ≡ string_bytes out.old ++ def.key_words records.now t keys.now) }
+fn key_words<N: Naming>(
+    out: &mut String,
+    naming: &N,
+    records: &Records,
+    t: u32,
+    keys: &[u8],
+) -> Result<(), AllocError>
+    ensures { OnOk result (string_bytes out.new ≡ string_bytes out.old
+        ++ def.key_words (N.names naming.now) records.now t keys.now) }
 {
     for k in keys {
         if let Some(value) = records.read(t, *k) {
-            write!(out, " {k}={value}")?;
+            pair_words(out, naming, usize::from(*k), value)?;
         }
     }
     Ok(())
 }
 
 /// The keys that are bound for a task, with the innermost values.
-fn bound_line(out: &mut String, records: &Records, t: u32) -> Result<(), AllocError>
+fn bound_line<N: Naming>(
+    out: &mut String,
+    naming: &N,
+    records: &Records,
+    t: u32,
+) -> Result<(), AllocError>
     ensures { OnOk result (string_bytes out.new
-        ≡ string_bytes out.old ++ def.bound_line records.now t) }
+        ≡ string_bytes out.old ++ def.bound_line (N.names naming.now) records.now t) }
 {
     let keys = [0, 1, 2, 3, 4, 5, 6, 7, 8, 9, 10, 11, 12, 13, 14, 15];
     write!(out, "  bound")?;
-    key_words(out, records, t, &keys)?;
+    key_words(out, naming, records, t, &keys)?;
     writeln!(out)
 }
 
 /// The own state of a living task.
-fn frame_lines(out: &mut String, records: &Records, t: u32) -> Result<(), AllocError>
+fn frame_lines<N: Naming>(
+    out: &mut String,
+    naming: &N,
+    records: &Records,
+    t: u32,
+) -> Result<(), AllocError>
     requires born { t < length records.now.tasks }
     requires lives { living.lives (model.task_at records.now t) ≡ true }
     ensures { OnOk result (string_bytes out.new
-        ≡ string_bytes out.old ++ def.frame_lines records.now t) }
+        ≡ string_bytes out.old ++ def.frame_lines (N.names naming.now) records.now t) }
 {
     let frame = records.frame(t);
-    operands_line(out, frame.operands.as_slice())?;
-    locals_line(out, &frame.locals)?;
-    bound_line(out, records, t)
+    operands_line(out, naming, frame.operands.as_slice())?;
+    locals_line(out, naming, &frame.locals)?;
+    bound_line(out, naming, records, t)
 }
 
 /// The lines of a task that is wanted. In full they show the own state of a living task.
-fn task_block(
+fn task_block<N: Naming>(
     out: &mut String,
+    naming: &N,
     program: &Program,
     wanted: ViewOptions,
     world: &World,
     t: u32,
 ) -> Result<(), AllocError>
     requires { t < length world.now.tasks }
-    ensures { OnOk result (string_bytes out.new
-        ≡ string_bytes out.old ++ def.task_block program.now wanted world.now t) }
+    ensures { OnOk result (string_bytes out.new ≡ string_bytes out.old
+        ++ def.task_block (N.names naming.now) program.now wanted world.now t) }
 {
     let lives = world.records().lives(t);
     if wanted.living && !lives {
         return Ok(());
     }
-    task_line(out, program, world, t)?;
+    task_line(out, naming, program, world, t)?;
     if wanted.full && lives {
-        frame_lines(out, world.records(), t)?;
+        frame_lines(out, naming, world.records(), t)?;
     }
     Ok(())
 }
@@ -258,17 +358,18 @@ fn task_block(
 /// # Errors
 ///
 /// Memory ran out; `out` may then have a part of them.
-pub fn task_lines(
+pub fn task_lines<N: Naming>(
     out: &mut String,
+    naming: &N,
     program: &Program,
     wanted: ViewOptions,
     world: &World,
 ) -> Result<(), AllocError>
-    ensures { OnOk result (string_bytes out.new
-        ≡ string_bytes out.old ++ def.task_lines program.now wanted world.now world.now.tasks 0) }
+    ensures { OnOk result (string_bytes out.new ≡ string_bytes out.old ++ def.task_lines
+        (N.names naming.now) program.now wanted world.now world.now.tasks 0) }
 {
     for t in 0..world.records().tasks_born() {
-        task_block(out, program, wanted, world, t as u32)?;
+        task_block(out, naming, program, wanted, world, t as u32)?;
     }
     Ok(())
 }

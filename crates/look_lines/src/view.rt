@@ -1,11 +1,13 @@
 //! The lines of every task and scope, after the last event or after each.
 
-ghost use Rattle.std.specs.Prelude.{◌≡◌, ◌++◌, OnOk};
+ghost use Rattle.std.specs.Prelude.{◌≡◌, ◌++◌, IfOk, OnOk};
 ghost use Rattle.std.specs.String.{string_bytes};
 ghost use Rattle.sts_trace.specs.Spelling.{event_text};
+ghost use Rattle.look_lines.specs.Naming.{plain};
 ghost use Rattle.look_lines.specs.View as def;
 
 use crate::form::{Form, Run};
+use crate::naming::{Naming, Plain};
 use crate::others::others;
 use crate::scopes::scope_lines;
 use crate::tasks::{ended_by, task_lines};
@@ -16,30 +18,50 @@ use std::alloc::{AllocError, Global};
 use std::fmt::Write;
 use sts_asm::AsmError;
 use sts_model::Event;
-use sts_output::{Output, state_line, steps_line, text_fault, trace_fault};
+use sts_output::{Output, steps_line, text_fault, trace_fault};
 use sts_trace::TraceError;
 
 /// The state of the machine, and the steps that it took.
-fn run_lines(out: &mut String, watch: &Watch<'_>) -> Result<(), AllocError>
-    ensures { OnOk result (string_bytes out.new ≡ string_bytes out.old ++ def.run_lines watch.now) }
+fn run_lines<N: Naming>(out: &mut String, naming: &N, watch: &Watch<'_>) -> Result<(), AllocError>
+    ensures { OnOk result (string_bytes out.new
+        ≡ string_bytes out.old ++ def.run_lines (N.names naming.now) watch.now) }
 {
-    state_line(out, watch.program(), watch.state())?;
+    naming.say_state(out, watch.program(), watch.state())?;
     steps_line(out, watch.steps())
 }
 
 /// The tasks and the scopes that are wanted, and how many others there are.
-fn stand_lines(out: &mut String, watch: &Watch<'_>, wanted: ViewOptions) -> Result<(), AllocError>
+fn stand_lines<N: Naming>(
+    out: &mut String,
+    naming: &N,
+    watch: &Watch<'_>,
+    wanted: ViewOptions,
+) -> Result<(), AllocError>
     ensures { OnOk result (string_bytes out.new
-        ≡ string_bytes out.old ++ def.stand_lines wanted watch.now) }
+        ≡ string_bytes out.old ++ def.stand_lines (N.names naming.now) wanted watch.now) }
 {
     let world = watch.world();
     let records = world.records();
-    task_lines(out, watch.program(), wanted, world)?;
-    scope_lines(out, wanted, records)?;
+    task_lines(out, naming, watch.program(), wanted, world)?;
+    scope_lines(out, naming, wanted, records)?;
     others(out, wanted, records)
 }
 
 /// The state of the machine, the steps that it took, then the tasks and the scopes.
+fn state_lines<N: Naming>(
+    out: &mut String,
+    naming: &N,
+    watch: &Watch<'_>,
+    wanted: ViewOptions,
+) -> Result<(), AllocError>
+    ensures { OnOk result (string_bytes out.new
+        ≡ string_bytes out.old ++ def.state_lines (N.names naming.now) wanted watch.now) }
+{
+    run_lines(out, naming, watch)?;
+    stand_lines(out, naming, watch, wanted)
+}
+
+/// Appends the same without lines and names of a text.
 ///
 /// # Errors
 ///
@@ -52,8 +74,7 @@ pub fn view_lines(
     ensures { OnOk result (string_bytes out.new
         ≡ string_bytes out.old ++ def.view_lines wanted watch.now) }
 {
-    run_lines(out, watch)?;
-    stand_lines(out, watch, wanted)
+    state_lines(out, &Plain, watch, wanted)
 }
 
 /// An event as a trace spells it.
@@ -82,8 +103,15 @@ fn event_line(out: &mut String, applied: Applied) -> Result<(), AllocError>
     ended_by(out, !applied.is_counted, " idle")
 }
 
-impl View for ViewOptions {
-    ghost writes = { def.lines_view };
+/// A view in lines.
+#[derive(Clone, Copy)]
+pub(crate) struct LinesView<'n, N> {
+    pub wanted: ViewOptions,
+    pub naming: &'n N,
+}
+
+impl<'n, N: Naming> View for LinesView<'n, N> {
+    ghost writes = { λ v. def.lines_view (N.names v.naming.now) v.wanted };
 
     fn say_state(
         &self,
@@ -92,7 +120,7 @@ impl View for ViewOptions {
         _number: usize,
         watch: &Watch<'_>,
     ) -> Result<(), AllocError> {
-        view_lines(out, watch, *self)
+        state_lines(out, self.naming, watch, self.wanted)
     }
 
     fn say_event(
@@ -103,15 +131,32 @@ impl View for ViewOptions {
         watch: &Watch<'_>,
     ) -> Result<(), AllocError> {
         event_line(out, applied)?;
-        view_lines(out, watch, *self)
+        state_lines(out, self.naming, watch, self.wanted)
     }
 }
 
+/// Returns what is shown of a run in lines.
+///
+/// # Errors
+///
+/// Memory ran out.
+pub fn lines_output<N: Naming + Copy>(
+    alloc: Global,
+    naming: &N,
+    wanted: ViewOptions,
+    run: Run<'_>,
+) -> Result<Output, AllocError>
+    ensures { IfOk result (λ o. o ≡ def.lines_output
+        (N.names naming.now) wanted run.entry.program.now run.entry.events.now) }
+{
+    view_output(alloc, &LinesView { wanted, naming }, wanted.each, run)
+}
+
 impl Form for ViewOptions {
-    ghost shows = { def.lines_form };
+    ghost shows = { def.lines_form plain };
 
     fn of_run(&self, alloc: Global, run: Run<'_>) -> Result<Output, AllocError> {
-        view_output(alloc, self, self.each, run)
+        lines_output(alloc, &Plain, *self, run)
     }
 
     fn of_text_fault(&self, alloc: Global, error: AsmError) -> Result<Output, AllocError> {

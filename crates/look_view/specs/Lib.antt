@@ -1,4 +1,2 @@
 pub mod Named
-pub mod Scopes
-pub mod Tasks
 pub mod View

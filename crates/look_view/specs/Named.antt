@@ -1,5 +1,5 @@
--- The line of a task's place, and the state of a run, with the lines and the names of a text (this
--- project's own).
+-- What is said of a value, a function, a place and a run, with the lines and the names of a text
+-- (this project's own).
 use Rattle.std.specs.Prelude.{ℕ, ◌-◌, Bool, List, ◌++◌, codes, not, ◌&&◌, if◌then◌else◌}
 use Rattle.std.specs.Fmt.{decimal}
 use Rattle.sts_code.specs.Program.{Program}
@@ -11,6 +11,7 @@ use Rattle.sts_model.specs.Living.{lives}
 use Rattle.sts_output.specs.Printed.{ended, fault_word}
 use Rattle.sts_plain.specs.declared.misstep.PlainState.{PlainState}
 use Rattle.sts_plain.specs.declared.misstep.PlainState.TheVariants as plain
+use Rattle.look_lines.specs.Naming.{Naming}
 use Rattle.look_names.specs.Words.{function_words, place_words, value_words}
 
 -- ---- the line of a place
@@ -50,3 +51,12 @@ abbrev pub state_line : List ℕ → Program → PlainState → List ℕ
 state_line text p plain.Running = codes "running\n"
 state_line text p (plain.Ended end) = end_line text end
 state_line text p (plain.Fault kind t f pc) = fault_line text p kind t f pc
+
+-- `look view` says it so
+abbrev pub named : List ℕ → Naming
+named text = record {
+  value = value_words text;
+  function = function_words text;
+  place = task_at_line text;
+  state = state_line text;
+}

@@ -2,9 +2,6 @@
 #![tactic(auto)]
 
 mod named;
-mod others;
-mod scopes;
-mod tasks;
 mod view;
 
-pub use view::{NamedView, write_view};
+pub use view::write_view;

@@ -1,4 +1,4 @@
-//! What is shown of a value, a function, a place and a state: with the lines and the names of a text.
+//! What is said of a value, a function, a place and a run, with the lines and the names of a text.
 
 ghost use Rattle.std.specs.Prelude.{◌≡◌, ◌++◌, OnOk};
 ghost use Rattle.std.specs.String.{string_bytes};
@@ -6,6 +6,7 @@ ghost use Rattle.sts_model.specs.World as model;
 ghost use Rattle.look_names.specs.Words as words;
 ghost use Rattle.look_view.specs.Named as def;
 
+use look_lines::Naming;
 use look_names::Names;
 use std::alloc::AllocError;
 use std::fmt::Write;
@@ -14,33 +15,6 @@ use sts_model::{End, Fault};
 use sts_output::printed::fault_word;
 use sts_plain::PlainState;
 use sts_world::Records;
-
-/// Appends a value: its name, or its number.
-pub(crate) fn say_value(out: &mut String, names: &Names<'_>, value: i64) -> Result<(), AllocError>
-    ensures { OnOk result (string_bytes out.new
-        ≡ string_bytes out.old ++ words.value_words names.now value) }
-{
-    match names.value(value) {
-        Some(name) => write!(out, "{name}"),
-        None => write!(out, "{value}"),
-    }
-}
-
-/// Appends a function: its name in a marked comment, or in its `func`.
-pub(crate) fn say_function(
-    out: &mut String,
-    names: &Names<'_>,
-    program: &Program,
-    function: u32,
-) -> Result<(), AllocError>
-    ensures { OnOk result (string_bytes out.new ≡ string_bytes out.old
-        ++ words.function_words names.now program.now function) }
-{
-    match names.function(function) {
-        Some(name) => out.push_str(name),
-        None => out.push_str(name_of(program, function)),
-    }
-}
 
 /// Appends a line of the text: its name, or `line N`.
 fn say_line(out: &mut String, names: &Names<'_>, number: u32) -> Result<(), AllocError>
@@ -89,38 +63,19 @@ fn has_ended(records: &Records, t: u32) -> bool
     records.has_started(t) && !records.lives(t)
 }
 
-/// Appends the line of the next instruction of a task, or after its end that of its last one.
-pub(crate) fn task_at_line(
-    out: &mut String,
-    names: &Names<'_>,
-    records: &Records,
-    t: u32,
-) -> Result<(), AllocError>
-    ensures { OnOk result (string_bytes out.new ≡ string_bytes out.old
-        ++ def.task_at_line names.now (model.task_at records.now t)) }
-{
-    let function = records.function(t);
-    let pc = records.pc(t);
-    if has_ended(records, t) {
-        after_line(out, names, function, pc)
-    } else {
-        at_line(out, names, function, pc)
-    }
-}
-
-fn end_line(out: &mut String, names: &Names<'_>, end: End) -> Result<(), AllocError>
+fn end_line(out: &mut String, named: &Named<'_, '_>, end: End) -> Result<(), AllocError>
     ensures { OnOk result (string_bytes out.new
-        ≡ string_bytes out.old ++ def.end_line names.now end) }
+        ≡ string_bytes out.old ++ def.end_line named.now.names.now end) }
 {
     match end {
         End::Success(value) => {
             out.push_str("success ")?;
-            say_value(out, names, value)?;
+            named.say_value(out, value)?;
             writeln!(out)
         }
         End::Failed(code) => {
             out.push_str("failed ")?;
-            say_value(out, names, code)?;
+            named.say_value(out, code)?;
             writeln!(out)
         }
     }
@@ -128,7 +83,7 @@ fn end_line(out: &mut String, names: &Names<'_>, end: End) -> Result<(), AllocEr
 
 fn fault_line(
     out: &mut String,
-    names: &Names<'_>,
+    named: &Named<'_, '_>,
     program: &Program,
     kind: Fault,
     task: u32,
@@ -136,34 +91,69 @@ fn fault_line(
     pc: u32,
 ) -> Result<(), AllocError>
     ensures { OnOk result (string_bytes out.new ≡ string_bytes out.old
-        ++ def.fault_line names.now program.now kind task function pc) }
+        ++ def.fault_line named.now.names.now program.now kind task function pc) }
 {
     let word = fault_word(kind);
     write!(out, "fault {word} task {task} in ")?;
-    say_function(out, names, program, function)?;
+    named.say_function(out, program, function)?;
     write!(out, " at {pc}")?;
-    at_line(out, names, function, pc)?;
+    at_line(out, named.names, function, pc)?;
     writeln!(out)
 }
 
-/// Appends the state of a run.
-pub(crate) fn state_line(
-    out: &mut String,
-    names: &Names<'_>,
-    program: &Program,
-    state: PlainState,
-) -> Result<(), AllocError>
-    ensures { OnOk result (string_bytes out.new ≡ string_bytes out.old
-        ++ def.state_line names.now program.now state) }
-{
-    match state {
-        PlainState::Running => writeln!(out, "running"),
-        PlainState::Ended(end) => end_line(out, names, end),
-        PlainState::Fault {
-            kind,
-            task,
-            function,
-            pc,
-        } => fault_line(out, names, program, kind, task, function, pc),
+/// The lines and the names of a text.
+#[derive(Clone, Copy)]
+pub struct Named<'n, 't> {
+    pub names: &'n Names<'t>,
+}
+
+impl<'n, 't> Naming for Named<'n, 't> {
+    ghost names = { λ n. def.named n.names.now };
+
+    fn say_value(&self, out: &mut String, value: i64) -> Result<(), AllocError> {
+        match self.names.value(value) {
+            Some(name) => write!(out, "{name}"),
+            None => write!(out, "{value}"),
+        }
+    }
+
+    fn say_function(
+        &self,
+        out: &mut String,
+        program: &Program,
+        function: u32,
+    ) -> Result<(), AllocError> {
+        match self.names.function(function) {
+            Some(name) => out.push_str(name),
+            None => out.push_str(name_of(program, function)),
+        }
+    }
+
+    fn say_place(&self, out: &mut String, records: &Records, t: u32) -> Result<(), AllocError> {
+        let function = records.function(t);
+        let pc = records.pc(t);
+        if has_ended(records, t) {
+            after_line(out, self.names, function, pc)
+        } else {
+            at_line(out, self.names, function, pc)
+        }
+    }
+
+    fn say_state(
+        &self,
+        out: &mut String,
+        program: &Program,
+        state: PlainState,
+    ) -> Result<(), AllocError> {
+        match state {
+            PlainState::Running => writeln!(out, "running"),
+            PlainState::Ended(end) => end_line(out, self, end),
+            PlainState::Fault {
+                kind,
+                task,
+                function,
+                pc,
+            } => fault_line(out, self, program, kind, task, function, pc),
+        }
     }
 }

@@ -5,4 +5,4 @@ use Rattle.look_lines.proofs.tasks.key_words.Given as goal
 
 -- what is written, and the words of the rest
 abbrev pub invariant-loop-k : goal.invariant-loop-k
-invariant-loop-k l = string_bytes l.out ++ def.key_words l.records l.t (drop l.k-index l.keys) ≡ string_bytes l.fn.out ++ def.key_words l.records l.t l.keys
+invariant-loop-k g l = string_bytes l.out ++ def.key_words (g.N.Naming.names l.naming) l.records l.t (drop l.k-index l.keys) ≡ string_bytes l.fn.out ++ def.key_words (g.N.Naming.names l.naming) l.records l.t l.keys

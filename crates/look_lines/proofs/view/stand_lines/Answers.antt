@@ -7,12 +7,13 @@ use Rattle.look_lines.specs.Lines as lines_def
 use Rattle.look_lines.proofs.view.stand_lines.Goals as goal
 
 pub returns : goal.returns
-returns c =
+returns g c =
     let m = c.args.watch.now in
     let wanted = c.args.wanted in
+    let n = g.N.Naming.names c.args.naming.now in
     let bytes = string_bytes c.args.out.now in
-    let tasks = λ (p : Program) (v : World). lines_def.task_lines p wanted v v.tasks 0 in
-    let scopes = λ (v : World). lines_def.scope_lines wanted v v.scopes 0 in
+    let tasks = λ (p : Program) (v : World). lines_def.task_lines n p wanted v v.tasks 0 in
+    let scopes = λ (v : World). lines_def.scope_lines n wanted v v.scopes 0 in
     let others = λ (v : World). lines_def.others wanted v in
     let records = c.records-records.ensures ∙ c.world-world.ensures in
     let first = c.in_ok-task_lines.ensures ∙ ap₂ (λ p v. bytes ++ tasks p v) c.program.ensures c.world-world.ensures in

@@ -1,8 +1,0 @@
-use Rattle.std.proofs.Common.{◌≡◌, ◌++◌, drop, codes}
-use Rattle.std.specs.String.{string_bytes}
-use Rattle.look_view.specs.Tasks as def
-use Rattle.look_view.proofs.tasks.locals_line.Given as goal
-
--- what is written, and the words of the rest
-abbrev pub invariant-loop-x : goal.invariant-loop-x
-invariant-loop-x l = string_bytes l.out ++ def.local_words l.names (drop l.x l.locals) l.x ≡ string_bytes l.fn.out ++ (codes "  locals" ++ def.local_words l.names l.locals 0)
