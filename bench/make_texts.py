@@ -404,6 +404,29 @@ def equal(text, called, timed, count):
     return lines(f"{text} / {forks('main 0', '', 'all', timed, count, called, '')}")
 
 
+def powers(count):
+    """Subtasks of 1, 2, 4 and so on. The scope may expire before any of them is in its total."""
+    return lines(f"profile 2 / func kid 1 / load 0 / ret / end / func main 0 / open s1 awaitall timed / push 1 / store 5 / push {count} / times {count} / "
+                 "load 5 / fork s1 kid _ / load 5 / push 2 / mul / store 5 / next / join s1 - late intr / total s1 / close s1 / ret / "
+                 "late: / total s1 / close s1 / ret / intr: / close s1 / push 80 / fail / end")
+
+
+def handles(count, subtasks):
+    """Flaky subtasks under `until failed 3`. So many of them are read one by one: how many failed, and the sum of the others."""
+    forks = " / ".join(f"push {it} / fork s1 flaky {f's{it + 2}' if it < count else '_'}" for it in range(subtasks))
+    reads = " / ".join(f"case s{it + 2} ok{it} bad{it} / forget s{it + 2} / jmp on{it} / ok{it}: / get s{it + 2} / load 1 / add / store 1 / "
+                       f"forget s{it + 2} / jmp on{it} / bad{it}: / forget s{it + 2} / load 2 / push 1 / add / store 2 / on{it}:" for it in range(count))
+    return lines(f"{FLAKY} / func main 0 / open s1 until failed 3 / {forks} / join s1 - - intr / pop / {reads} / close s1 / load 2 / ret / "
+                 "intr: / close s1 / push 80 / fail / end")
+
+
+def races(rounds):
+    """Races in a row. A local keeps the winner of each as a digit, so it takes 2^rounds values."""
+    return lines(f"func one 0 / push 1 / ret / end / func two 0 / push 0 / ret / end / func main 0 / push {rounds} / times {rounds} / "
+                 "open s1 any / fork s1 one _ / fork s1 two _ / join s1 bad - intr / load 0 / push 2 / mul / add / store 0 / close s1 / jmp on / "
+                 "bad: / pop / close s1 / jmp on / intr: / close s1 / on: / next / load 0 / ret / end")
+
+
 # By the name of a text whose ends are searched: the text, and how many interrupts may come.
 ENDS = {
     **{f"200 flaky subtasks, {joiner} timed": (lines(f"{FLAKY} / {forks('main 0', '', joiner, True, 200, 'flaky')}"), 1) for joiner in JOINERS},
@@ -412,6 +435,10 @@ ENDS = {
     **{f"{count} equal flaky subtasks, all timed": (equal(FLAKY, "flaky", True, count), 1) for count in EQUAL},
     "8 groups of 8 of 8, all timed": (levels((8, 8, 8)), 2),
     "50 groups of 50, all timed": (levels((50, 50)), 2),
+    # the greatest of which all ends are known, and one more
+    **{f"total of {count} powers": (powers(count), 0) for count in (13, 14)},
+    **{f"{count} of 50 read one by one, until failed 3": (handles(count, 50), 0) for count in (8, 9)},
+    **{f"{count} races in a row": (races(count), 0) for count in (12, 13)},
 }
 
 

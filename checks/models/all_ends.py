@@ -7,8 +7,8 @@ saw. The status is 5 if it stopped before it had seen all.
 With `--names`, states that differ only by the birth numbers of tasks and scopes count as one: a task is then known by the
 place of its `fork` in its scope, and a scope by the place of its `open` in its owner. A fault may then name another task.
 
-With `--kept` it prints the number of states that `look ends` keeps: it tries own steps first, and often counts states once
-that differ only by birth numbers.
+With `--kept` it prints the number of states that `look ends` keeps: it tries own steps first, takes those that follow an event at
+once, and often counts states once that differ only by birth numbers.
 
 `--fine` gives the end of a subtask the steps that it has in JDK 25: it looks whether its scope is cancelled and sets its
 state, tells the joiner, marks the scope, interrupts its siblings in turn, and ends. A `join` that finds both a
@@ -221,6 +221,7 @@ def ends(program, machine=plain_machine.Machine, is_expiring=False, interrupts=0
 JUMPS = ("jmp", "jz", "div")
 READ = ("read", "bound", "orelse")
 OWN = (*plain_machine.LOCAL, *READ, "bind", "unbind", "forget")
+OWN_STEPS = 100  # no more of them follow an event at once
 
 
 def own_task(machine):
@@ -233,7 +234,16 @@ def own_task(machine):
     return None
 
 
-def kept_children(machine, is_expiring, left):
+def take_own_steps(machine):
+    """Takes own steps, as many as `look ends` takes at once."""
+    for _ in range(OWN_STEPS):
+        own = own_task(machine)
+        if own is None:
+            return
+        machine.step(own)
+
+
+def tried(machine, is_expiring, left):
     """Yields what the events that `look ends` goes on with lead to, in its order."""
     own = own_task(machine)
     steps = ready(machine) if own is None else [own]
@@ -253,6 +263,13 @@ def kept_children(machine, is_expiring, left):
             it = machine.copy()
             it.expire(number)
             yield it, left
+
+
+def kept_children(machine, is_expiring, left):
+    """Yields the states that `look ends` keeps after these events: those after the own steps that follow."""
+    for it, fewer in tried(machine, is_expiring, left):
+        take_own_steps(it)
+        yield it, fewer
 
 
 def kept_key(machine):

@@ -293,19 +293,16 @@ READERS = "func kid 0 / interrupted / orelse 0 / ret / end / func main 0 / open 
 
 
 def states_of_readers(count):
-    """Returns how many states the program READERS with this number of subtasks has, if own steps come first.
+    """Returns how many states the program READERS with this number of subtasks has, if own steps follow other steps at once.
 
-    A subtask is at `interrupted`, at `orelse`, at `ret`, or at its end, and the order of the ends matters. `orelse` is an own step,
-    so one subtask at most is there. `main` has forked j subtasks, or it is behind its `join`, once all have ended in some order:
-    in five states, from `pop` to the end.
+    A subtask is at `interrupted`, at `ret`, or at its end, and the order of the ends matters. `main` has forked j subtasks, or it is
+    behind its `join`, once all have ended in some order: in four states, from `total` to the end.
     """
     found = 1  # before `open`
     for forked in range(count + 1):
         for ended in range(forked + 1):
-            others = forked - ended
-            at_own = others * 2 ** (others - 1) if others else 0
-            found += math.comb(forked, ended) * math.factorial(ended) * (2**others + at_own)
-    return found + 5 * math.factorial(count)
+            found += math.comb(forked, ended) * math.factorial(ended) * 2 ** (forked - ended)
+    return found + 4 * math.factorial(count)
 
 
 def searches_of_look(look, folder):
@@ -313,9 +310,11 @@ def searches_of_look(look, folder):
     text = os.path.join(folder, "searches")
     # (all_ends.py counts the states of the groups)
     for name, source, end, states in (
-        ("groups", GROUPS.format(" _", " _"), "success 7", 242),
-        ("groups with handles", GROUPS.format(" s3", " s4"), "success 7", 242),
+        ("groups", GROUPS.format(" _", " _"), "success 7", 165),
+        ("groups with handles", GROUPS.format(" s3", " s4"), "success 7", 165),
         ("seven readers", READERS.format("fork s0 kid _ / " * 7), "success 0", states_of_readers(7)),
+        # (301 own steps: the states after 0, 101, 202 and 301 steps, and the end)
+        ("many own steps", "func main 0 / push 7 / " + "push 0 / pop / " * 150 + "ret / end", "success 7", 5),
     ):
         with open(text, "w") as file:
             file.write(lines_of(source))

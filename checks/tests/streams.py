@@ -17,10 +17,10 @@ empty, except if a file that is read first can't be read. A journal that is a fi
 or a link, is refused in the same way, and all files stay as they were. If standard error can't be written, the output and
 the status of a failure are the same. Standard input is `-` for `look`. For `sts` at a terminal it says that it waits.
 
-A search by `look ends` that takes longer than a second says on a terminal which ends it found by calls, and then how many states
-it has, at most once a second. At its end it empties that line. It says nothing if standard error is no terminal. At Ctrl-C it ends
-within a second, by that signal. It has then printed nothing, and there is no file of a trace. After `--seconds N` it prints what it
-has.
+A search by `look ends` that takes longer than a second says on a terminal which ends it found, each once, and how many states
+it has, at most once a second. It empties that line before an end, and when it is over. It says nothing if standard error is no
+terminal. At Ctrl-C it ends within a second, by that signal. It has then printed nothing, and there is no file of a trace. After
+`--seconds N` it prints what it has.
 The last line is `N passed, M failed`, of runs.
 """
 import contextlib
@@ -62,7 +62,7 @@ RUN_OF_SUM = (
     "main steps 25\nmain tasks 4\nmain scopes 1\nmain binds 0\n" + END[0],
     0,
 )
-ENDS_OF_SUM = ("1 after 24 events: success 50\n83 states, all schedules\n", 0)
+ENDS_OF_SUM = ("1 after 24 events: success 50\n49 states, all schedules\n", 0)
 REFUSED = ("func main 0\nx:\njmp x\nend\n", ("refused V4 in main at 0: jmp L0\n", 4))
 FAULTY = ("func main 0\npuhs 7\nret\nend\n", ("error A2 line 2\n", 3))
 # a text with more states than any search finds in a few seconds: ten subtasks of three steps. The loop gives
@@ -73,6 +73,16 @@ MANY_STATES = "func kid 0\npush 1\ninterrupted\nadd\nret\nend\nfunc main 0\npush
     + "fork s0 kid _\n" * 10
     + "join s0 bad - intr\npop\ntotal s0\nclose s0\nret\nbad:\nclose s0\nfail\nintr:\npush 0\nclose s0\nfail\nend\n"
 )
+
+
+# a refused text with as many states. If its first subtask is unavailable, it faults. No trace by calls leads there,
+# since no end comes behind that
+LATE_FAULT = "func one 0\npush 5\nret\nend\nfunc kid 0\npush 1\ninterrupted\nadd\nret\nend\nfunc main 0\nopen s0 any\nfork s0 one s1\nfork s0 one _\n" + (
+    "join s0 bad - intr\npop\ncase s1 on on\nadd\nmore:\ninterrupted\npop\njmp more\non:\nclose s0\nopen s0 all\n"
+    + "fork s0 kid _\n" * 10
+    + "join s0 bad - intr\npop\ntotal s0\nclose s0\nret\nbad:\nclose s0\nfail\nintr:\npush 0\nclose s0\nfail\nend\n"
+)
+FAULT_SO_FAR = r"\r\x1b\[K\d+ after 9 events: fault Operand, task 0 in main, line 18: add\r\n"
 
 
 def limited(closed=()):
@@ -477,10 +487,10 @@ def at_own_terminal(its):
     return prepare
 
 
-def heard(ours, seconds):
-    """Returns what comes to a terminal, up to the first `states`."""
+def heard(ours, seconds, word):
+    """Returns what comes to a terminal, up to the first line with this word."""
     said, end = b"", time.monotonic() + seconds
-    while b"states" not in said and time.monotonic() < end:
+    while word.encode() not in said and time.monotonic() < end:
         if select.select([ours], [], [], end - time.monotonic())[0]:
             try:
                 said += os.read(ours, 1024)
@@ -489,17 +499,17 @@ def heard(ours, seconds):
     return said.decode(errors="replace")
 
 
-def stopped(look, words):
-    """Starts a search at a terminal and stops it by Ctrl-C once it has said something. Returns what it said, how it ended and
-    what it printed, and whether it ended within a second."""
+def stopped(look, words, word="states", form=f"{ENDS_SO_FAR}\r\\d+ states"):
+    """Starts a search at a terminal and stops it by Ctrl-C once it has said a word. Returns whether it said that in this form, how it
+    ended and what it printed, and whether it ended within a second."""
     ours, its = pty.openpty()
     begun = subprocess.Popen([look, *words], stdin=subprocess.DEVNULL, stdout=subprocess.PIPE, stderr=its, preexec_fn=at_own_terminal(its))
     os.close(its)
     try:
-        said, pressed = heard(ours, SECONDS), time.monotonic()
+        said, pressed = heard(ours, SECONDS, word), time.monotonic()
         os.write(ours, b"\x03")
         printed, _ = begun.communicate(timeout=SECONDS)
-        return bool(re.fullmatch(f"{ENDS_SO_FAR}\r\\d+ states", said)), (begun.returncode, printed), time.monotonic() - pressed < 1
+        return bool(re.fullmatch(form, said)) or said, (begun.returncode, printed), time.monotonic() - pressed < 1
     except subprocess.TimeoutExpired:
         return said, "no end", False
     finally:
@@ -517,11 +527,19 @@ def searching(look, folder):
         words = ["ends", text, "--most", "100000000", *more]
         yield f"Ctrl-C: {words}", stopped(look, words), (True, (-signal.SIGINT, b""), True)
     yield "the trace after Ctrl-C", os.path.exists(trace), False
+    yield "a fault before Ctrl-C", late_fault(look, f"{text}.late"), (True, (-signal.SIGINT, b""), True)
     yield from timely(look, text)
     said, answered, seconds = searched(look, ["ends", SUM])
     yield "a short search at a terminal", answered, answer(look, ["ends", SUM])
     yield "what it says", said, "" if seconds < 1 else said
     yield from progress(look, text, os.path.join(folder, "errors"))
+
+
+def late_fault(look, text):
+    """Returns the same of a search whose fault only the search over all schedules finds."""
+    with open(text, "w") as file:
+        file.write(LATE_FAULT)
+    return stopped(look, ["ends", text, "--most", "100000000"], "line 18: add", f"(?:{ENDS_SO_FAR})?(?:\r\\d+ states)+{FAULT_SO_FAR}")
 
 
 def timely(look, text):

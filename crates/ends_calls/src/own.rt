@@ -5,7 +5,7 @@ use ends_plain::hash::{mixed, mixed_values};
 use std::alloc::{AllocError, Global};
 use sts_code::LAST_SLOT;
 use sts_frames::copy_frame;
-use sts_model::{Entry, Frame};
+use sts_model::{Entry, Frame, KeptEntry};
 use sts_same::same::Same;
 
 /// What a slot of the task holds, by place: its open scopes are counted from the outermost, and the
@@ -47,13 +47,13 @@ fn mixed_held(hash: u64, held: &[Held]) -> u64 {
     hash
 }
 
-fn mixed_entries(hash: u64, entries: &[Entry]) -> u64 {
+fn mixed_entries(hash: u64, entries: &[KeptEntry]) -> u64 {
     let mut hash = hash;
     for entry in entries {
-        hash = match entry {
-            Entry::Scope(place) => mixed(hash, u64::from(*place)),
+        hash = match entry.get() {
+            Entry::Scope(place) => mixed(hash, u64::from(place)),
             Entry::Binding(key, value) => {
-                mixed(mixed(hash, 256 + u64::from(*key)), value.cast_unsigned())
+                mixed(mixed(hash, 256 + u64::from(key)), value.cast_unsigned())
             }
         };
     }

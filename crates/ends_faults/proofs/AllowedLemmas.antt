@@ -11,7 +11,7 @@ use Rattle.laws_calls.specs.declared.table.Own.{Own}
 use Rattle.ends_faults.specs.Safe.{IsAllowed}
 
 pub local_allowed : (p : Program) (c : Call) (own : Own) (i : Instr) → is_local i ≡ true → IsAllowed p c own i
-local_allowed p c own (Open x joiner timed) e = cc
+local_allowed p c own (Open x timed joiner) e = cc
 local_allowed p c own (Fork x g h) e = cc
 local_allowed p c own (Join x failed timeout to_i) e = cc
 local_allowed p c own (Close x) e = cc

@@ -328,7 +328,7 @@ module _ (p : Program) (w : World) (o : Right w) (h : ClosesAreWaitedFor p w) (t
 
 one_step : (p : Program) (w : World) (t : ℕ) (i : Instr) → Right w → ClosesAreWaitedFor p w → Does p w t i → Next w (effect p w t (task_at w t).frame i) → ClosesAreWaitedFor p (effect p w t (task_at w t).frame i)
 one_step p w t (Close x) o h d n = closing p w o h t x d n
-one_step p w t (Open x joiner timed) o h d n = other_instr p w _ t (Open x joiner timed) o h d.at refl (calm-open w t x joiner timed) n
+one_step p w t (Open x timed joiner) o h d n = other_instr p w _ t (Open x timed joiner) o h d.at refl (calm-open w t x joiner timed) n
 one_step p w t (Fork x g q) o h d n = other_instr p w _ t (Fork x g q) o h d.at refl (calm-fork p w t (named (slot (task_at w t).frame x)) g q) n
 one_step p w t (Join x failed timeout interrupted) o h d n =
     other_instr p w _ t (Join x failed timeout interrupted) o h d.at refl (calm-join w t (named (slot (task_at w t).frame x)) (task_at w t).frame (unwrap_or failed 0) (unwrap_or timeout 0) interrupted) n

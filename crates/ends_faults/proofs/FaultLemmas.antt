@@ -2,8 +2,9 @@
 use Rattle.std.proofs.Common.{◌≡◌, ℕ, ◌⊎◌, inl, inr, List, [], ◌∷◌, ◌++◌, Bool, true, false, Option, Some, None}
 use Rattle.std.proofs.Common.{refl, sym, ◌∙◌, ap, subst, length, arith, cond, not, map, ◌||◌, ◌&&◌, get_or}
 use Rattle.std.specs.Prelude.{◌==◌, filter_map, nat_lt, nat_le, is_some, is_none, slice_get}
-use Rattle.std.proofs.lemmas.Bool.{and_parts, and_from, not_from_true}
+use Rattle.std.proofs.lemmas.Bool.{and_parts, and_from, not_from_true, or_from}
 use Rattle.std.proofs.lemmas.Bool.Decides.{nat_tests}
+use Rattle.std.proofs.lemmas.Option.{same_Some}
 use Rattle.sts_code.specs.Program.{Program}
 use Rattle.sts_code.specs.declared.instr.Instr.{Instr}
 use Rattle.sts_code.specs.declared.instr.Instr.TheVariants.{Open, Fork, Join, Close, Cancelled}
@@ -45,16 +46,12 @@ use Rattle.laws_calls.proofs.FittingLemmas.{Facts, all_place, all_length, at_amo
 use Rattle.laws_calls.proofs.FittingLemmas.{states_in, subs_count, pick_fits, never_unseen, blank_bounds, facts_after, no}
 use Rattle.ends_faults.specs.Closing.{ClosesAreWaitedFor}
 use Rattle.ends_faults.specs.Safe as safe
-use Rattle.ends_faults.specs.Safe.{OwnsOne, KnowsOne, CanFork, CanJoin, CanClose, CanRead, IsAllowed, IsSafe}
+use Rattle.ends_faults.specs.Safe.{KnowsOne, CanRead, IsAllowed, IsSafe}
 use Rattle.ends_faults.specs.Faults.{lacks_births, HasPlace, IsIn, SafeIsFine}
 use Rattle.ends_faults.proofs.HeldLemmas.{empty_slot, scope_slot, sub_slot, own_held, sub_held, get_map}
 use Rattle.ends_faults.proofs.ClosingLemmas.{is_close, closing_is_at_close}
 
 -- ---- small tests
-
-neither : (a b : Bool) → a ≡ false → b ≡ false → (a || b) ≡ false
-neither true b d e = cc
-neither false b d e = e
 
 -- if no test finds a fault, there is none
 no_fault : (p : Program) (w : World) (t : ℕ) (f : Frame) (i : Instr) → IsFine p w t f i → fault_of p w t f i ≡ None
@@ -81,9 +78,6 @@ innermost_blank [] = refl
 innermost_blank (entry.Scope s ∷ es) = refl
 innermost_blank (entry.Binding k v ∷ es) = refl
 
-some_same : {X : Type 0} (a b : X) → Some a ≡ Some b → a ≡ b
-some_same a b e = cc
-
 -- the innermost entry is that of the scope at the last place
 innermost_is : (es : List Entry) (place s : ℕ) → safe.is_innermost place (map blank es) ≡ true → at_place (births_in es) place ≡ Some s → misuse.innermost (misuse.is_entry_of s) es ≡ true
 innermost_is [] place s e at = cc
@@ -91,7 +85,7 @@ innermost_is (entry.Binding k v ∷ es) place s e at = cc
 innermost_is (entry.Scope r ∷ es) place s e at = by (place == length (births_in es)) (ap (λ n. place == n) (sym (count_blank es)) ∙ e) at
   where
     by : (b : Bool) → b ≡ true → cond b (Some r) (at_place (births_in es) place) ≡ Some s → (r == s) ≡ true
-    by true d k = let one : r ≡ s = some_same r s k in grind (arith, nat_tests)
+    by true d k = let one : r ≡ s = same_Some r s k in grind (arith, nat_tests)
     by false d k = cc
 
 -- no binding comes after the scope at the place
@@ -102,7 +96,7 @@ binds_blank (entry.Scope r ∷ es) place s e at = by (place == length (births_in
   where
     by : (b c : Bool) → (r == s) ≡ c → cond b false (safe.binds_after place (map blank es)) ≡ false → cond b (Some r) (at_place (births_in es) place) ≡ Some s → (safe.binds_after place (map blank es) ≡ false → at_place (births_in es) place ≡ Some s → misuse.binds_after s es ≡ false) → cond c false (misuse.binds_after s es) ≡ false
     by b true is d k rest = refl
-    by true false is d k rest = let one : r ≡ s = some_same r s k in let yes : (r == s) ≡ true = grind (arith, nat_tests) in cc
+    by true false is d k rest = let one : r ≡ s = same_Some r s k in let yes : (r == s) ≡ true = grind (arith, nat_tests) in cc
     by false false is d k rest = rest d k
 
 -- ---- scopes
@@ -152,7 +146,7 @@ module _ (p : Program) (rows : ℕ → Row) (w : World) (h : Facts w) (closes : 
   scoped : (place s : ℕ) (seen : Seen) → at_place opened place ≡ Some s → at_place own.scopes place ≡ Some seen → Scoped place s seen
   scoped place s seen at there =
       let r = all_place (SeenFits rows w) opened own.scopes place s k.fits.scopes at in
-      let same : r.0 ≡ seen = some_same r.0 seen (sym r.1.0 ∙ there) in
+      let same : r.0 ≡ seen = same_Some r.0 seen (sym r.1.0 ∙ there) in
       record {
         at = at;
         fits = subst (λ (z : Seen). SeenFits rows w s z) same r.1.1;
@@ -196,7 +190,7 @@ module _ (p : Program) (rows : ℕ → Row) (w : World) (h : Facts w) (closes : 
         by (inr e) =
             let q = closes s e in
             let one : Some (Close q.x) ≡ Some i = sym q.at ∙ ap (λ n. instr_at p (task_at w n).frame) a.entered.owner ∙ at in
-            let is : Close q.x ≡ i = some_same (Close q.x) i one in
+            let is : Close q.x ≡ i = same_Some (Close q.x) i one in
             absurd (no (ap is_close is ∙ other))
 
     readable : is_close i ≡ false → (place s : ℕ) (seen : Seen) (a : Scoped place s seen) → safe.is_readable p.profile seen ≡ true → misuse.is_readable p.profile (scope_at w s) ≡ true
@@ -228,31 +222,31 @@ module _ (p : Program) (rows : ℕ → Row) (w : World) (h : Facts w) (closes : 
   sub_fails q child test e fails = ap (λ y. misuse.at_sub w y test) e ∙ fails
 
   slots_fine : (i : Instr) → IsAllowed p c own i → misuse.has_wrong_slot f i ≡ false
-  slots_fine (Open x joiner timed) a = empty_slot w opened (slot f x) (held_at own x) (held_in x) a.0
+  slots_fine (Open x timed joiner) a = empty_slot w opened (slot f x) (held_at own x) (held_in x) a.0
   slots_fine (Fork x g q) a =
       let o = owned x a.0.place a.0.seen a.0.owns in
-      neither _ _ (neither _ _ (ap (λ y. not (misuse.is_scope y)) o.mine) refl) (free q a.1)
+      or_from _ _ (or_from _ _ (ap (λ y. not (misuse.is_scope y)) o.mine) refl) (free q a.1)
   slots_fine (Join x failed timeout to_i) a =
       let o = owned x a.place a.seen a.owns in
-      neither _ _ (neither _ _ (ap (λ y. not (misuse.is_scope y)) o.mine) refl) refl
+      or_from _ _ (or_from _ _ (ap (λ y. not (misuse.is_scope y)) o.mine) refl) refl
   slots_fine (Close x) a =
       let o = owned x a.place a.seen a.owns in
-      neither _ _ (neither _ _ (ap (λ y. not (misuse.is_scope y)) o.mine) refl) refl
+      or_from _ _ (or_from _ _ (ap (λ y. not (misuse.is_scope y)) o.mine) refl) refl
   slots_fine (Cancelled x) a = scope_slot w opened (slot f x) (held_at own x) (held_in x) a
-  slots_fine (Case x success failed) a = neither _ _ (sub_slot w opened (slot f x) (held_at own x) (held_in x) a) refl
+  slots_fine (Case x success failed) a = or_from _ _ (sub_slot w opened (slot f x) (held_at own x) (held_in x) a) refl
   slots_fine (Get x) a =
       let o = known x a.place a.seen a.i a.part a.knows in
-      neither _ _ (ap (λ y. not (misuse.is_sub y)) o.mine) refl
+      or_from _ _ (ap (λ y. not (misuse.is_sub y)) o.mine) refl
   slots_fine (Except x) a =
       let o = known x a.place a.seen a.i a.part a.knows in
-      neither _ _ (ap (λ y. not (misuse.is_sub y)) o.mine) refl
+      or_from _ _ (ap (λ y. not (misuse.is_sub y)) o.mine) refl
   slots_fine (Tally x kind) a =
       let o = owned x a.place a.seen a.owns in
-      neither _ _ (neither _ _ (ap (λ y. not (misuse.is_scope y)) o.mine) refl) refl
+      or_from _ _ (or_from _ _ (ap (λ y. not (misuse.is_scope y)) o.mine) refl) refl
   slots_fine (Total x) a =
       let o = owned x a.place a.seen a.owns in
-      neither _ _ (neither _ _ (ap (λ y. not (misuse.is_scope y)) o.mine) refl) refl
-  slots_fine (Forget x) a = neither _ _ (sub_slot w opened (slot f x) (held_at own x) (held_in x) a) refl
+      or_from _ _ (or_from _ _ (ap (λ y. not (misuse.is_scope y)) o.mine) refl) refl
+  slots_fine (Forget x) a = or_from _ _ (sub_slot w opened (slot f x) (held_at own x) (held_in x) a) refl
   slots_fine i a = refl
 
   own_legal : (i : Instr) → IsAllowed p c own i → misuse.is_strangers f i ≡ false
@@ -279,7 +273,7 @@ module _ (p : Program) (rows : ℕ → Row) (w : World) (h : Facts w) (closes : 
   entries_same = ap (λ n. nat_le MAX_ENTRIES n) (sym (length_blank f.entries)) ∙ ap safe.is_full k.fits.frame
 
   room_fine : (i : Instr) → IsAllowed p c own i → lacks_births w i ≡ false → misuse.has_no_room w f i ≡ false
-  room_fine (Open x joiner timed) a few = neither _ _ (entries_same ∙ a.1) few
+  room_fine (Open x timed joiner) a few = or_from _ _ (entries_same ∙ a.1) few
   room_fine (Fork x g q) a few = few
   room_fine (Bind x) a few = entries_same ∙ a
   room_fine i a few = refl

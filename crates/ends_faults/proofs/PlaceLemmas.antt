@@ -29,7 +29,7 @@ not_crowded standing born less few =
     ap (λ (b : Bool). b || nat_le 1000000 born) room ∙ born_few
 
 has_place : (p : Program) (w : World) (u : ℕ) → length w.tasks + length w.scopes < 65536 → HasPlace p w u
-has_place p w u few (Open x joiner timed) at = not_crowded (standing_scopes w) (length w.scopes) (count_by-le-length is_standing_scope w.scopes) (omega (arith, few))
+has_place p w u few (Open x timed joiner) at = not_crowded (standing_scopes w) (length w.scopes) (count_by-le-length is_standing_scope w.scopes) (omega (arith, few))
 has_place p w u few (Fork x g h) at = not_crowded (standing_tasks w) (length w.tasks) (count_by-le-length (is_standing_task w) w.tasks) (omega (arith, few))
 has_place p w u few i at = refl
 

@@ -23,7 +23,7 @@ use Rattle.ends_faults.specs.Safe.{IsSafe, AreSafe}
 
 -- would one birth more be over a limit?
 abbrev pub lacks_births : World → Instr → Bool
-lacks_births w (Open x joiner timed) = is_crowded (standing_scopes w) (length w.scopes)
+lacks_births w (Open x timed joiner) = is_crowded (standing_scopes w) (length w.scopes)
 lacks_births w (Fork x g h) = is_crowded (standing_tasks w) (length w.tasks)
 lacks_births w i = false
 

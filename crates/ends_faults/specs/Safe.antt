@@ -138,7 +138,7 @@ pub record CanRead (profile : Profile) (test : Option End → Bool) (x : Seen) (
 
 -- what an instruction asks of slots, of scopes, of the structure list and of bindings
 abbrev pub IsAllowed : Program → Call → Own → Instr → Type 0
-IsAllowed p c own (Open x joiner timed) =
+IsAllowed p c own (Open x timed joiner) =
     (is_empty (held_at own x) ≡ true) × (is_full own.frame ≡ false)
 IsAllowed p c own (Fork x g h) = OwnsOne own x (CanFork own) × (is_free own h ≡ true)
 IsAllowed p c own (Join x failed timeout to_i) =

@@ -86,7 +86,7 @@ pub struct Around<'a> {
 
 impl<'a> Around<'a> {
     fn open(&self, slot: u8, joiner: Joiner, timed: bool) -> Result<(), Stop>
-        ensures { OnOk result (Allows self.now (instrs.Open slot joiner timed)) }
+        ensures { OnOk result (Allows self.now (instrs.Open slot timed joiner)) }
     {
         needs(is_empty(held_at(self.own, slot)))?;
         needs(!is_full(&self.own.frame))?;

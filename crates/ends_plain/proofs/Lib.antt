@@ -7,4 +7,5 @@ pub mod NamedLemmas
 pub mod OthersLemmas
 pub mod OwnLemmas
 pub mod ReachLemmas
+pub mod SettleLemmas
 pub mod WayLemmas

@@ -18,15 +18,16 @@ use Rattle.ends_plain.specs.declared.config.Asked.{Asked}
 use Rattle.ends_plain.specs.declared.config.Config.{Config}
 use Rattle.ends_plain.specs.declared.config.Found.{Found}
 use Rattle.ends_plain.specs.declared.config.Setting.{Setting}
-use Rattle.ends_plain.specs.Configs.{next, can, tries, start, is_last, IsLike}
+use Rattle.ends_plain.specs.Configs.{next, next_kept, can, tries, start, is_last, IsLike}
 use Rattle.ends_plain.specs.Explored.{IsExplored}
 use Rattle.ends_plain.specs.Ends.{is_end, AreAll}
 use Rattle.ends_plain.specs.Listed.{is_fault_end, is_faulty}
 use Rattle.ends_plain.specs.Listed.{ends_of, AreShown, AreEnds, HasShown, IsEndOf, IsShownBy}
 use Rattle.ends_plain.proofs.EventLemmas.{split}
 use Rattle.ends_plain.proofs.WayLemmas.{position_after, allowed}
-use Rattle.ends_plain.proofs.OwnLemmas.{IsRun, run_on}
-use Rattle.ends_plain.proofs.ReachLemmas.{IsOver, shows_all, way_of_tries}
+use Rattle.ends_plain.proofs.OwnLemmas.{IsRun}
+use Rattle.ends_plain.proofs.SettleLemmas.{run_kept}
+use Rattle.ends_plain.proofs.ReachLemmas.{IsOver, shows_all}
 
 pub shown_more : (g : Setting) (first : Config) (found : List Found) (f : Found) → AreShown g first found → IsShownBy g first f → AreShown g first (found ++ f ∷ [])
 shown_more g first found f all here e c = by (Contains-append_cases found (f ∷ []) e c)
@@ -39,10 +40,10 @@ shown_more g first found f all here e c = by (Contains-append_cases found (f ∷
 at_same : (states : List Config) (k : ℕ) (x d : Config) → k < length states → x ≡ slice_index_or states k x → slice_index_or states k d ≡ x
 at_same states k x d less is = get_or_default states k d x less ∙ sym is
 
-pub shown_here : (g : Setting) (first x y : Config) (f : Found) → IsWay (next g) (tries g) first f.trace y → x ≡ y → f.end ≡ shown x.position → is_end f.end ≡ true → IsShownBy g first f
+pub shown_here : (g : Setting) (first x y : Config) (f : Found) → IsWay (next g) (can g) first f.trace y → x ≡ y → f.end ≡ shown x.position → is_end f.end ≡ true → IsShownBy g first f
 shown_here g first x y f way is shows ends = record {
   config = x;
-  way = way_of_tries g first x f.trace (subst (λ z. IsWay (next g) (tries g) first f.trace z) (sym is) way);
+  way = subst (λ z. IsWay (next g) (can g) first f.trace z) (sym is) way;
   shows = sym shows;
   ends = ends;
 }
@@ -108,20 +109,20 @@ pub sound : (g : Setting) (first : Config) (found : List Found) → first ≡ st
 sound g first found begins all f c = end_of_trace g first f begins (all f c)
 
 -- the states of a search are those of runs
-runs_below : (g : Setting) (states : List Config) (origins : List Origin) → IsTraced (next g) (tries g) is_last states origins → ((d : Config) → slice_index_or states 0 d ≡ start g) → (n k : ℕ) → k < n → k < length states → (d : Config)
-    → IsRun g.program (slice_index_or states k d).position
-runs_below g states origins traced first zero k less within d = absurd (omega (arith, less))
-runs_below g states origins traced first (suc n) zero less within d = rw (first d) (record { events = []; leads = refl })
-runs_below g states origins traced first (suc n) (suc k) less within d =
+runs_below : (a : Asked) (states : List Config) (origins : List Origin) → IsTraced (next_kept a) (tries a.setting) is_last states origins → ((d : Config) → slice_index_or states 0 d ≡ start a.setting) → (n k : ℕ) → k < n → k < length states → (d : Config)
+    → IsRun a.setting.program (slice_index_or states k d).position
+runs_below a states origins traced first zero k less within d = absurd (omega (arith, less))
+runs_below a states origins traced first (suc n) zero less within d = rw (first d) (record { events = []; leads = refl })
+runs_below a states origins traced first (suc n) (suc k) less within d =
     let from = traced.later (suc k) (omega arith) within in
     let o = origin_at origins (suc k) in
     let before = from.before in
-    let older : IsRun g.program (slice_index_or states o.parent d).position = runs_below g states origins traced first n o.parent (omega (arith, before, less)) (omega (arith, before, within)) d in
-    rw (from.state d) (run_on g.program (slice_index_or states o.parent d).position o.event older)
+    let older : IsRun a.setting.program (slice_index_or states o.parent d).position = runs_below a states origins traced first n o.parent (omega (arith, before, less)) (omega (arith, before, within)) d in
+    rw (from.state d) (run_kept a (slice_index_or states o.parent d) o.event older)
 
-pub states_run : (g : Setting) (states : List Config) (origins : List Origin) → IsTraced (next g) (tries g) is_last states origins → ((d : Config) → slice_index_or states 0 d ≡ start g) → (c : Config) → Contains states c → IsRun g.program c.position
-states_run g states origins traced first c there =
-    subst (λ (x : Config). IsRun g.program x.position) there.2 (runs_below g states origins traced first (length states) there.0 there.1 there.1 c)
+pub states_run : (a : Asked) (states : List Config) (origins : List Origin) → IsTraced (next_kept a) (tries a.setting) is_last states origins → ((d : Config) → slice_index_or states 0 d ≡ start a.setting) → (c : Config) → Contains states c → IsRun a.setting.program c.position
+states_run a states origins traced first c there =
+    subst (λ (x : Config). IsRun a.setting.program x.position) there.2 (runs_below a states origins traced first (length states) there.0 there.1 there.1 c)
 
 -- no end that is listed is a fault, so no state is one
 pub no_fault : (states : List Config) (ends : List PlainState) → HasShown states (length states) ends → ((end : PlainState) → Contains ends end → is_fault_end end ≡ false) → (c : Config) → Contains states c → is_fault c.position ≡ false
@@ -151,19 +152,19 @@ complete a states ends over has events end h =
 
 -- a search that is over lists all ends, unless it isn't exact and lists a fault
 pub all_listed : (a : Asked) (first : Config) (origins : List Origin) (closed : ℕ) (kept : List Config) (marks : List (Option ℕ)) (found : List Found) → IsExplored a first origins closed kept marks → closed ≡ length origins
-    → HasShown (states_of (next a.setting) first origins) (length origins) (ends_of found) → (a.exact ≡ false → list_any is_faulty found ≡ false) → AreAll a.setting.program a.setting.expiries a.setting.interrupts (ends_of found)
+    → HasShown (states_of (next_kept a) first origins) (length origins) (ends_of found) → (a.exact ≡ false → list_any is_faulty found ≡ false) → AreAll a.setting.program a.setting.expiries a.setting.interrupts (ends_of found)
 all_listed a first origins closed kept marks found x over has calm =
     let g = a.setting in
-    let states = states_of (next g) first origins in
+    let states = states_of (next_kept a) first origins in
     let s = x.space.searched in
     let as_many : length origins ≡ length states = s.traced.as_many in
     let shown_ones : HasShown states (length states) (ends_of found) = subst (λ (n : ℕ). HasShown states n (ends_of found)) as_many has in
-    let begins = begins_so (next g) first origins s.some in
+    let begins = begins_so (next_kept a) first origins s.some in
     let at_start : (d : Config) → slice_index_or states 0 d ≡ start g = λ (d : Config). begins.first d ∙ x.begins in
     let whole : IsOver a states = record {
       begins = (0, begins.some, at_start (start g));
-      closed = subst (λ (n : ℕ). IsClosed (next g) (tries g) (IsLike a) states n) (over ∙ as_many) s.closed_below;
-      runs = states_run g states origins s.traced at_start;
+      closed = subst (λ (n : ℕ). IsClosed (next_kept a) (tries g) (IsLike a) states n) (over ∙ as_many) s.closed_below;
+      runs = states_run a states origins s.traced at_start;
       calm = λ loose. no_fault states (ends_of found) shown_ones (λ end c. none_faulty found (calm loose) c.0 end c.1 c.2);
     } in
     complete a states (ends_of found) whole shown_ones

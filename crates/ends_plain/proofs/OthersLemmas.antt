@@ -202,7 +202,7 @@ moved_apart p w t g u f (instr.OrElse k) apart = ap (λ (bs : List Bound). steps
 moved_apart p w t g u f i apart = refl
 
 pub apart-effect : (p : Program) (w : World) (t : ℕ) (g : Frame) (u : ℕ) (f : Frame) (i : Instr) → (u ≡ t → ⊥) → lives (task_at w t) ≡ true → Apart t g (effect p (with_frame w t g) u f i) (effect p w u f i)
-apart-effect p w t g u f (instr.Open s joiner timed) apart alive = apart-open w t g u f s joiner timed apart alive
+apart-effect p w t g u f (instr.Open s timed joiner) apart alive = apart-open w t g u f s joiner timed apart alive
 apart-effect p w t g u f (instr.Fork s n h) apart alive = apart-fork p w t g u f (named (slot f s)) n h apart alive
 apart-effect p w t g u f (instr.Join s failed timeout interrupted) apart alive = apart-join w t g u f (named (slot f s)) (unwrap_or failed 0) (unwrap_or timeout 0) interrupted apart alive
 apart-effect p w t g u f (instr.Close s) apart alive = apart-close w t g u f (named (slot f s)) apart alive

@@ -1,5 +1,6 @@
 -- A search's states, and what events do to them (this project's own).
-use Rattle.std.specs.Prelude.{◌≡◌, ℕ, ◌-◌, List, Bool, true, false, Option, Some, None, ◌&&◌}
+use Rattle.std.specs.Prelude.{◌≡◌, ℕ, zero, suc, ◌-◌, List, [], ◌∷◌, fold, Bool, true, false}
+use Rattle.std.specs.Prelude.{Option, Some, None, ◌&&◌}
 use Rattle.std.specs.Prelude.{◌⊎◌, ◌==◌, nat_lt, if◌then◌else◌}
 use Rattle.std.specs.List.{Contains}
 use Rattle.sts_model.specs.declared.event.Event.{Event}
@@ -63,6 +64,29 @@ is_tried (Some t) g left s e = is_step_of t e
 -- the events that the search goes on with
 abbrev pub tries : Setting → Config → Event → Bool
 tries g c e = is_tried (own_step_of g.program c.position) g c.left c.position e
+
+-- ---- own steps in one go
+
+-- the step of this task, if there is one, and the events after it
+abbrev pub step_first : Option ℕ → (ℕ → List Event) → List Event
+step_first None rest = []
+step_first (Some t) rest = event.Step t ∷ rest t
+
+-- at most n own steps, each of the first task that has one
+abbrev pub own_events : ℕ → Setting → Config → List Event
+own_events zero g c = []
+own_events (suc n) g c =
+    step_first (own_step_of g.program c.position) (λ t. own_events n g (next g c (event.Step t)))
+
+-- the state after these steps
+abbrev pub settled : ℕ → Setting → Config → Config
+settled n g c = fold (next g) c (own_events n g c)
+
+-- the state that a search keeps after an event: the one after the own steps that follow it
+abbrev pub next_kept : Asked → Config → Event → Config
+next_kept a c e = settled a.own_steps a.setting (next a.setting c e)
+
+-- ---- events
 
 -- the events are those that pass the test
 pub record AreThose (test : Event → Bool) (events : List Event) : Type 0 where

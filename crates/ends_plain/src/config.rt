@@ -23,6 +23,8 @@ pub struct Setting {
 pub struct Asked {
     pub setting: Setting,
     pub exact: bool,
+    /// This number of own steps at most follow an event at once, with no state between.
+    pub own_steps: u32,
 }
 
 /// A state of the machine, and how many interrupts may still come.

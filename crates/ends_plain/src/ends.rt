@@ -3,13 +3,13 @@
 ghost use Rattle.std.specs.Prelude.{◌≡◌, ◌<◌, ◌+◌, true, false, IfOk, OnOk, length};
 ghost use Rattle.std.specs.List.{Contains, list_any};
 ghost use Rattle.ends_search.specs.Search.{IsSpace, states_of};
-ghost use Rattle.ends_plain.specs.Configs.{next, tries, is_last, IsLike};
+ghost use Rattle.ends_plain.specs.Configs.{next_kept, tries, is_last, IsLike};
 ghost use Rattle.ends_plain.specs.Ends.{is_end};
 ghost use Rattle.ends_plain.specs.Listed.{ends_of, AreShown, HasShown, is_fault_end, is_faulty};
 
 use crate::config::{Asked, Config, Found};
+use crate::full_trace::with_own_steps;
 use crate::shorter::shortened;
-use crate::trace::trace_of;
 use ends_search::search::{Space, restored, trace};
 use std::alloc::{AllocError, Global};
 use sts_plain::PlainState;
@@ -65,16 +65,16 @@ fn list_end(
     found: &mut Vec<Found>,
 ) -> Result<(), AllocError>
     requires within { place < length space.now.origins.items }
-    requires space { IsSpace (next asked.now.setting) (tries asked.now.setting) (IsLike asked.now)
+    requires space { IsSpace (next_kept asked.now) (tries asked.now.setting) (IsLike asked.now)
         is_last space.now.first space.now.origins.items space.now.closed space.now.kept.items
         space.now.marks.items }
     requires shown { AreShown asked.now.setting space.now.first found.old.items }
     requires before { HasShown
-        (states_of (next asked.now.setting) space.now.first space.now.origins.items) place
+        (states_of (next_kept asked.now) space.now.first space.now.origins.items) place
         (ends_of found.old.items) }
     ensures shown { OnOk result (AreShown asked.now.setting space.now.first found.new.items) }
     ensures all { OnOk result (HasShown
-        (states_of (next asked.now.setting) space.now.first space.now.origins.items) (place + 1)
+        (states_of (next_kept asked.now) space.now.first space.now.origins.items) (place + 1)
         (ends_of found.new.items)) }
 {
     let marked = space.origins[place].is_last;
@@ -85,7 +85,7 @@ fn list_end(
     let end = config.position.state();
     if is_new(found.as_slice(), end) {
         let events = trace(alloc, asked, space, place)?;
-        let trace = trace_of(alloc, events.as_slice())?;
+        let trace = with_own_steps(alloc, asked, &space.first, events.as_slice())?;
         let one = shortened(alloc, &asked.setting, &space.first, Found { end, trace })?;
         found.push(one)?;
     }
@@ -94,13 +94,13 @@ fn list_end(
 
 /// The ends among the states of a search, each with a way to the first state that shows it.
 pub fn list(alloc: Global, asked: &Asked, space: &Space<Config>) -> Result<Vec<Found>, AllocError>
-    requires { IsSpace (next asked.now.setting) (tries asked.now.setting) (IsLike asked.now)
+    requires { IsSpace (next_kept asked.now) (tries asked.now.setting) (IsLike asked.now)
         is_last space.now.first space.now.origins.items space.now.closed space.now.kept.items
         space.now.marks.items }
     ensures shown { IfOk result (λ found.
         AreShown asked.now.setting space.now.first found.items) }
     ensures all { IfOk result (λ found.
-        HasShown (states_of (next asked.now.setting) space.now.first space.now.origins.items)
+        HasShown (states_of (next_kept asked.now) space.now.first space.now.origins.items)
         (length space.now.origins.items) (ends_of found.items)) }
 {
     let mut found = Vec::new(alloc);

@@ -4,7 +4,7 @@ ghost use Rattle.std.specs.Prelude.{◌≡◌, true, IfOk};
 ghost use Rattle.ends_plain.specs.Ends.{AreAll};
 ghost use Rattle.ends_plain.specs.Listed.{ends_of, AreEnds};
 ghost use Rattle.ends_search.specs.Search.{IsSpace};
-ghost use Rattle.ends_plain.specs.Configs.{next, tries, is_last, IsLike};
+ghost use Rattle.ends_plain.specs.Configs.{next_kept, tries, is_last, IsLike};
 
 use crate::config::{Asked, Config, EndsFound, Setting};
 use crate::ends::{has_fault, list};
@@ -12,6 +12,9 @@ use crate::reading::reads_nothing;
 use ends_search::search::{Space, advance, begin, restored};
 use std::alloc::{AllocError, Global};
 use std::marker::Model;
+
+/// This number of own steps at most follow an event at once.
+const OWN_STEPS: u32 = 100;
 
 /// A search so far. Contracts see its input.
 #[derive(Drop)]
@@ -36,7 +39,7 @@ impl Model for Exploration {
 
 /// Does one of the states show a fault?
 fn finds_fault(alloc: Global, asked: &Asked, space: &Space<Config>) -> Result<bool, AllocError>
-    requires { IsSpace (next asked.now.setting) (tries asked.now.setting) (IsLike asked.now)
+    requires { IsSpace (next_kept asked.now) (tries asked.now.setting) (IsLike asked.now)
         is_last space.now.first space.now.origins.items space.now.closed space.now.kept.items
         space.now.marks.items }
 {
@@ -70,7 +73,12 @@ impl Exploration {
         ensures { IfOk result (λ x. x ≡ setting) }
     {
         let exact = !reads_nothing(&setting.program);
-        begun(alloc, Asked { setting, exact }, most)
+        let asked = Asked {
+            setting,
+            exact,
+            own_steps: OWN_STEPS,
+        };
+        begun(alloc, asked, most)
     }
 
     /// The search after `count` more states were expanded, or fewer if it is over. A search that is
@@ -94,6 +102,7 @@ impl Exploration {
                 Asked {
                     setting,
                     exact: true,
+                    own_steps: OWN_STEPS,
                 },
                 space.most,
             );

@@ -4,7 +4,7 @@ ghost use Rattle.std.specs.Prelude.{◌≡◌, ◌<◌, length, true};
 ghost use Rattle.sts_model.specs.Living as living;
 ghost use Rattle.sts_model.specs.World as def;
 
-use sts_model::{End, Entry, Frame, Slot};
+use sts_model::{End, Entry, Frame, KeptEntry, KeptSlot, Slot};
 use sts_world::{Records, World};
 
 /// The hash of no numbers.
@@ -16,6 +16,7 @@ pub fn mixed(hash: u64, n: u64) -> u64 {
     product ^ (product >> 32)
 }
 
+/// Mixes in how many values there are, and each value.
 pub fn mixed_values(hash: u64, values: &[i64]) -> u64 {
     let mut hash = mixed(hash, values.len() as u64);
     for value in values {
@@ -33,10 +34,10 @@ fn number_of_slot(slot: Slot) -> u64 {
     }
 }
 
-fn mixed_slots(hash: u64, slots: &[Slot]) -> u64 {
+fn mixed_slots(hash: u64, slots: &[KeptSlot]) -> u64 {
     let mut hash = hash;
     for slot in slots {
-        hash = mixed(hash, number_of_slot(*slot));
+        hash = mixed(hash, number_of_slot(slot.get()));
     }
     hash
 }
@@ -50,10 +51,10 @@ fn mixed_entry(hash: u64, entry: Entry) -> u64 {
     }
 }
 
-fn mixed_entries(hash: u64, entries: &[Entry]) -> u64 {
+fn mixed_entries(hash: u64, entries: &[KeptEntry]) -> u64 {
     let mut hash = hash;
     for entry in entries {
-        hash = mixed_entry(hash, *entry);
+        hash = mixed_entry(hash, entry.get());
     }
     hash
 }
@@ -69,6 +70,7 @@ fn mixed_frame(hash: u64, frame: &Frame) -> u64 {
     hash
 }
 
+/// Mixes in an end, or that there is none.
 pub fn mixed_end(hash: u64, end: Option<End>) -> u64 {
     match end {
         None => mixed(hash, 0),

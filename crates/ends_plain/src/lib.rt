@@ -5,6 +5,7 @@ pub mod config;
 pub mod ends;
 pub mod events;
 pub mod exploration;
+pub mod full_trace;
 pub mod guess;
 pub mod hash;
 pub mod moves;

@@ -1,7 +1,7 @@
 //! The plain machine as a machine that is searched.
 
-ghost use Rattle.std.specs.Prelude.{◌≡◌, ◌⊎◌, true, IfOk, [], ◌∷◌};
-ghost use Rattle.ends_plain.specs.Configs.{next as next_of, tries, AreThose, can_come, is_tried};
+ghost use Rattle.std.specs.Prelude.{◌≡◌, ◌⊎◌, true, IfOk, OnOk, [], ◌∷◌};
+ghost use Rattle.ends_plain.specs.Configs.{next_kept, settled, tries, AreThose, can_come, is_tried};
 ghost use Rattle.ends_plain.specs.Configs.{HasNames, IsLike, is_last as shows_end};
 ghost use Rattle.ends_plain.specs.Own.{own_step_of};
 
@@ -41,7 +41,7 @@ pub fn events_of(
 }
 
 /// The first task that can take an own step, if there is one.
-fn own_step(config: &Config, setting: &Setting) -> Option<u32>
+pub fn own_step(config: &Config, setting: &Setting) -> Option<u32>
     ensures { result ≡ own_step_of setting.now.program config.now.position }
 {
     match config.position.world() {
@@ -112,10 +112,30 @@ fn is_alike(
     is_renamed(alloc, &asked.setting, &ours.position, &theirs.position)
 }
 
+/// Takes own steps, one after the other: at most this number, and fewer if no task has one.
+fn take_own_steps(
+    alloc: Global,
+    setting: &Setting,
+    most: u32,
+    config: &mut Config,
+) -> Result<(), AllocError>
+    ensures { OnOk result (config.new ≡ settled most setting.now config.old) }
+{
+    let mut left = most;
+    while left > 0 {
+        let Some(t) = own_step(config, setting) else {
+            return Ok(());
+        };
+        config.apply_event(alloc, setting, Event::Step(t))?;
+        left -= 1;
+    }
+    Ok(())
+}
+
 impl StateMachine for Config {
     type Setting = Asked;
 
-    ghost next = { λ a. next_of a.setting };
+    ghost next = { next_kept };
 
     ghost can = { λ a. tries a.setting };
 
@@ -128,7 +148,8 @@ impl StateMachine for Config {
     }
 
     fn apply(&mut self, alloc: Global, asked: &Asked, event: Event) -> Result<(), AllocError> {
-        self.apply_event(alloc, &asked.setting, event)
+        self.apply_event(alloc, &asked.setting, event)?;
+        take_own_steps(alloc, &asked.setting, asked.own_steps, self)
     }
 
     fn copied(&self, alloc: Global) -> Result<Config, AllocError> {

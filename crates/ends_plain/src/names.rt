@@ -9,7 +9,7 @@ ghost use Rattle.ends_plain.specs.Named.{AreNames, AllTasksSame, AllScopesSame};
 
 use crate::guess::guessed;
 use std::alloc::{AllocError, Global};
-use sts_model::{Completion, Entry, Frame, Slot};
+use sts_model::{Completion, Entry, Frame, KeptEntry, KeptSlot, Slot};
 use sts_same::same::{same_slices, same_stacks};
 use sts_world::{Records, World};
 
@@ -73,14 +73,14 @@ fn named_parent(names: &NameLists, scope: Option<u32>) -> Option<u32>
 }
 
 /// Are the slots the same under these names?
-fn same_slots(names: &NameLists, ours: &[Slot], theirs: &[Slot]) -> bool
+fn same_slots(names: &NameLists, ours: &[KeptSlot], theirs: &[KeptSlot]) -> bool
     ensures { result ≡ true → theirs.now ≡ map (law.named_slot (names_of names.now)) ours.now }
 {
     if ours.len() != theirs.len() {
         return false;
     }
     for i in 0..ours.len() {
-        if named_slot(names, ours[i]) != theirs[i] {
+        if named_slot(names, ours[i].get()) != theirs[i].get() {
             return false;
         }
     }
@@ -88,14 +88,14 @@ fn same_slots(names: &NameLists, ours: &[Slot], theirs: &[Slot]) -> bool
 }
 
 /// Are the entries the same under these names?
-fn same_entries(names: &NameLists, ours: &[Entry], theirs: &[Entry]) -> bool
+fn same_entries(names: &NameLists, ours: &[KeptEntry], theirs: &[KeptEntry]) -> bool
     ensures { result ≡ true → theirs.now ≡ map (law.named_entry (names_of names.now)) ours.now }
 {
     if ours.len() != theirs.len() {
         return false;
     }
     for i in 0..ours.len() {
-        if named_entry(names, ours[i]) != theirs[i] {
+        if named_entry(names, ours[i].get()) != theirs[i].get() {
             return false;
         }
     }

@@ -124,18 +124,3 @@ fn push_run(events: &mut Vec<Event>, run: Run) -> Result<(), AllocError>
     }
     Ok(())
 }
-
-/// The trace of these events.
-///
-/// # Errors
-///
-/// There is no memory.
-pub fn trace_of(alloc: Global, events: &[Event]) -> Result<Trace, AllocError>
-    ensures { IfOk result (λ t. t ≡ events.now) }
-{
-    let mut trace = Trace::new(alloc);
-    for event in events {
-        trace.push(*event)?;
-    }
-    Ok(trace)
-}

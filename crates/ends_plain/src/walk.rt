@@ -3,7 +3,7 @@
 
 use crate::hash::{mixed, mixed_end, mixed_values};
 use std::alloc::{AllocError, Global};
-use sts_model::{Entry, Frame, Slot};
+use sts_model::{Entry, Frame, KeptEntry, KeptSlot, Slot};
 use sts_world::{Records, World};
 
 /// The hash of no numbers.
@@ -31,21 +31,21 @@ fn number_of_slot(places: &[u64], slot: Slot) -> u64 {
     }
 }
 
-fn mixed_slots(places: &[u64], hash: u64, slots: &[Slot]) -> u64 {
+fn mixed_slots(places: &[u64], hash: u64, slots: &[KeptSlot]) -> u64 {
     let mut hash = hash;
     for slot in slots {
-        hash = mixed(hash, number_of_slot(places, *slot));
+        hash = mixed(hash, number_of_slot(places, slot.get()));
     }
     hash
 }
 
-fn mixed_entries(hash: u64, entries: &[Entry]) -> u64 {
+fn mixed_entries(hash: u64, entries: &[KeptEntry]) -> u64 {
     let mut hash = hash;
     for entry in entries {
-        hash = match entry {
+        hash = match entry.get() {
             Entry::Scope(_) => mixed(hash, 1),
             Entry::Binding(key, value) => {
-                mixed(mixed(hash, 256 + u64::from(*key)), value.cast_unsigned())
+                mixed(mixed(hash, 256 + u64::from(key)), value.cast_unsigned())
             }
         };
     }

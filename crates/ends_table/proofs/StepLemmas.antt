@@ -67,7 +67,7 @@ module _ (p : Program) (outside : Outside) (c : Call) (states : List Own) (own :
 
   -- a local instruction makes no birth
   local_none : (i : Instr) → is_local i ≡ true → born_by outside i ≡ 0
-  local_none (Open x joiner timed) e = cc
+  local_none (Open x timed joiner) e = cc
   local_none (Fork x g h) e = cc
   local_none i e = refl
 
@@ -140,7 +140,7 @@ module _ (p : Program) (outside : Outside) (c : Call) (states : List Own) (own :
 
   -- ---- scopes
 
-  pub open_leads : (x : ℕ) (joiner : Joiner) (timed : Bool) → LeadsBy (per_birth outside) states (opened c own x joiner timed) → AllLead p outside c states own (Open x joiner timed)
+  pub open_leads : (x : ℕ) (joiner : Joiner) (timed : Bool) → LeadsBy (per_birth outside) states (opened c own x joiner timed) → AllLead p outside c states own (Open x timed joiner)
   open_leads x joiner timed h next (local_step e) = cc
   open_leads x joiner timed h next open_step = h
 

@@ -31,7 +31,7 @@ fn with_frame(hash: u64, frame: &Frame) -> u64 {
     hash = with_values(hash, frame.operands.as_slice());
     hash = with_values(hash, &frame.locals);
     for entry in frame.entries.as_slice() {
-        hash = with_entry(hash, *entry);
+        hash = with_entry(hash, entry.get());
     }
     for turn in frame.loops.as_slice() {
         hash = mixed(hash, u64::from(turn.left));

@@ -117,7 +117,7 @@ impl<'a> Around<'a> {
     }
 
     fn open(&self, alloc: Global, slot: u8, joiner: Joiner, timed: bool) -> Result<(), Stop>
-        ensures { OnOk result (led.LeadsOn self.now (instrs.Open slot joiner timed)) }
+        ensures { OnOk result (led.LeadsOn self.now (instrs.Open slot timed joiner)) }
     {
         let next = opened(alloc, self.call, self.own, slot, joiner, timed)?;
         leads_after(self.states, next, self.outside.per_birth())?;

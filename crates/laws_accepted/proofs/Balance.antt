@@ -7,6 +7,7 @@ use Rattle.std.specs.Prelude.{sum_by, filter_map, ◌==◌}
 use Rattle.std.specs.List.{list_any}
 use Rattle.std.proofs.lemmas.Bool.Decides.{nat_tests}
 use Rattle.std.proofs.lemmas.List.Sums.{sum_by-cons}
+use Rattle.std.proofs.lemmas.Bool.{false_from_ne_true}
 use Rattle.sts_code.specs.Program.{Program}
 use Rattle.sts_rules.specs.declared.budget.Budgets.{Budgets}
 use Rattle.sts_model.specs.declared.record.Entry.{Entry}
@@ -111,11 +112,7 @@ module _ (w : World) (o : Sound w) (e : Entered w) (idle : Idle w) where
 
   -- a task without an entry of the scope
   absent_task : (g : ℕ → ℕ) (s u : ℕ) → (Has s (task_at w u).frame.entries → ⊥) → in_task g s (task_at w u) ≡ 0
-  absent_task g s u never = sum-times (is_entry_of s) (g s) (task_at w u).frame.entries (times_none (task_at w u).frame.entries s (is_false (list_any (is_entry_of s) (task_at w u).frame.entries) never))
-    where
-      is_false : (b : Bool) → (b ≡ true → ⊥) → b ≡ false
-      is_false true n = absurd (n refl)
-      is_false false n = refl
+  absent_task g s u never = sum-times (is_entry_of s) (g s) (task_at w u).frame.entries (times_none (task_at w u).frame.entries s (false_from_ne_true (list_any (is_entry_of s) (task_at w u).frame.entries) never))
 
   of_closed : (g : ℕ → ℕ) (s : ℕ) → is_closed (scope_at w s).phase ≡ true → sum_by (in_task g s) w.tasks ≡ 0
   of_closed g s h = sum-none (in_task g s) w.tasks no_task (λ u less. absent_task g s u (λ has. let still = (e.opens u s (entered_lives u s has) has).still in cc))

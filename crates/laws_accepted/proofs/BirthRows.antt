@@ -73,9 +73,9 @@ apart-set xs x m old below y z n d e = by (owned-set xs x m y n d) (owned-set xs
     by (inr a) (inl b) = let h = below y n a in let k = b.1 in absurd (omega (arith, h, k))
     by (inr a) (inr b) = old y z n a b
 
-pub lands-open : (p : Program) (w : World) (t x : ℕ) (joiner : Joiner) (timed : Bool) (s : TypeState) → Stands p w (task_at w t).frame (Open x joiner timed) s → Same w (more_scopes w (new_scope w t joiner timed)) (task_at w t).frame → Covers p (task_at w t).frame.function s.entries (environment_of (task_at w t) w) → x < 16 → ((y n : ℕ) → slot (task_at w t).frame y ≡ Own n → n < length w.scopes) → Lands p (more_scopes w (new_scope w t joiner timed)) (task_at w t).frame (opener w (task_at w t).frame x)
+pub lands-open : (p : Program) (w : World) (t x : ℕ) (joiner : Joiner) (timed : Bool) (s : TypeState) → Stands p w (task_at w t).frame (Open x timed joiner) s → Same w (more_scopes w (new_scope w t joiner timed)) (task_at w t).frame → Covers p (task_at w t).frame.function s.entries (environment_of (task_at w t) w) → x < 16 → ((y n : ℕ) → slot (task_at w t).frame y ≡ Own n → n < length w.scopes) → Lands p (more_scopes w (new_scope w t joiner timed)) (task_at w t).frame (opener w (task_at w t).frame x)
 lands-open p w t x joiner timed s st same covers less below =
-    lands-forward p w _ _ _ (Open x joiner timed) s after st refl refl (inl (refl, refl))
+    lands-forward p w _ _ _ (Open x timed joiner) s after st refl refl (inl (refl, refl))
     (record {
       height = st.fits.height;
       loops = st.fits.loops;
@@ -110,7 +110,7 @@ lands-open p w t x joiner timed s st same covers less below =
     never = free-owns_nothing w (task_at w t).frame s x st.fits.slots (not-false (cause.is_empty (kind s x)) st.clear.free)
 
     on : Onward p (task_at w t).frame (opener w (task_at w t).frame x)
-    on = record { function = refl; own = own-set (task_at w t).frame.slots x (Own (length w.scopes)) never; still = not_closing p (task_at w t).frame (Open x joiner timed) st.at (λ y. refl) }
+    on = record { function = refl; own = own-set (task_at w t).frame.slots x (Own (length w.scopes)) never; still = not_closing p (task_at w t).frame (Open x timed joiner) st.at (λ y. refl) }
 
     now : scope_at (more_scopes w (new_scope w t joiner timed)) (length w.scopes) ≡ new_scope w t joiner timed
     now = get_or-append_seam w.scopes (new_scope w t joiner timed) [] no_scope

@@ -42,7 +42,7 @@ born-fork p w t s g n q h =
     omega (arith, a, b, h)
 
 born-effect : (p : Program) (w : World) (t n : ℕ) (i : Instr) → Also Timely w → Does p w t i → Born w n → Born (effect p w t (task_at w t).frame i) (n + 1)
-born-effect p w t n (Open x joiner timed) facts d h = born-open w t x n joiner timed h
+born-effect p w t n (Open x timed joiner) facts d h = born-open w t x n joiner timed h
 born-effect p w t n (Fork x g q) facts d h = born-fork p w t (named (slot (task_at w t).frame x)) g n q h
 born-effect p w t n Ret facts d h = let k = born-kept w _ n (kept-end w t (Success (operand (task_at w t).frame 0)) d.alive d.fine.structure) h in omega (arith, k)
 born-effect p w t n Fail facts d h = let k = born-kept w _ n (kept-end w t (Failed (operand (task_at w t).frame 0)) d.alive d.fine.structure) h in omega (arith, k)

@@ -147,9 +147,9 @@ module _ (Typed : Type 0) (p : Program) (budgets : List Budgets) (w : World) (n 
       has_slack k t gain alive (omega (arith, b, same, more, e))
 
   has_room_for : (t : ℕ) (i : Instr) → lives (task_at w t) ≡ true → instr_at p (task_at w t).frame ≡ Some i → HasRoomFor (main_budget p budgets) w (task_at w t).frame i
-  has_room_for t (Open x joiner timed) alive at =
+  has_room_for t (Open x timed joiner) alive at =
       let a = adds_up.scopes in
-      let g = gains scopes_peak (bounds_scopes p budgets high) t (Open x joiner timed) 1 alive at refl
+      let g = gains scopes_peak (bounds_scopes p budgets high) t (Open x timed joiner) 1 alive at refl
       (λ q. let s = sum_by-cons (entry_sum (measure_of scopes_peak (take (task_at w t).frame.function budgets))) (OpenScope x []) q.opened in omega (arith, s)) in
       omega (arith, a, g)
   has_room_for t (Bind key) alive at =

@@ -235,16 +235,16 @@ module _ (Typed : Type 0) (p : Program) (budgets : List Budgets) (w : World) (n 
       (record { function = refl; entries = refl; slots = refl })
       (λ os. refl)
 
-  open_moves : (x : ℕ) (joiner : Joiner) (timed : Bool) → Does p w t (Open x joiner timed) → Moves p budgets w (open_scope w t (task_at w t).frame x joiner timed) t (Open x joiner timed)
+  open_moves : (x : ℕ) (joiner : Joiner) (timed : Bool) → Does p w t (Open x timed joiner) → Moves p budgets w (open_scope w t (task_at w t).frame x joiner timed) t (Open x timed joiner)
   unfolding open_scope
   open_moves x joiner timed d =
       let q = (o.placed t d.alive).point in
-      let at = same_instr p (task_at w t).frame (Open x joiner timed) d.at in
+      let at = same_instr p (task_at w t).frame (Open x timed joiner) d.at in
       let low = opens_in_range p (task_at w t).frame.function (task_at w t).frame.pc x joiner timed is.checked (o.function t (born_alive w t d.alive)) at in
       record {
         frame = opener w (task_at w t).frame x;
         turned = turned-frame w (record w { scopes = w.scopes ++ new_scope w t joiner timed ∷ [] }) t (opener w (task_at w t).frame x) (task_at w t).flag (born_alive w t d.alive) (record { count = refl; each = λ u. like-refl (task_at w u) });
-        goes = next_place (Open x joiner timed) d refl;
+        goes = next_place (Open x timed joiner) d refl;
         function = refl;
         size = length-set (task_at w t).frame.slots x (slots.Own (length w.scopes));
         entries = entering_open budgets w (task_at w t).frame x joiner timed facts.right.sound q.size low (not-false (is_empty (slot (task_at w t).frame x)) d.fine.slots);
@@ -347,7 +347,7 @@ module _ (Typed : Type 0) (p : Program) (budgets : List Budgets) (w : World) (n 
 
   -- an instruction that is no misuse, and one step more
   pub good_effect : (i : Instr) → Does p w t i → Also Timely (effect p w t (task_at w t).frame i) → Later w (effect p w t (task_at w t).frame i) → Good Typed p budgets (effect p w t (task_at w t).frame i) (n + 1)
-  good_effect (Open x joiner timed) d ov later = moved _ (Open x joiner timed) d (open_moves x joiner timed d) ov later
+  good_effect (Open x timed joiner) d ov later = moved _ (Open x timed joiner) d (open_moves x joiner timed d) ov later
   good_effect (Fork x g h) d ov later = fork_effect x g h d ov later
   good_effect (Join x failed timeout interrupted) d ov later =
       let s : ℕ = named (slot (task_at w t).frame x) in

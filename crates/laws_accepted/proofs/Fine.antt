@@ -44,7 +44,7 @@ use Rattle.sts_model.specs.Misuse.{slot, IsFine}
 use Rattle.sts_rules.specs.TypeState.{TypeState, kind, scope_in}
 use Rattle.sts_rules.specs.Causes as cause
 use Rattle.sts_model.specs.Effect.{named}
-use Rattle.std.proofs.lemmas.Bool.{or_parts, not-false, and_from, not_from_true, or_from, and_parts}
+use Rattle.std.proofs.lemmas.Bool.{or_parts, not-false, and_from, not_from_true, or_from, and_parts, and_right}
 use Rattle.laws_words.proofs.BoolLemmas.{other_false}
 use Rattle.laws_runs.proofs.FrameLemmas.{own_slot, at_own-is}
 use Rattle.laws_runs.proofs.EffectLemmas.{first_no}
@@ -212,14 +212,10 @@ sub-known p w f i s (Sub v) (kind_of.Sub y state) u test st none h legal e =
     let same : v ≡ u = cc in
     let all = not-false (cause.passes (cause.is_readable p.profile) (scope_in s.entries y) && test state) legal in
     let readable = first-of (cause.passes (cause.is_readable p.profile) (scope_in s.entries y)) (test state) all in
-    let r = own-scope p w f s y h.scope (cause.is_readable p.profile) st.fits h.own (denied-own (cause.is_own (kind s y)) (cause.passes (cause.is_readable p.profile) (scope_in s.entries y)) readable) in
+    let r = own-scope p w f s y h.scope (cause.is_readable p.profile) st.fits h.own (and_right (cause.is_own (kind s y)) _ (not_from_true (cause.passes (cause.is_readable p.profile) (scope_in s.entries y)) readable)) in
     let fine = readable-phase p.profile r.0.phase (scope_at w h.scope).phase (scope_at w h.scope).expired r.1.1 (not-at-close p w f i y h.scope r.0 st.at none r.1.2) in
     rw (← same)
     (state, ((and_parts (cause.passes (cause.is_readable p.profile) (scope_in s.entries y)) (test state) all).1, h.known, rw (h.inside) fine))
-  where
-    denied-own : (a b : Bool) → b ≡ true → (a && not b) ≡ false
-    denied-own true b e = not_from_true b e
-    denied-own false b e = refl
 sub-known p w f i s Empty k u test st none h legal e = cc
 sub-known p w f i s (Own n) k u test st none h legal e = cc
 sub-known p w f i s (Lent n) k u test st none h legal e = cc
@@ -361,7 +357,7 @@ forks-own : (p : Program) (w : World) (f : Frame) (x g : ℕ) (h : Option ℕ) (
 forks-own p w f x g h s st = own_slot (slot f x) (first_no _ _ (first_no _ _ (fine-slots p w f (Fork x g h) s st))) (fine-own p w f (Fork x g h) s st)
 
 fine-births : (p : Program) (w : World) (f : Frame) (i : Instr) (s : TypeState) → Stands p w f i s → crowds w f (Some i) ≡ false → misuse.has_no_room w f i ≡ false
-fine-births p w f (Open x joiner timed) s st room = or_from (nat_le 16 (length f.entries)) _ (rw (zips-length (FitsEntry p w f) f.entries s.entries st.fits.entries) st.clear.nesting) room
+fine-births p w f (Open x timed joiner) s st room = or_from (nat_le 16 (length f.entries)) _ (rw (zips-length (FitsEntry p w f) f.entries s.entries st.fits.entries) st.clear.nesting) room
 fine-births p w f (Bind k) s st room = rw (zips-length (FitsEntry p w f) f.entries s.entries st.fits.entries) st.clear.nesting
 fine-births p w f (Fork x g h) s st room =
     sym (at_own-is w (slot f x) (λ r scope. misuse.is_crowded (standing_tasks w) (length w.tasks)) (forks-own p w f x g h s st)) ∙ room

@@ -1,11 +1,12 @@
 -- A task goes on as the control paths of its function do.
-use Rattle.std.proofs.Common.{◌≡◌, ℕ, zero, suc, ◌+◌, ◌-◌, ◌<◌, ◌≤◌, inl, inr, List, [], ◌∷◌, Bool}
+use Rattle.std.proofs.Common.{◌≡◌, ℕ, suc, ◌+◌, ◌-◌, ◌<◌, ◌≤◌, inl, inr, List, [], ◌∷◌, Bool}
 use Rattle.std.proofs.Common.{true, false, refl, sym, ◌∙◌, ap, subst, arith, cond, not}
 use Rattle.std.specs.Prelude.{nat_le, ◌==◌, unwrap_or, ℤ, pos, negsuc}
 use Rattle.std.specs.Int.{int_wrapping_div, w64}
 use Rattle.std.specs.Ordering.{int_eq}
-use Rattle.std.proofs.lemmas.Bool.{cond_both}
+use Rattle.std.proofs.lemmas.Bool.{cond_both, eqb-false}
 use Rattle.std.proofs.lemmas.Bool.Decides.{nat_tests}
+use Rattle.std.proofs.Math.Nat.{pos_of_ne-zero}
 use Rattle.sts_code.specs.Program.{Program, instr_at}
 use Rattle.sts_code.specs.declared.instr.Instr.{Instr}
 use Rattle.sts_code.specs.declared.instr.Instr.TheVariants.{Push, Pop, Dup, Swap, Load, Store, Add}
@@ -56,17 +57,13 @@ few_turns : (n : ℕ) (v : ℤ) → clipped n v ≤ n
 few_turns n (pos k) = omega arith
 few_turns n (negsuc k) = omega arith
 
-some_turns : (n : ℕ) → (n == 0) ≡ false → 0 < n
-some_turns zero e = cc
-some_turns (suc n) e = omega arith
-
 times_goes : (p : Program) (budgets : List Budgets) (f : Frame) (n : ℕ) → instr_at (code p f) f.pc ≡ Times n → GoesOn p budgets f (enters (code p f) f (clipped n (operand f 0)))
 times_goes p budgets f n at =
     let shape : (skeleton_of p budgets f).shape f.pc ≡ Repeats n = ap (shape_of f.pc) at in
     let m : ℕ = clipped n (operand f 0) in
     cond_both (m == 0) (goes f (unwrap_or (match_of (code p f) f.pc) 0 + 1) 1 []) (record (steps f 1 []) { loops = record { at = f.pc; left = m } ∷ f.loops }) (λ (g : Frame). GoesOn p budgets f g)
     (λ e. skip n shape)
-    (λ e. enter n m shape (some_turns m e) (few_turns n (operand f 0)))
+    (λ e. enter n m shape (pos_of_ne-zero (eqb-false m 0 e)) (few_turns n (operand f 0)))
 
 one_left : (n : ℕ) → 0 < n → nat_le n 1 ≡ true → n ≡ 1
 one_left n some e = let le : n ≤ 1 = grind (arith, nat_tests) in omega arith

@@ -198,7 +198,7 @@ lent_nothing k budgets w o = sum-none (share_in k budgets (length w.scopes)) w.t
         let no : is_subtask (length w.scopes) (task_at w u) ≡ false = rw e out in
         rw no refl
 
-pub entering_open : (budgets : List Budgets) (w : World) (f : Frame) (x : ℕ) (joiner : Joiner) (timed : Bool) → Sound w → length f.slots ≡ 16 → x < 16 → is_empty (slot f x) ≡ true → Entering budgets w.tasks f (Open x joiner timed) (record (steps f 0 []) { entries = entry.Scope (length w.scopes) ∷ f.entries; slots = set f.slots x (slots.Own (length w.scopes)) })
+pub entering_open : (budgets : List Budgets) (w : World) (f : Frame) (x : ℕ) (joiner : Joiner) (timed : Bool) → Sound w → length f.slots ≡ 16 → x < 16 → is_empty (slot f x) ≡ true → Entering budgets w.tasks f (Open x timed joiner) (record (steps f 0 []) { entries = entry.Scope (length w.scopes) ∷ f.entries; slots = set f.slots x (slots.Own (length w.scopes)) })
 entering_open budgets w f x joiner timed o size low empty os z sl =
     let n : ℕ = length w.scopes in
     let new : (y s : ℕ) → slot f y ≡ slots.Own s → get_or (set f.slots x (slots.Own n)) y slots.Empty ≡ slots.Own s =

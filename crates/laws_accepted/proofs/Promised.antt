@@ -131,13 +131,13 @@ module _ (p : Program) (checked : program_fault p.routines ≡ None) (accepted :
   some_step es _ = omega arith
 
   has_place_for : (events : List Event) (w : World) → length w.tasks + length w.scopes ≤ taken p events + 1 → Good (AreTyped p) p budgets_of w (taken p events) → Also Timely w → (t : ℕ) (i : Instr) → lives (task_at w t) ≡ true → instr_at p (task_at w t).frame ≡ Some i → HasPlaceFor w (task_at w t).frame i
-  has_place_for events w born o facts t (Open x joiner timed) alive at =
-      let standing = has_room (AreTyped p) p budgets_of w (taken p events) accepted_costed high o facts t (Open x joiner timed) alive at in
+  has_place_for events w born o facts t (Open x timed joiner) alive at =
+      let standing = has_room (AreTyped p) p budgets_of w (taken p events) accepted_costed high o facts t (Open x timed joiner) alive at in
       let c_steps : (main_budget p budgets_of).steps ≡ 1000000 = ap (λ (b : Budgets). b.steps) limits_main in
       let c_scopes : (main_budget p budgets_of).scopes ≡ 65536 = ap (λ (b : Budgets). b.scopes) limits_main in
       let some = o.rooted.some in
-      let left = left_for (AreTyped p) p budgets_of w (taken p events) accepted_costed high o facts t (Open x joiner timed) alive at typed in
-      let few = waits-few p w t (take (task_at w t).frame.function budgets_of) (Open x joiner timed) at in
+      let left = left_for (AreTyped p) p budgets_of w (taken p events) accepted_costed high o facts t (Open x timed joiner) alive at typed in
+      let few = waits-few p w t (take (task_at w t).frame.function budgets_of) (Open x timed joiner) at in
       not_crowded (standing_scopes w) (length w.scopes) (omega (arith, standing, c_scopes)) (omega (arith, left, few, born, some, c_steps))
   has_place_for events w born o facts t (Fork x g h) alive at = λ s mine.
       let standing = has_room (AreTyped p) p budgets_of w (taken p events) accepted_costed high o facts t (Fork x g h) alive at s mine in

@@ -218,7 +218,7 @@ own-owner : (w : World) (t x : ℕ) → Sound w → slot (task_at w t).frame x �
 own-owner w t x o e = (o.own t x (named (slot (task_at w t).frame x)) e).owner
 
 pub quiet-effect : (p : Program) (w : World) (t : ℕ) (i : Instr) → Sound w → IsFine p w t (task_at w t).frame i → Quiet w (effect p w t (task_at w t).frame i) (Some t)
-quiet-effect p w t (Open x joiner timed) o fine = quiet-open w t x joiner timed
+quiet-effect p w t (Open x timed joiner) o fine = quiet-open w t x joiner timed
 quiet-effect p w t (Fork x g h) o fine = quiet-fork p w t (named (slot (task_at w t).frame x)) g h
 quiet-effect p w t (Join x failed timeout interrupted) o fine =
     let f : Frame = (task_at w t).frame in

@@ -8,9 +8,9 @@ use Rattle.sts_code.specs.declared.instr.Instr.TheVariants.{Open}
 use Rattle.sts_code.specs.declared.instr.Joiner.{Joiner}
 use Rattle.sts_code.proofs.InstrLemmas.{sound_at}
 
-pub opens_in_range : (p : Program) (f pc x : ℕ) (j : Joiner) (timed : Bool) → def.program_fault p.routines ≡ None → f < length p.routines → instr_at (routine p f).code pc ≡ Open x j timed → x < 16
+pub opens_in_range : (p : Program) (f pc x : ℕ) (j : Joiner) (timed : Bool) → def.program_fault p.routines ≡ None → f < length p.routines → instr_at (routine p f).code pc ≡ Open x timed j → x < 16
 opens_in_range p f pc x j timed e low is =
-    let sound = sound_at p f pc (Open x j timed) e low is (λ z. (cc)) in
+    let sound = sound_at p f pc (Open x timed j) e low is (λ z. (cc)) in
     let few = ltb-false 15 x (or_parts (def.is_past x) (def.has_bad_count j) sound.range).0 in
     omega (arith, few)
 

@@ -20,7 +20,7 @@ use Rattle.laws_accepted.specs.Accepted.{AllFine, LivingTasksAreFine}
 
 -- no instruction breaks a limit, if there is room for it
 no_crowd : (w : World) (f : Frame) (o : Option Instr) → ((i : Instr) → o ≡ Some i → HasPlaceFor w f i) → crowds w f o ≡ false
-no_crowd w f (Some (Open x joiner timed)) place = place (Open x joiner timed) refl
+no_crowd w f (Some (Open x timed joiner)) place = place (Open x timed joiner) refl
 no_crowd w f (Some (Fork x g h)) place = by (slot f x) (place (Fork x g h) refl)
   where
     by : (q : Slot) → ((s : ℕ) → q ≡ Own s → is_crowded (standing_tasks w) (length w.tasks) ≡ false) → at_own w q (λ s scope. is_crowded (standing_tasks w) (length w.tasks)) ≡ false

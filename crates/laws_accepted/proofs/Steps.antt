@@ -90,7 +90,7 @@ covers-environment p w t s i st bound = covers-own p w (task_at w t).frame (task
 in-range : (b : ℕ) → nat_lt 15 b ≡ false → b < 16
 in-range b e = grind (arith, nat_tests)
 
-landed-open : (p : Program) (w : World) (t x : ℕ) (joiner : Joiner) (timed : Bool) (s : TypeState) → Sound w → t < length w.tasks → Stands p w (task_at w t).frame (Open x joiner timed) s → Covers p (task_at w t).frame.function [] (parent w (task_at w t).scope).environment → x < 16 → Lands p (open_scope w t (task_at w t).frame x joiner timed) (task_at w t).frame (task_at (open_scope w t (task_at w t).frame x joiner timed) t).frame
+landed-open : (p : Program) (w : World) (t x : ℕ) (joiner : Joiner) (timed : Bool) (s : TypeState) → Sound w → t < length w.tasks → Stands p w (task_at w t).frame (Open x timed joiner) s → Covers p (task_at w t).frame.function [] (parent w (task_at w t).scope).environment → x < 16 → Lands p (open_scope w t (task_at w t).frame x joiner timed) (task_at w t).frame (task_at (open_scope w t (task_at w t).frame x joiner timed) t).frame
 unfolding open_scope
 landed-open p w t x joiner timed s sound alive st bound less =
     let new : Scope = new_scope w t joiner timed in
@@ -102,7 +102,7 @@ landed-open p w t x joiner timed s sound alive st bound less =
       knows = knows-later w m (later-more_scopes w new);
     }
     in
-    framed p w m t (opener w (task_at w t).frame x) (task_at w t).flag alive (lands-open p w t x joiner timed s st same (covers-environment p w t s (Open x joiner timed) st bound) less below)
+    framed p w m t (opener w (task_at w t).frame x) (task_at w t).flag alive (lands-open p w t x joiner timed s st same (covers-environment p w t s (Open x timed joiner) st bound) less below)
 
 fresh-child : (p : Program) (w : World) (f : Frame) (n a : ℕ) → IsFresh w (subtask_of p w f n a)
 fresh-child p w f n a r inside cancelled = let same : n ≡ r = cc in not_from_true (scope_at w n).cancelled (rw same cancelled)
@@ -126,7 +126,7 @@ is_end Fail = true
 is_end _ = false
 
 pub landed : (p : Program) (w : World) (t : ℕ) (i : Instr) (s : TypeState) → program_fault p.routines ≡ None → Also (Sure p) w → lives (task_at w t) ≡ true → IsFine p w t (task_at w t).frame i → Stands p w (task_at w t).frame i s → Covers p (task_at w t).frame.function [] (parent w (task_at w t).scope).environment → is_end i ≡ false → Landed p w t (effect p w t (task_at w t).frame i)
-landed p w t (Open x joiner timed) s checked h alive fine st bound e later = landed-open p w t x joiner timed s h.right.sound (born_alive w t alive) st bound (in-range x (first_no _ _ (instr_checked p (task_at w t).frame (Open x joiner timed) checked st.inside st.at).1))
+landed p w t (Open x timed joiner) s checked h alive fine st bound e later = landed-open p w t x joiner timed s h.right.sound (born_alive w t alive) st bound (in-range x (first_no _ _ (instr_checked p (task_at w t).frame (Open x timed joiner) checked st.inside st.at).1))
 landed p w t (Fork x a q) s checked h alive fine st bound e later =
     let f : Frame = (task_at w t).frame in
     let mine : slot f x ≡ slots.Own (named (slot f x)) = own_slot (slot f x) (first_no _ _ (first_no _ _ fine.slots)) fine.own in

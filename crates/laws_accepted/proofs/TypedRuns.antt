@@ -107,7 +107,7 @@ is_fork _ = false
 
 as_many : (p : Program) (w : World) (t : ℕ) (i : Instr) → Sound w → Does p w t i → is_fork i ≡ false → length (effect p w t (task_at w t).frame i).tasks ≡ length w.tasks
 unfolding is_fork
-as_many p w t (Open x joiner timed) o d e = tasks-open w t x joiner timed
+as_many p w t (Open x timed joiner) o d e = tasks-open w t x joiner timed
 as_many p w t (Fork x g h) o d e = cc
 as_many p w t Ret o d e = (kept-end w t (Success (operand (task_at w t).frame 0)) d.alive d.fine.structure).tasks
 as_many p w t Fail o d e = (kept-end w t (Failed (operand (task_at w t).frame 0)) d.alive d.fine.structure).tasks

@@ -106,7 +106,7 @@ stood p events w counts bindings runs =
     }
 
 room_for : (b : Budgets) (w : World) (f : Frame) (i : Instr) → Stood w → HasRoomFor b w f i → LiveHasRoomFor b (live w) f i
-room_for b w f (Open x joiner timed) k h = subst (λ n. n < b.scopes) (sym k.scopes) h
+room_for b w f (Open x timed joiner) k h = subst (λ n. n < b.scopes) (sym k.scopes) h
 room_for b w f (Bind key) k h = subst (λ n. n < b.binds) (sym k.binds) h
 room_for b w f (Fork x g s) k h = λ r own. subst (λ n. n < b.tasks) (sym k.tasks) (h r own)
 room_for b w f i k h = tt

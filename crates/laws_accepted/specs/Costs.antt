@@ -159,7 +159,7 @@ RoomIsSlack = Costs (λ p budgets events w. RoomAddsUp p budgets w)
 -- the budgets leave room for one more scope, binding or task, if the instruction makes one. A fork
 -- must be in a scope of its own
 abbrev pub HasRoomBeside : Budgets → (tasks scopes binds : ℕ) → Frame → Instr → Type 0
-HasRoomBeside b tasks scopes binds f (Open x joiner timed) = scopes < b.scopes
+HasRoomBeside b tasks scopes binds f (Open x timed joiner) = scopes < b.scopes
 HasRoomBeside b tasks scopes binds f (Bind key) = binds < b.binds
 HasRoomBeside b tasks scopes binds f (Fork x g h) = (s : ℕ) → slot f x ≡ Own s → tasks < b.tasks
 HasRoomBeside b tasks scopes binds f _ = Unit {0}
@@ -206,7 +206,7 @@ AcceptedIsModest = Accepted IsModest
 -- the limits leave room, to count and to be born, for the scope or the task that this instruction
 -- makes; a fork must be in a scope of its own
 abbrev pub HasPlaceFor : World → Frame → Instr → Type 0
-HasPlaceFor w f (Open x joiner timed) =
+HasPlaceFor w f (Open x timed joiner) =
     is_crowded (standing_scopes w) (length w.scopes) ≡ false
 HasPlaceFor w f (Fork x g h) =
     (s : ℕ) → slot f x ≡ Own s → is_crowded (standing_tasks w) (length w.tasks) ≡ false

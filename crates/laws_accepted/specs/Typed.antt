@@ -148,7 +148,7 @@ AllTyped p w =
 -- does the next instruction of the frame break a limit? It makes a scope, or a task in a scope of
 -- its own, and too many count or were born
 abbrev pub crowds : World → Frame → Option Instr → Bool
-crowds w f (Some (Open x joiner timed)) = is_crowded (standing_scopes w) (length w.scopes)
+crowds w f (Some (Open x timed joiner)) = is_crowded (standing_scopes w) (length w.scopes)
 crowds w f (Some (Fork x g h)) =
     at_own w (slot f x) (λ s scope. is_crowded (standing_tasks w) (length w.tasks))
 crowds w f _ = false

@@ -61,7 +61,7 @@ use Rattle.laws_calls.proofs.Frames.{bare_local, blank_bounds, blank_drop}
 
 -- does the instruction change no more than the frame and the flag of its task?
 abbrev pub changes_frame_alone : Instr → Bool
-changes_frame_alone (Open x joiner timed) = false
+changes_frame_alone (Open x timed joiner) = false
 changes_frame_alone (Fork x g h) = false
 changes_frame_alone (Join x failed timeout interrupted) = false
 changes_frame_alone (Close x) = false
@@ -579,7 +579,7 @@ module _ (p : Program) (outside : Outside) (t : Table) (root : Row) (is : IsTabl
         covers_alone c (effect p w u frame Interrupted) u Interrupted (steps frame 0 (truth (task_at w u).flag ∷ [])) n flags
         (turned_flag w u (steps frame 0 (truth (task_at w u).flag ∷ [])) false (born_alive w u d.alive)) (λ s. refl) d
         (λ owed own k. to_interrupted c.rows u own k)
-    give (Open x joiner timed) a n flags d = cc
+    give (Open x timed joiner) a n flags d = cc
     give (Fork x g q) a n flags d = cc
     give (Join x failed timeout interrupted) a n flags d = cc
     give (Close x) a n flags d = cc

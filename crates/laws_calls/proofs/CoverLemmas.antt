@@ -76,7 +76,7 @@ abbrev Covered : Program → World → Event → World → Type 0
 Covered p w e v = FlagsSaid w e v → Gives p w e v
 
 give_step : (p : Program) (outside : Outside) (t : Table) (root : Row) (is : IsTable p outside t root) (w : World) (h : Facts w) (c : Covers p outside t root w) (u : ℕ) (i : Instr) → Next w (effect p w u (task_at w u).frame i) → FlagsHaveCause outside w (effect p w u (task_at w u).frame i) → Does p w u i → Covers p outside t root (effect p w u (task_at w u).frame i)
-give_step p outside t root is w h c u (Open x joiner timed) n flags d = open_covered p outside t root is w h u x joiner timed c n flags d
+give_step p outside t root is w h c u (Open x timed joiner) n flags d = open_covered p outside t root is w h u x joiner timed c n flags d
 give_step p outside t root is w h c u (Fork x g q) n flags d = fork_covered p outside t root is w h u x g q d c n flags
 give_step p outside t root is w h c u (Join x failed timeout interrupted) n flags d = join_covered p outside t root is w h u x failed timeout interrupted d c n flags
 give_step p outside t root is w h c u (Close x) n flags d = close_covered p outside t root is w h u x d c n flags

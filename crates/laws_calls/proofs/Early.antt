@@ -16,7 +16,7 @@ use Rattle.laws_calls.specs.Tasks.{AllTwo, Part, Knowledge, Unseen}
 use Rattle.laws_calls.specs.Steps.{missed}
 use Rattle.laws_calls.specs.Covers.{subs, AllEarly, InOrder, FailedFirst, first_failed}
 use Rattle.laws_calls.proofs.Lists.{all_at, among_get, get_front}
-use Rattle.laws_calls.proofs.Told.{Test, EndOf, counted}
+use Rattle.laws_calls.proofs.Told.{Test, EndOf, counted, rest_once}
 use Rattle.laws_calls.proofs.Turns.{sub_listed}
 
 abbrev TaskOf : Option Completion → Option ℕ
@@ -30,11 +30,8 @@ Fails c = is_failure c.end
 -- the first failure of the ends is that of the task that failed first
 pub first_of : (cs : List Completion) → ((u : ℕ) → count_by (Test u) cs ≤ 1) → (e : End) → find is_failure (ends_of cs) ≡ Some e → (d : ℕ) × ((first_failed cs ≡ Some d) × (completion_of cs d ≡ Some e))
 first_of [] once e h = cc
-first_of (c ∷ cs) once e h = by (is_failure c.end) refl h (λ k. first_of cs rest e k)
+first_of (c ∷ cs) once e h = by (is_failure c.end) refl h (λ k. first_of cs (rest_once c cs once) e k)
   where
-    rest : (u : ℕ) → count_by (Test u) cs ≤ 1
-    rest u = let n = sum_by-cons (λ (x : Completion). cond (Test u x) 1 0) c cs in let o = once u in omega (arith, n, o)
-
     here : c.end ≡ e → is_failure c.end ≡ true → (d : ℕ) × ((first_failed (c ∷ cs) ≡ Some d) × (completion_of (c ∷ cs) d ≡ Some e))
     here same fails =
         let self : (c.task == c.task) ≡ true = grind (arith, nat_tests) in

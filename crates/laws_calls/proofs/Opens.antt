@@ -132,17 +132,17 @@ module _ (p : Program) (outside : Outside) (t : Table) (root : Row) (is : IsTabl
         parts = tt;
       }))
 
-  scopes : (c : Covers p outside t root w) → Next w after → Does p w u (Open x joiner timed) → u < length w.tasks → (own : Own) → TaskFits outside c.rows w u own → AllTwo (SeenFits c.rows after) (n ∷ old) (opened (c.rows u).call own x joiner timed).scopes
+  scopes : (c : Covers p outside t root w) → Next w after → Does p w u (Open x timed joiner) → u < length w.tasks → (own : Own) → TaskFits outside c.rows w u own → AllTwo (SeenFits c.rows after) (n ∷ old) (opened (c.rows u).call own x joiner timed).scopes
   scopes c next d born own k = (
     fresh c.rows own born k,
     all_map (SeenFits c.rows w) (SeenFits c.rows after) old own.scopes (λ s y at e. seen_same w after h next c.rows c.rows s y (scope_old s (h.entered u s d.alive (births_has f.entries s at)).born) (same_subs born s) (λ q less. refl) e) k.fits.scopes,
   )
 
-  goes_on : (c : Covers p outside t root w) → Next w after → Does p w u (Open x joiner timed) → u < length w.tasks → (own : Own) → TaskFits outside c.rows w u own → GoesOn c.rows after u g own (per_birth outside)
+  goes_on : (c : Covers p outside t root w) → Next w after → Does p w u (Open x timed joiner) → u < length w.tasks → (own : Own) → TaskFits outside c.rows w u own → GoesOn c.rows after u g own (per_birth outside)
   goes_on c next d born own k =
       let then : Own = opened (c.rows u).call own x joiner timed in
       goes_by c.rows after u g own then (per_birth outside) (per_birth outside) (omega arith) refl
-      (is.closed (c.rows u) own then (Open x joiner timed) (c.listed u) k.there (instr_of p f own (Open x joiner timed) k.fits.frame d.at) open_step)
+      (is.closed (c.rows u) own then (Open x timed joiner) (c.listed u) k.there (instr_of p f own (Open x timed joiner) k.fits.frame d.at) open_step)
       (are_possible c.rows after next.right (n ∷ old) then.scopes (scopes c next d born own k))
       (record {
         frame = ap (λ (z : Frame). record (steps z 0 []) { entries = entry.Scope 0 ∷ z.entries }) k.fits.frame;
@@ -152,7 +152,7 @@ module _ (p : Program) (outside : Outside) (t : Table) (root : Row) (is : IsTabl
         scopes = scopes c next d born own k;
       })
 
-  pub open_covered : (c : Covers p outside t root w) → Next w after → FlagsHaveCause outside w after → Does p w u (Open x joiner timed) → Covers p outside t root after
+  pub open_covered : (c : Covers p outside t root w) → Next w after → FlagsHaveCause outside w after → Does p w u (Open x timed joiner) → Covers p outside t root after
   open_covered c next flags d =
       let born : u < length w.tasks = born_alive w u d.alive in
       covers_turned p outside t root w after h next flags c u g 1 (per_birth outside) (turned born) (λ wide. ap (λ b. cond b 1 0) wide) d.alive (λ owed own k. goes_on c next d born own k)

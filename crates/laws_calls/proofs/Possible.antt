@@ -16,6 +16,7 @@ use Rattle.sts_model.specs.Living.{completion_of, ends, ends_of}
 use Rattle.sts_model.specs.declared.record.Scope.{Scope}
 use Rattle.sts_model.specs.Joining.{cancels}
 use Rattle.laws_runs.proofs.EventLemmas.{Right}
+use Rattle.laws_words.proofs.BoolLemmas.{at_most_one}
 use Rattle.laws_calls.specs.Tasks.{AllTwo, May, Part, Seen, Knowledge, Unseen, ByJoiner, Heard, Asked, nothing, Late}
 use Rattle.laws_calls.specs.Triggers.{is_trigger, limit, triggers}
 use Rattle.laws_calls.specs.Fitting.{Answers, most, MayCount, Fits, ArePossible}
@@ -79,12 +80,8 @@ one_trigger j e =
     let f : End → ℕ = λ y. cond (is_trigger j y) 1 0 in
     let n = sum_by-cons f e [] in
     let none : sum_by f [] ≡ 0 = refl in
-    let one = by (is_trigger j e) in
+    let one = at_most_one (is_trigger j e) in
     omega (arith, n, none, one)
-  where
-    by : (b : Bool) → cond {A = ℕ} b 1 0 ≤ 1
-    by true = omega arith
-    by false = omega arith
 
 pub no_trigger : (j : Joiner) → triggers j [] ≤ most j
 no_trigger j = let none : triggers j [] ≡ 0 = refl in omega (arith, none)

@@ -31,7 +31,11 @@ counted (c ∷ cs) u e h = by (c.task == u) (sum_by-cons (λ (x : Completion). c
     by true n k next = omega (arith, n)
     by false n k next = let r = next k in omega (arith, n, r)
 
--- if each task has one completion at most, each end is that of a task
+-- if each task has one completion at most, it has one at most among the rest
+pub rest_once : (c : Completion) (cs : List Completion) → ((u : ℕ) → count_by (Test u) (c ∷ cs) ≤ 1) → (u : ℕ) → count_by (Test u) cs ≤ 1
+rest_once c cs once u = let n = sum_by-cons (λ (x : Completion). cond (Test u x) 1 0) c cs in let o = once u in omega (arith, n, o)
+
+-- and each end is that of a task
 pub who : (cs : List Completion) → ((u : ℕ) → count_by (Test u) cs ≤ 1) → (e : End) → Among (ends_of cs) e → (u : ℕ) × (completion_of cs u ≡ Some e)
 who [] once e at = absurd at
 who (c ∷ cs) once e (inl same) = (c.task, by (c.task == c.task) (grind (arith, nat_tests)))
@@ -39,11 +43,8 @@ who (c ∷ cs) once e (inl same) = (c.task, by (c.task == c.task) (grind (arith,
     by : (b : Bool) → b ≡ true → EndOf (cond b (Some c) (find (Test c.task) cs)) ≡ Some e
     by true k = ap Some same
     by false k = cc
-who (c ∷ cs) once e (inr at) = from (who cs rest e at)
+who (c ∷ cs) once e (inr at) = from (who cs (rest_once c cs once) e at)
   where
-    rest : (u : ℕ) → count_by (Test u) cs ≤ 1
-    rest u = let n = sum_by-cons (λ (x : Completion). cond (Test u x) 1 0) c cs in let o = once u in omega (arith, n, o)
-
     from : (u : ℕ) × (completion_of cs u ≡ Some e) → (u : ℕ) × (completion_of (c ∷ cs) u ≡ Some e)
     from r = (r.0, by (c.task == r.0) (sum_by-cons (λ (x : Completion). cond (Test r.0 x) 1 0) c cs))
       where

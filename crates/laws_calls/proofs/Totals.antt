@@ -21,7 +21,7 @@ use Rattle.laws_calls.specs.Tasks.{Among}
 use Rattle.laws_calls.specs.Fitting.{heard_in}
 use Rattle.laws_calls.specs.Covers.{subs}
 use Rattle.laws_calls.proofs.Lists.{Apart, among_filter}
-use Rattle.laws_calls.proofs.Told.{Test, EndOf, counted}
+use Rattle.laws_calls.proofs.Told.{Test, EndOf, counted, rest_once}
 use Rattle.laws_calls.proofs.Counts.{states_in}
 use Rattle.laws_calls.proofs.Turns.{sub_listed}
 
@@ -61,9 +61,6 @@ module _ (c : Completion) (cs : List Completion) (once : (u : ℕ) → count_by 
 
   first_other : (u : ℕ) → (u ≡ c.task → ⊥) → completion_of (c ∷ cs) u ≡ completion_of cs u
   first_other u other = let is : (c.task == u) ≡ false = grind (arith, nat_tests) in ap (λ b. EndOf (cond b (Some c) (find (Test u) cs))) is
-
-  rest_once : (u : ℕ) → count_by (Test u) cs ≤ 1
-  rest_once u = let n = count_first u in let o = once u in omega (arith, n, o)
 
   -- the task has no other
   first_alone : completion_of cs c.task ≡ None

@@ -1,5 +1,5 @@
 -- Cancels by a count.
-use Rattle.std.proofs.Common.{◌≡◌, ℕ, zero, suc, ◌+◌, List, [], ◌∷◌, Bool, true, false, refl, sym, ◌∙◌, ap, arith, cond, count_by, Some, None, find, ◌++◌, ◌<◌, ◌≤◌, subst}
+use Rattle.std.proofs.Common.{◌≡◌, ℕ, zero, suc, ◌+◌, List, [], ◌∷◌, Bool, true, false, refl, sym, ◌∙◌, ap, arith, cond, count_by, Some, None, find, ◌++◌, ◌<◌, ◌≤◌, subst, zero-add}
 use Rattle.std.specs.Option.{option_or}
 use Rattle.std.proofs.lemmas.List.Folds.{find-append}
 use Rattle.std.specs.Prelude.{nat_lt, nat_le}
@@ -24,10 +24,7 @@ any_one q xs = any_count q xs ∙ one_or_more (count_by q xs)
 
 none : {X : Type 0} (xs : List X) → false ≡ nat_le 1 (count_by (λ (x : X). false) xs)
 none [] = refl
-none {X} (x ∷ xs) = none xs ∙ ap (λ m. nat_le 1 m) (nothing (count_by (λ (y : X). false) xs) ∙ sym (sum_by-cons (λ (y : X). cond false 1 0) x xs))
-  where
-    nothing : (m : ℕ) → m ≡ 0 + m
-    nothing m = omega arith
+none {X} (x ∷ xs) = none xs ∙ ap (λ m. nat_le 1 m) (sym (zero-add (count_by (λ (y : X). false) xs)) ∙ sym (sum_by-cons (λ (y : X). cond false 1 0) x xs))
 
 pub cancels_by_count : CancelsByCount
 cancels_by_count AllSucceed ends = any_one is_failure ends

@@ -336,7 +336,7 @@ pub data Steps (p : Program) (outside : Outside) (c : Call) (own : Own) : Instr 
       (pushes (with_seen own place (after_expiry seen)) 0 (truth true))
   -- scopes
   open_step : {x : ℕ} {joiner : Joiner} {timed : Bool}
-      → Steps p outside c own (Open x joiner timed) (opened c own x joiner timed)
+      → Steps p outside c own (Open x timed joiner) (opened c own x joiner timed)
   -- no subtask runs in a scope that is known to be cancelled; in another one, see `IsTable`
   unstarted_step : {x g : ℕ} {h : Option ℕ} (place : ℕ) (seen : Seen)
       → Owns own x place seen → is_cancelled seen.knowledge ≡ true
@@ -429,7 +429,7 @@ Leads states next = LeadsBy 0 states next
 
 -- the births by an instruction, apart from those of the new task of a `fork`
 abbrev pub born_by : Outside → Instr → ℕ
-born_by outside (Open x joiner timed) = per_birth outside
+born_by outside (Open x timed joiner) = per_birth outside
 born_by outside (Fork x g h) = per_birth outside
 born_by outside _ = 0
 

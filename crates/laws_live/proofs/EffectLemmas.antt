@@ -295,7 +295,7 @@ moved_is p w t (OrElse k) o alive is = rw (alive_is w t o.sound alive) refl
 moved_is p w t i o alive is = refl
 
 pub seen-effect : (p : Program) (w : World) (t : ℕ) (i : Instr) → Facts w → lives (task_at w t) ≡ true → IsFine p w t (task_at w t).frame i → live (effect p w t (task_at w t).frame i) ≡ live_effect p (live w) t (task_at w t).frame i
-seen-effect p w t (Open x joiner timed) o alive is = seen-open w t x joiner timed o alive
+seen-effect p w t (Open x timed joiner) o alive is = seen-open w t x joiner timed o alive
 seen-effect p w t (Fork x g h) o alive is =
     seen-fork p w t (named (slot (task_at w t).frame x)) g h o alive (owned w t x o alive (first_no _ _ (first_no _ _ is.slots)) is.own)
 seen-effect p w t (Join x failed timeout interrupted) o alive is =

@@ -73,7 +73,7 @@ joins_is w t (Join x failed timeout interrupted) o alive = own_is w t x _ _ o al
 joins_is w t i o alive = refl
 
 room_is : (w : World) (f : Frame) (i : Instr) → live_has_no_room (live w) f i ≡ has_no_room w f i
-room_is w f (Open x j timed) =
+room_is w f (Open x timed j) =
     ap (λ n. nat_le 16 (length f.entries) || is_crowded n (length (live w).scopes)) (scopes_stand w)
     ∙ ap (λ n. nat_le 16 (length f.entries) || is_crowded (standing_scopes w) n) (scopes_born w)
 room_is w f (Fork x g h) = ap (λ n. is_crowded n (length (live w).tasks)) (tasks_stand w) ∙ ap (λ n. is_crowded (standing_tasks w) n) (tasks_born w)

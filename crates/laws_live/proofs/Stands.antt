@@ -233,7 +233,7 @@ owner_at : (v : Live) (t x : ℕ) → InOrder v → slot (alive_at v t).frame x 
 owner_at v t x o e = (owned v t x (named (slot (alive_at v t).frame x)) o e).owner
 
 pub effects_move_one : EffectsMoveOne
-effects_move_one p v o t u (Open x joiner timed) alive is e = unmoved p v _ u o (rests-open v t u x (alive_at v t).frame joiner timed (eqb-false u t e))
+effects_move_one p v o t u (Open x timed joiner) alive is e = unmoved p v _ u o (rests-open v t u x (alive_at v t).frame joiner timed (eqb-false u t e))
 effects_move_one p v o t u (Fork x g h) alive is e = by (u == length v.tasks) refl
   where
     s : ℕ

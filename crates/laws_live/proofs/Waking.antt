@@ -185,7 +185,7 @@ apart_around w t u o alive e s inside =
     apart_is w s u still (ap (λ q. is_around (live w) q u) (sym is) ∙ e)
 
 pub looks-effect : (p : Program) (w : World) (t u : ℕ) (i : Instr) → Facts w → lives (task_at w t) ≡ true → IsFine p w t (task_at w t).frame i → (u ≡ t → ⊥) → touches (live w) t (Some i) u ≡ false → Looks w (effect p w t (task_at w t).frame i) u
-looks-effect p w t u (Open x joiner timed) o alive is other e = looks-open w t u x joiner timed other
+looks-effect p w t u (Open x timed joiner) o alive is other e = looks-open w t u x joiner timed other
 looks-effect p w t u (Fork x g h) o alive is other e =
     let mine = own_slot (slot (task_at w t).frame x) (first_no _ _ (first_no _ _ is.slots)) is.own in
     let n = tasks_born w in

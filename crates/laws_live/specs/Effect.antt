@@ -219,7 +219,7 @@ live_moved p v t f (OrElse k) = steps f 1 (unwrap_or (live_read v t k) (operand 
 live_moved p v t f i = local (code p f) i f
 
 abbrev pub live_effect : Program → Live → ℕ → Frame → Instr → Live
-live_effect p v t f (Open s joiner timed) = live_open v t f s joiner timed
+live_effect p v t f (Open s timed joiner) = live_open v t f s joiner timed
 live_effect p v t f (Fork s g h) = live_fork p v t f (named (slot f s)) g h
 live_effect p v t f (Join s failed timeout interrupted) =
     live_join v t f (named (slot f s)) (unwrap_or failed 0) (unwrap_or timeout 0) interrupted

@@ -56,7 +56,7 @@ live_misjoins v f _ = false
 
 -- no room for an entry, a scope or a task
 abbrev pub live_has_no_room : Live → Frame → Instr → Bool
-live_has_no_room v f (Open s j timed) =
+live_has_no_room v f (Open s timed j) =
     nat_le MAX_ENTRIES (length f.entries) || is_crowded (count_by is_some v.scopes) (length v.scopes)
 live_has_no_room v f (Bind k) = nat_le MAX_ENTRIES (length f.entries)
 live_has_no_room v f (Fork s g h) = is_crowded (count_by is_some v.tasks) (length v.tasks)

@@ -256,7 +256,7 @@ moved_named p n w v a t f i slots quiet = local_named n (code p f) f i
 
 pub alike_effect : (p : Program) (n : Names) (w v : World) → IsAlike n w v → (t : ℕ) (f : Frame) (i : Instr) → lives (task_at w t) ≡ true → has_wrong_slot f i ≡ false → is_reading i ≡ false
     → IsAlike n (effect p w t f i) (effect p v (n.tasks t) (named_frame n f) i)
-alike_effect p n w v a t f (instr.Open s joiner timed) alive slots quiet = alike_open n w v a t f s joiner timed alive
+alike_effect p n w v a t f (instr.Open s timed joiner) alive slots quiet = alike_open n w v a t f s joiner timed alive
 alike_effect p n w v a t f (instr.Fork s m h) alive slots quiet =
     subst (λ (r : ℕ). IsAlike n (fork_task p w t f (named (slot f s)) m h) (fork_task p v (n.tasks t) (named_frame n f) r m h)) (sym (scope_at_slot n f s _ _ slots)) (alike_fork p n w v a t f (named (slot f s)) m h alive)
 alike_effect p n w v a t f (instr.Join s failed timeout interrupted) alive slots quiet =

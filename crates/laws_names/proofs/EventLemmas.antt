@@ -1,6 +1,6 @@
 -- Each event leads from two states that are alike to two that are.
-use Rattle.std.proofs.Common.{◌≡◌, ℕ, List, [], ◌∷◌, Bool, true, false, Option, Some, None, refl, sym, ◌∙◌, ap, subst, cond, ◌||◌, map, fold}
-use Rattle.std.proofs.lemmas.Bool.{and_parts, or_parts}
+use Rattle.std.proofs.Common.{◌≡◌, ℕ, List, [], ◌∷◌, Bool, true, false, Option, Some, None, refl, sym, ◌∙◌, ap, subst, cond, map, fold}
+use Rattle.std.proofs.lemmas.Bool.{and_parts}
 use Rattle.sts_code.specs.Program.{Program}
 use Rattle.sts_code.specs.declared.instr.Instr.{Instr}
 use Rattle.sts_model.specs.declared.event.Event.{Event}
@@ -12,10 +12,11 @@ use Rattle.sts_model.specs.declared.record.Task.{Task}
 use Rattle.sts_model.specs.World.{World, State, Running, Faulted, task_at, scope_at, with_task, with_scope, instr_at}
 use Rattle.sts_model.specs.Living.{lives}
 use Rattle.sts_model.specs.Cancelling.{cancel}
-use Rattle.sts_model.specs.Misuse.{misuse, fault_at, fault_of, misuses_operand, lacks_operands, overflows, breaks_loop, has_wrong_slot, misjoins, has_no_room}
+use Rattle.sts_model.specs.Misuse.{misuse, fault_at}
 use Rattle.sts_model.specs.Outside.{interrupt, expire, can_expire}
 use Rattle.sts_model.specs.Waiting.{can_step, can_go, stand_at}
 use Rattle.sts_model.specs.Run.{apply, step, stepped, perform}
+use Rattle.sts_model.proofs.FineLemmas.{IsFine-from_fault}
 use Rattle.laws_names.specs.Names.{Names, IsAlike, AreAlike, ReadsNothing, BirthsAreNames, live_part, named_frame, named_task, named_event, is_reading}
 use Rattle.laws_names.proofs.AlikeLemmas.{same_lives, same_alive, same_made, alike_task, alike_scope, alike_cond, alike_cancel}
 use Rattle.laws_names.proofs.ReadLemmas.{misuse_same, can_step_same}
@@ -23,21 +24,10 @@ use Rattle.laws_names.proofs.EffectLemmas.{alike_effect}
 
 -- ---- steps
 
-right_slots : (p : Program) (w : World) (t : ℕ) (f : Frame) (i : Instr) → fault_of p w t f i ≡ None → has_wrong_slot f i ≡ false
-right_slots p w t f i e =
-    let operands : misuses_operand p w f i ≡ false = first_no (misuses_operand p w f i) _ _ e in
-    let a = or_parts (lacks_operands p f i || overflows p f i || breaks_loop p f i || has_wrong_slot f i || misjoins w f i) (has_no_room w f i) operands in
-    let b = or_parts (lacks_operands p f i || overflows p f i || breaks_loop p f i || has_wrong_slot f i) (misjoins w f i) a.0 in
-    (or_parts (lacks_operands p f i || overflows p f i || breaks_loop p f i) (has_wrong_slot f i) b.0).1
-  where
-    first_no : (b : Bool) (k : Fault) (rest : Option Fault) → cond b (Some k) rest ≡ None → b ≡ false
-    first_no true k rest h = cc
-    first_no false k rest h = refl
-
 performed : (p : Program) (n : Names) (w v : World) → IsAlike n w v → (t : ℕ) (f : Frame) (o : Option Instr) → lives (task_at w t) ≡ true → fault_at p w t f o ≡ None → ((i : Instr) → o ≡ Some i → is_reading i ≡ false)
     → IsAlike n (perform p w t f o) (perform p v (n.tasks t) (named_frame n f) o)
 performed p n w v a t f None alive fine quiet = a
-performed p n w v a t f (Some i) alive fine quiet = alike_effect p n w v a t f i alive (right_slots p w t f i fine) (quiet i refl)
+performed p n w v a t f (Some i) alive fine quiet = alike_effect p n w v a t f i alive (IsFine-from_fault p w t f i fine).slots (quiet i refl)
 
 stepped_alike : (p : Program) → ReadsNothing p → (n : Names) (w v : World) → IsAlike n w v → (t : ℕ) → lives (task_at w t) ≡ true → (m : Option Fault) → misuse p w t ≡ m
     → AreAlike n (stepped m p w t (task_at w t).frame) (stepped m p v (n.tasks t) (named_frame n (task_at w t).frame))

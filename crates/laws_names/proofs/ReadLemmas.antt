@@ -192,7 +192,7 @@ misjoins_same n w v a f (instr.Join s failed timeout interrupted) =
 misjoins_same n w v a f i = refl
 
 room_same : (n : Names) (w v : World) → IsAlike n w v → (f : Frame) (i : Instr) → has_no_room v (named_frame n f) i ≡ has_no_room w f i
-room_same n w v a f (instr.Open s j timed) = rw (map_length (named_entry n) f.entries, standing_scopes_same n w v a, a.named.scopes_born) refl
+room_same n w v a f (instr.Open s timed j) = rw (map_length (named_entry n) f.entries, standing_scopes_same n w v a, a.named.scopes_born) refl
 room_same n w v a f (instr.Bind k) = rw (map_length (named_entry n) f.entries) refl
 room_same n w v a f (instr.Fork s g h) = rw (standing_tasks_same n w v a, a.named.tasks_born) refl
 room_same n w v a f i = refl

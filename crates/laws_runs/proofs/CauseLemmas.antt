@@ -245,7 +245,7 @@ follow-interrupt w t h = cond_both (lives (task_at w t)) _ w (λ (a : World). Al
 
 pub follow-effect : (p : Program) (w : World) (t : ℕ) (i : Instr) → Sound w → AllCaused w → IsFine p w t (task_at w t).frame i → AllFollow w (effect p w t (task_at w t).frame i).scopes
 unfolding fork_task
-follow-effect p w t (Open x joiner timed) o h is = follow-open w t x (task_at w t).frame joiner timed h
+follow-effect p w t (Open x timed joiner) o h is = follow-open w t x (task_at w t).frame joiner timed h
 follow-effect p w t (Join x failed timeout interrupted) o h is =
     let f : Frame = (task_at w t).frame in
     let mine : slot f x ≡ slots.Own (named (slot f x)) = own_slot (slot f x) (first_no _ _ (first_no _ _ is.slots)) is.own in

@@ -252,7 +252,7 @@ pub first_no : (a b : Bool) → (a || b) ≡ false → a ≡ false
 first_no a b e = (or_parts a b e).0
 
 pub still-effect : (p : Program) (w : World) (t : ℕ) (i : Instr) → Sound w → IsFine p w t (task_at w t).frame i → takes_memory i ≡ false → Still w (effect p w t (task_at w t).frame i)
-still-effect p w t (Open s joiner timed) o fine e = cc
+still-effect p w t (Open s timed joiner) o fine e = cc
 still-effect p w t (Fork s g h) o fine e = cc
 still-effect p w t Ret o fine e = cc
 still-effect p w t Fail o fine e = cc

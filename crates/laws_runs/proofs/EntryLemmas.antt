@@ -196,13 +196,13 @@ enters-expire w s =
 
 -- does the instruction enter or close a scope?
 abbrev pub changes_entries : Instr → Bool
-changes_entries (Open s joiner timed) = true
+changes_entries (Open s timed joiner) = true
 changes_entries (Fork s g h) = true
 changes_entries (Close s) = true
 changes_entries _ = false
 
 pub enters-effect : (p : Program) (w : World) (t : ℕ) (i : Instr) → changes_entries i ≡ false → Enters w (effect p w t (task_at w t).frame i)
-enters-effect p w t (Open s joiner timed) e = cc
+enters-effect p w t (Open s timed joiner) e = cc
 enters-effect p w t (Fork s g h) e = cc
 enters-effect p w t (Close s) e = cc
 enters-effect p w t (Join x failed timeout interrupted) e = enters-join w t (named (slot (task_at w t).frame x)) (unwrap_or failed 0) (unwrap_or timeout 0) interrupted

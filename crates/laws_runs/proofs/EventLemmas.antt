@@ -109,7 +109,7 @@ next-fork p w t s g h o mine alive opened =
 
 -- an instruction that is no misuse
 next-effect : (p : Program) (w : World) (t : ℕ) (i : Instr) → Right w → lives (task_at w t) ≡ true → IsFine p w t (task_at w t).frame i → Next w (def.effect p w t (task_at w t).frame i)
-next-effect p w t (Open x joiner timed) o alive is = next-open w t x joiner timed o alive
+next-effect p w t (Open x timed joiner) o alive is = next-open w t x joiner timed o alive
 next-effect p w t (Fork x g h) o alive is =
     let f : Frame = (task_at w t).frame in
     let mine : slot f x ≡ slots.Own (named (slot f x)) = own_slot (slot f x) (first_no _ _ (first_no _ _ is.slots)) is.own in

@@ -399,7 +399,7 @@ follows-join p w t x failed timeout interrupted d =
 -- ---- every instruction
 
 follows-effect : (p : Program) (w : World) (t : ℕ) (i : Instr) → Right w → Does p w t i → Follows p w (event.Step t) (effect p w t (task_at w t).frame i)
-follows-effect p w t (Open x joiner timed) h d = follows-step p w t _ _ d refl (raises-calm w _ (calm-open w t x (task_at w t).frame joiner timed))
+follows-effect p w t (Open x timed joiner) h d = follows-step p w t _ _ d refl (raises-calm w _ (calm-open w t x (task_at w t).frame joiner timed))
 follows-effect p w t (Fork x g q) h d = follows-step p w t _ _ d refl (raises-calm w _ (calm-fork p w t (task_at w t).frame (named (slot (task_at w t).frame x)) g q))
 follows-effect p w t (Join x failed timeout interrupted) h d = follows-join p w t x failed timeout interrupted d
 follows-effect p w t (Close x) h d =

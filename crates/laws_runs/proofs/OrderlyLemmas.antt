@@ -44,7 +44,7 @@ orderly-end w t end h k =
     }
 
 orderly-effect : (p : Program) (w : World) (t : ℕ) (i : Instr) → Also Orderly w → lives (task_at w t) ≡ true → IsFine p w t (task_at w t).frame i → Orderly (effect p w t (task_at w t).frame i)
-orderly-effect p w t (Open x joiner timed) h alive is = record { settled = settled-open w t x joiner timed h.also.settled; entered = entered-open w t x joiner timed h.also.entered alive }
+orderly-effect p w t (Open x timed joiner) h alive is = record { settled = settled-open w t x joiner timed h.also.settled; entered = entered-open w t x joiner timed h.also.entered alive }
 orderly-effect p w t (Fork x g q) h alive is =
     let f : Frame = (task_at w t).frame in
     let mine : slot f x ≡ slots.Own (named (slot f x)) = own_slot (slot f x) (first_no _ _ (first_no _ _ is.slots)) is.own in

@@ -348,7 +348,7 @@ named-end w t f end h =
 -- ---- every instruction
 
 pub named-effect : (p : Program) (w : World) (t : ℕ) (i : Instr) → Sound w → Named w → lives (task_at w t) ≡ true → IsFine p w t (task_at w t).frame i → Named (effect p w t (task_at w t).frame i)
-named-effect p w t (Open x joiner timed) o h alive is = named-open w t x joiner timed h
+named-effect p w t (Open x timed joiner) o h alive is = named-open w t x joiner timed h
 named-effect p w t (Fork x g q) o h alive is =
     let f : Frame = (task_at w t).frame in
     let mine : slot f x ≡ Own (named (slot f x)) = own_slot (slot f x) (first_no _ _ (first_no _ _ is.slots)) is.own in

@@ -12,8 +12,8 @@ const SECONDS: u64 = 1;
 /// Goes to the beginning of the line, and empties it.
 const EMPTY_LINE: &[u8] = b"\r\x1b[K";
 
-/// Writes the ends that were found so far, and how many states there are, once a second, on a line
-/// that it empties in the end. It writes nothing if its reports have no start.
+/// Writes each end that was found, and how many states there are, once a second, on a line that it
+/// empties in the end. It writes nothing if its reports have no start.
 #[derive(Drop)]
 pub struct Terminal<'a, R, E> {
     rt: &'a R,
@@ -22,8 +22,10 @@ pub struct Terminal<'a, R, E> {
     /// When the program began.
     start: Option<Instant>,
     last: Option<Instant>,
-    /// The lines of the ends, until they are reported.
+    /// The lines of the ends that were found, until they are written.
     ends: Vec<u8>,
+    /// How many states there were when the search was last asked for the ends.
+    asked_at: usize,
     has_line: bool,
 }
 
@@ -39,6 +41,7 @@ impl<'a, R: Clock, E: Write> Terminal<'a, R, E> {
             start,
             last,
             ends: Vec::new(alloc),
+            asked_at: 0,
             has_line: false,
         }
     }
@@ -53,8 +56,20 @@ impl<'a, R: Clock, E: Write> Terminal<'a, R, E> {
         }
     }
 
+    /// Empties the line of the states, if there is one.
+    fn empty_line(&mut self) {
+        if self.has_line {
+            let _told = self.err.write_all(EMPTY_LINE);
+        }
+        self.has_line = false;
+    }
+
     /// Writes the lines of the ends, once.
     fn report_ends(&mut self) {
+        if self.ends.is_empty() {
+            return;
+        }
+        self.empty_line();
         let _told = self.err.write_all(self.ends.as_slice());
         self.ends = Vec::new(self.alloc);
     }
@@ -77,12 +92,22 @@ impl<R: Clock, E: Write> Progress for Terminal<'_, R, E> {
                 self.ends = lines;
             }
         }
+        if self.has_line {
+            self.report_ends();
+        }
     }
 
-    fn found(&mut self, states: usize) {
-        if self.has_passed(self.last, SECONDS) {
-            self.report(states);
+    fn found(&mut self, states: usize) -> bool {
+        if !self.has_passed(self.last, SECONDS) {
+            return false;
         }
+        self.report(states);
+        // (a listing of the ends asks each state)
+        let has_doubled = states / 2 >= self.asked_at;
+        if has_doubled {
+            self.asked_at = states;
+        }
+        has_doubled
     }
 
     fn goes_on(&mut self, seconds: Option<u32>) -> bool {
@@ -93,9 +118,6 @@ impl<R: Clock, E: Write> Progress for Terminal<'_, R, E> {
     }
 
     fn over(&mut self) {
-        if self.has_line {
-            let _told = self.err.write_all(EMPTY_LINE);
-        }
-        self.has_line = false;
+        self.empty_line();
     }
 }

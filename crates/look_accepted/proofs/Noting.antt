@@ -1,10 +1,11 @@
 -- The notes of a function, place by place.
 use Rattle.std.proofs.Common.{◌≡◌, ℕ, zero, suc, ◌+◌, ◌<◌, ◌≤◌, ◌⊎◌, inl, inr, List, [], ◌∷◌, ◌++◌, length, refl, ap, sym, ◌∙◌, arith, subst, append_assoc, Bool, true, false, cond, Option, Some, None}
 use Rattle.std.proofs.Common.{get_or-set_same, get_or-set_other, length-set}
-use Rattle.std.specs.Prelude.{slice_index_or, slice_set, replicate, MatchOption, is_some, ◌==◌, nat_lt}
+use Rattle.std.specs.Prelude.{slice_index_or, slice_set, replicate, MatchOption, is_some, ◌==◌}
 use Rattle.std.proofs.lemmas.Bool.{cond_both, cases_lt}
 use Rattle.std.proofs.lemmas.Bool.Decides.{nat_tests}
 use Rattle.std.proofs.lemmas.List.{append-nil, get_or_default, get_or_past, length-replicate}
+use Rattle.laws_words.proofs.OptionLemmas.{none_of}
 use Rattle.sts_code.specs.Program.{Program, routine, instr_at}
 use Rattle.sts_code.specs.declared.instr.Instr.{Instr}
 use Rattle.look_accepted.specs.declared.node.Node.{Node}
@@ -107,11 +108,7 @@ noted_next p f nodes k x old new all less read made h =
     subst (NotedTo p f nodes (k + 1)) (sym made)
     (cond_both (is_some (slice_index_or old x.pc None)) _ _ (NotedTo p f nodes (k + 1))
     (λ has. noted_before p f nodes k x old less read h has)
-    (λ hasn't. noted_here p f nodes k x old less read (all.found x (k, less, sym read)) (is_none_then (slice_index_or old x.pc None) hasn't) h))
-  where
-    is_none_then : (o : Option Reliance) → is_some o ≡ false → o ≡ None
-    is_none_then None e = refl
-    is_none_then (Some r) e = cc
+    (λ hasn't. noted_here p f nodes k x old less read (all.found x (k, less, sym read)) (none_of (slice_index_or old x.pc None) hasn't) h))
 
 -- all nodes
 pub all_noted : (p : Program) (f : ℕ) (nodes : List Node) (k : ℕ) (rules : List (Option Reliance)) → AreAll p f nodes → length nodes ≡ k → NotedTo p f nodes k rules → AreRules p f rules

@@ -5,8 +5,7 @@ use Rattle.std.proofs.lemmas.List.{get_or_default, append-nil}
 use Rattle.std.specs.Prelude.{slice_index_or}
 use Rattle.std.specs.List.{Contains}
 use Rattle.std.proofs.Math.ListN.{get_or-append}
-use Rattle.std.proofs.Math.Seq.{get_or-append_seam}
-use Rattle.std.proofs.lemmas.List.Elements.{Contains-append_left}
+use Rattle.std.proofs.lemmas.List.Elements.{Contains-append_left, Contains-push}
 use Rattle.sts_code.specs.Program.{Program}
 use Rattle.look_accepted.specs.declared.node.Node.{Node}
 use Rattle.look_accepted.specs.Nodes.{Comes, first, then, first_node, followers}
@@ -32,9 +31,6 @@ still old new n h c = subst (λ xs. Contains xs n) (sym h.same) (Contains-append
 
 pub same_older : (old new : List Node) → Grows old new → (k : ℕ) → k < length old → (d : Node) → slice_index_or new k d ≡ slice_index_or old k d
 same_older old new h k less d = ap (λ xs. slice_index_or xs k d) h.same ∙ get_or-append old h.more d k less
-
-pub holds_last : (xs : List Node) (x : Node) → Contains (xs ++ x ∷ []) x
-holds_last xs x = (length xs, omega (arith, length-append xs (x ∷ [])), get_or-append_seam xs x [] x)
 
 single : (x m : Node) → Contains (x ∷ []) m → m ≡ x
 single x m c = let zero' : c.0 ≡ 0 = omega (arith, c.1) in sym c.2 ∙ ap (λ (k : ℕ). slice_index_or (x ∷ []) k m) zero'
@@ -87,7 +83,7 @@ searched_first p f nodes n is same =
     let only : nodes ≡ first_node p f ∷ [] = is ∙ ap (λ (x : Node). x ∷ []) same in
     record {
       found = λ m c. subst (Comes p f) (sym (single (first_node p f) m (subst (λ xs. Contains xs m) only c))) first;
-      begins = subst (λ xs. Contains xs (first_node p f)) (sym only) (holds_last [] (first_node p f));
+      begins = subst (λ xs. Contains xs (first_node p f)) (sym only) (Contains-push [] (first_node p f));
       within = omega arith;
       closed = λ k l. absurd (omega arith);
     }

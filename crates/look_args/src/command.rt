@@ -8,7 +8,7 @@ ghost use Rattle.look_args.specs.Command as def;
 
 use clap::{Arg, ArgAction, Command};
 use std::alloc::{AllocError, Global};
-use sts_args::{on_file, on_trace, with_subcommand};
+use sts_args::{on_file, on_trace, with_argument, with_subcommand};
 
 /// What `--version` prints after the name of the program.
 const VERSION: &str = "1.0.0\n\
@@ -34,27 +34,29 @@ fn view<'a>(alloc: Global) -> Result<Command<'a>, AllocError>
     ensures app { IfOk result (λ c. app_of c ≡ def.view) }
     ensures local { IfOk result (λ c. (out-Command c).has_globals ≡ false) }
 {
-    on_trace(
+    let command = on_trace(
         alloc,
         "view",
         "Prints the state of every task and scope after a trace, or just before a fault",
-    )?
-    .arg(flag(
+    );
+    let each = flag(
         alloc,
         "each",
         "also before the first event and after each one",
-    ))?
-    .arg(flag(
+    );
+    let full = flag(
         alloc,
         "full",
         "also the operands, locals and bindings of living tasks, and the ends that joiners got",
-    ))?
-    .arg(flag(
+    );
+    let living = flag(
         alloc,
         "living",
         "only the tasks that live and the open scopes, and how many others there are",
-    ))?
-    .arg(flag(alloc, "json", "as lines of JSON, one for each view"))
+    );
+    let json = flag(alloc, "json", "as lines of JSON, one for each view");
+    let command = with_argument(with_argument(command, each), full);
+    with_argument(with_argument(command, living), json)
 }
 
 /// A trace that may be left out.
@@ -70,18 +72,19 @@ fn explain<'a>(alloc: Global) -> Result<Command<'a>, AllocError>
     ensures app { IfOk result (λ c. app_of c ≡ def.explain) }
     ensures local { IfOk result (λ c. (out-Command c).has_globals ≡ false) }
 {
-    on_file(
+    let command = on_file(
         alloc,
         "explain",
         "Says what is wrong with a text, with line numbers; with a trace, where each task is",
-    )?
-    .arg(maybe_trace(alloc))?
-    .arg(flag(
+    );
+    let lines = flag(
         alloc,
         "lines",
         "as lines FILE:LINE:COLUMN: WORDS, which editors jump by; without a trace",
-    ))?
-    .arg(flag(alloc, "json", "as lines of JSON; without a trace"))
+    );
+    let json = flag(alloc, "json", "as lines of JSON; without a trace");
+    let command = with_argument(command, maybe_trace(alloc));
+    with_argument(with_argument(command, lines), json)
 }
 
 /// An option that takes one value.
@@ -100,22 +103,23 @@ fn draw<'a>(alloc: Global) -> Result<Command<'a>, AllocError>
     ensures app { IfOk result (λ c. app_of c ≡ def.draw) }
     ensures local { IfOk result (λ c. (out-Command c).has_globals ≡ false) }
 {
-    on_trace(
+    let command = on_trace(
         alloc,
         "draw",
         "Prints the run of a trace as an SVG picture, a lane for each task, a column for each event",
-    )?
-    .arg(option(
+    );
+    let events = option(
         alloc,
         "events",
         "A..B",
         "draws the events from line A to line B of the trace (the last 2000)",
-    ))?
-    .arg(flag(
+    );
+    let brief = flag(
         alloc,
         "brief",
         "a column only for each event that `tell` lists",
-    ))
+    );
+    with_argument(with_argument(command, events), brief)
 }
 
 /// The option that keeps the trace of an end.
@@ -142,19 +146,18 @@ fn tell_by_events<'a>(alloc: Global) -> Result<Command<'a>, AllocError>
     ensures app { IfOk result (λ c. app_of c ≡ def.tell_by_events) }
     ensures local { IfOk result (λ c. (out-Command c).has_globals ≡ false) }
 {
+    let command = on_trace(
+        alloc,
+        "tell",
+        "Tells the run of a trace: a line for each event, with the line of the text and what it did",
+    );
     let first = maybe_number(alloc, "FROM", "the first event that is told (1)");
     let last = maybe_number(
         alloc,
         "TO",
         "the last event that is told; the run ends there",
     );
-    on_trace(
-        alloc,
-        "tell",
-        "Tells the run of a trace: a line for each event, with the line of the text and what it did",
-    )?
-    .arg(first)?
-    .arg(last)
+    with_argument(with_argument(command, first), last)
 }
 
 /// The command `tell`.
@@ -172,10 +175,9 @@ fn tell<'a>(alloc: Global) -> Result<Command<'a>, AllocError>
         "strict",
         "stops at the first event that does nothing, with status 5, and ends with the end of each task",
     );
-    tell_by_events(alloc)?
-        .arg(each)?
-        .arg(strict)?
-        .arg(flag(alloc, "json", "as lines of JSON, one for each line"))
+    let json = flag(alloc, "json", "as lines of JSON, one for each line");
+    let command = with_argument(tell_by_events(alloc), each);
+    with_argument(with_argument(command, strict), json)
 }
 
 /// The command `ends` with the options that say which events may come.
@@ -183,22 +185,23 @@ fn ends_by_events<'a>(alloc: Global) -> Result<Command<'a>, AllocError>
     ensures app { IfOk result (λ c. app_of c ≡ def.ends_by_events) }
     ensures local { IfOk result (λ c. (out-Command c).has_globals ≡ false) }
 {
-    on_file(
+    let command = on_file(
         alloc,
         "ends",
         "Finds every end that a program can come to, over all schedules, with a trace for each",
-    )?
-    .arg(flag(
+    );
+    let no_expiries = flag(
         alloc,
         "no-expiries",
         "no scope expires; else a scope with a timeout may expire at any time",
-    ))?
-    .arg(option(
+    );
+    let interrupts = option(
         alloc,
         "interrupts",
         "N",
         "up to N interrupts from outside, of any living task (0)",
-    ))
+    );
+    with_argument(with_argument(command, no_expiries), interrupts)
 }
 
 /// The command `ends` with these options and those that say when a search stops.
@@ -206,19 +209,19 @@ fn ends_by_limits<'a>(alloc: Global) -> Result<Command<'a>, AllocError>
     ensures app { IfOk result (λ c. app_of c ≡ def.ends_by_limits) }
     ensures local { IfOk result (λ c. (out-Command c).has_globals ≡ false) }
 {
-    ends_by_events(alloc)?
-        .arg(option(
-            alloc,
-            "most",
-            "N",
-            "stops when it has N states (1000000, or fewer if a search by calls has the ends)",
-        ))?
-        .arg(option(
-            alloc,
-            "seconds",
-            "N",
-            "stops after N seconds, and keeps what it found",
-        ))
+    let most = option(
+        alloc,
+        "most",
+        "N",
+        "stops when it has N states (1000000, or fewer if a search by calls has the ends)",
+    );
+    let seconds = option(
+        alloc,
+        "seconds",
+        "N",
+        "stops after N seconds, and keeps what it found",
+    );
+    with_argument(with_argument(ends_by_events(alloc), most), seconds)
 }
 
 /// The command `ends` with these options and the one that asks for calls.
@@ -226,11 +229,12 @@ fn ends_by_calls<'a>(alloc: Global) -> Result<Command<'a>, AllocError>
     ensures app { IfOk result (λ c. app_of c ≡ def.ends_by_calls) }
     ensures local { IfOk result (λ c. (out-Command c).has_globals ≡ false) }
 {
-    ends_by_limits(alloc)?.arg(flag(
+    let calls = flag(
         alloc,
         "calls",
         "what each call can come to, heard by its joiner or not",
-    ))
+    );
+    with_argument(ends_by_limits(alloc), calls)
 }
 
 /// The command `ends`.
@@ -238,20 +242,20 @@ fn ends<'a>(alloc: Global) -> Result<Command<'a>, AllocError>
     ensures app { IfOk result (λ c. app_of c ≡ def.ends) }
     ensures local { IfOk result (λ c. (out-Command c).has_globals ≡ false) }
 {
-    ends_by_calls(alloc)?
-        .arg(option(alloc, "sample", "N", "tries N random schedules, not all"))?
-        .arg(option(
-            alloc,
-            "seed",
-            "S",
-            "a number that fixes the random schedules (1)",
-        ))?
-        .arg(kept_trace(alloc))?
-        .arg(flag(
-            alloc,
-            "json",
-            "as lines of JSON, one for each end and one more",
-        ))
+    let sample = option(alloc, "sample", "N", "tries N random schedules, not all");
+    let seed = option(
+        alloc,
+        "seed",
+        "S",
+        "a number that fixes the random schedules (1)",
+    );
+    let json = flag(
+        alloc,
+        "json",
+        "as lines of JSON, one for each end and one more",
+    );
+    let command = with_argument(with_argument(ends_by_calls(alloc), sample), seed);
+    with_argument(with_argument(command, kept_trace(alloc)), json)
 }
 
 /// The file of cases.

@@ -23,6 +23,9 @@ const FIRST_TRY: usize = 2_000;
 /// Each further try may have this many times the states of the one before.
 const MORE: usize = 8;
 
+/// No further try begins after this part of the seconds: it may take as many times as long.
+const PART_OF_SECONDS: u32 = 8;
+
 /// No trace of an accepted program has more events. Each of its 1,000,000 steps may follow an
 /// interrupt and an expiry.
 const LONGEST: usize = 3_000_000;
@@ -85,6 +88,14 @@ fn some_ends(alloc: Global, setting: &Setting, limits: Limits) -> Result<FoundBy
     Ok(calls)
 }
 
+/// May a search by calls begin again with more states?
+fn has_time<P: Progress>(limits: Limits, progress: &mut P) -> bool {
+    match limits.seconds {
+        None => true,
+        Some(seconds) => progress.goes_on(Some(seconds / PART_OF_SECONDS)),
+    }
+}
+
 /// The ends that a search by calls finds. It begins again with more states until it has found them
 /// all, has no more room or no more time.
 fn tried<P: Progress>(
@@ -106,7 +117,7 @@ fn tried<P: Progress>(
     let mut calls = ends_by_calls(alloc, setting, room, Vec::new(alloc))?;
     for _ in 0..u64::MAX {
         let is_cut_off = calls.states > room.states;
-        if !is_cut_off || room.states >= most || !progress.goes_on(limits.seconds) {
+        if !is_cut_off || room.states >= most || !has_time(limits, progress) {
             break;
         }
         room.states = room.states.saturating_mul(MORE).min(most);

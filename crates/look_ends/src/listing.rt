@@ -9,9 +9,8 @@ ghost use Rattle.look_ends.specs.Listing as def;
 use crate::below::{found_at, has_number};
 use crate::by_calls::{Answer, answered, by_calls, room_after};
 use crate::calling::of_calls;
-use crate::exploring::explored;
+use crate::exploring::{explored, report};
 use crate::form::{EndLines, EndsForm};
-use crate::lines::say_all;
 use crate::progress::Progress;
 use crate::states::Told;
 use crate::verdict::{Judged, verdict};
@@ -125,20 +124,7 @@ fn sampled<F: EndsForm>(
     })
 }
 
-/// Reports the ends that were found so far.
-fn reported<P: Progress>(
-    alloc: Global,
-    told: Told<'_, '_>,
-    found: &[Found],
-    progress: &mut P,
-) -> Result<(), AllocError> {
-    let mut lines = Vec::new(alloc);
-    say_all(alloc, &mut lines, told, found)?;
-    progress.ends(lines.as_slice());
-    Ok(())
-}
-
-/// The listing of all ends of a program. Those that a search by calls finds are reported at once.
+/// The listing of all ends of a program. Each is reported when it is found.
 fn of_all<F: EndsForm, P: Progress>(
     alloc: Global,
     form: &F,
@@ -158,9 +144,18 @@ fn of_all<F: EndsForm, P: Progress>(
         program: &setting.program,
         names,
     };
-    reported(alloc, told, calls.found.as_slice(), progress)?;
+    let mut reported = Vec::new(alloc);
+    report(alloc, told, calls.found.as_slice(), &mut reported, progress)?;
     let room = room_after(limits, is_refused, &calls);
-    let exploration = explored(alloc, setting, room, limits.seconds, progress)?;
+    let exploration = explored(
+        alloc,
+        names,
+        setting,
+        room,
+        limits.seconds,
+        reported,
+        progress,
+    )?;
     let ends = exploration.ends(alloc)?;
     let asked = exploration.setting();
     let all = answered(asked, calls, ends)?;

@@ -1,7 +1,9 @@
 -- What is shown of a value, a function and a line: its name, if the text gives it one (this
 -- project's own).
-use Rattle.std.specs.Prelude.{ℕ, ℤ, List, ◌++◌, codes, Option, Some, None, unwrap_or}
+use Rattle.std.specs.Prelude.{ℕ, ℤ, pos, List, [], ◌++◌, ◌==◌, codes, drop, length, Option, Some, None}
+use Rattle.std.specs.Prelude.{if◌then◌else◌, slice_index_or, unwrap_or}
 use Rattle.std.specs.Fmt.{decimal, signed_decimal}
+use Rattle.std.specs.List.{flat_map}
 use Rattle.sts_asm.specs.Outline.{Sentence}
 use Rattle.sts_asm.specs.Source.{sentence_at}
 use Rattle.sts_code.specs.Program.{Program, routine}
@@ -10,6 +12,17 @@ use Rattle.look_names.specs.Names.{function_name, line_name, outline_of, value_n
 
 abbrev pub value_words : List ℕ → ℤ → List ℕ
 value_words text v = unwrap_or (value_name text v) (signed_decimal v)
+
+-- `(1, 2)`
+unfoldable pub listed_words : List ℕ → ℤ → List ℤ → List ℕ
+listed_words text first others =
+    codes "(" ++ value_words text first
+    ++ flat_map (λ x. codes ", " ++ value_words text x) others ++ codes ")"
+
+-- the arguments in brackets, if there are any
+abbrev pub arguments_words : List ℕ → List ℤ → List ℕ
+arguments_words text args =
+    if length args == 0 then [] else listed_words text (slice_index_or args 0 (pos 0)) (drop 1 args)
 
 abbrev pub function_words : List ℕ → Program → ℕ → List ℕ
 function_words text p f = unwrap_or (function_name text f) (routine p f).name

@@ -6,4 +6,4 @@ mod names;
 mod words;
 
 pub use names::Names;
-pub use words::{say_function, say_line, say_place, say_sentence, say_value};
+pub use words::{Said, say_arguments, say_function, say_line, say_place, say_sentence, say_value};

@@ -1,6 +1,7 @@
 //! What is shown of a value, a function and a line.
 
-ghost use Rattle.std.specs.Prelude.{◌≡◌, ◌++◌, OnOk, Some};
+ghost use Rattle.std.specs.List.{flat_map};
+ghost use Rattle.std.specs.Prelude.{◌≡◌, ◌++◌, OnOk, Some, codes};
 ghost use Rattle.sts_list.specs.Spelling.{after_spaces};
 ghost use Rattle.look_names.specs.Words as def;
 
@@ -10,8 +11,11 @@ use sts_asm::Sentence;
 use sts_code::{Program, name_of};
 use sts_text::Words;
 
+/// What a call that appends words returns: memory may run out.
+pub type Said = Result<(), AllocError>;
+
 /// Appends a text.
-fn say(out: &mut Vec<u8>, text: &str) -> Result<(), AllocError>
+fn say(out: &mut Vec<u8>, text: &str) -> Said
     ensures { OnOk result (out.new.items ≡ out.old.items ++ text.now) }
 {
     out.extend_from_slice(text.as_bytes())
@@ -22,12 +26,7 @@ fn say(out: &mut Vec<u8>, text: &str) -> Result<(), AllocError>
 /// # Errors
 ///
 /// Memory ran out; `out` may then have a part of it.
-pub fn say_value(
-    alloc: Global,
-    out: &mut Vec<u8>,
-    names: &Names<'_>,
-    value: i64,
-) -> Result<(), AllocError>
+pub fn say_value(alloc: Global, out: &mut Vec<u8>, names: &Names<'_>, value: i64) -> Said
     ensures { OnOk result (out.new.items ≡ out.old.items ++ def.value_words names.now value) }
 {
     match names.value(value) {
@@ -39,17 +38,58 @@ pub fn say_value(
     }
 }
 
+/// The arguments after the first one.
+fn say_more(alloc: Global, out: &mut Vec<u8>, names: &Names<'_>, values: &[i64]) -> Said
+    ensures { OnOk result (out.new.items ≡ out.old.items
+        ++ flat_map (λ x. codes ", " ++ def.value_words names.now x) values.now) }
+{
+    for value in values {
+        say(out, ", ")?;
+        say_value(alloc, out, names, *value)?;
+    }
+    Ok(())
+}
+
+/// The arguments in brackets.
+#[tactic(auto, unfolding(crate::specs::Words::listed_words))]
+fn say_listed(
+    alloc: Global,
+    out: &mut Vec<u8>,
+    names: &Names<'_>,
+    first: i64,
+    others: &[i64],
+) -> Said
+    ensures { OnOk result (out.new.items ≡ out.old.items
+        ++ def.listed_words names.now first others.now) }
+{
+    say(out, "(")?;
+    say_value(alloc, out, names, first)?;
+    say_more(alloc, out, names, others)?;
+    say(out, ")")
+}
+
+/// Appends the arguments of a call in brackets, if there are any: `(1, 2)`.
+///
+/// # Errors
+///
+/// Memory ran out; `out` may then have a part of it.
+pub fn say_arguments(alloc: Global, out: &mut Vec<u8>, names: &Names<'_>, values: &[i64]) -> Said
+    ensures { OnOk result (out.new.items ≡ out.old.items
+        ++ def.arguments_words names.now values.now) }
+{
+    if values.len() == 0 {
+        Ok(())
+    } else {
+        say_listed(alloc, out, names, values[0], &values[1..])
+    }
+}
+
 /// Appends the name of a function: that of its marked comment, or the one in its `func`.
 ///
 /// # Errors
 ///
 /// Memory ran out; `out` may then have a part of it.
-pub fn say_function(
-    out: &mut Vec<u8>,
-    names: &Names<'_>,
-    program: &Program,
-    function: u32,
-) -> Result<(), AllocError>
+pub fn say_function(out: &mut Vec<u8>, names: &Names<'_>, program: &Program, function: u32) -> Said
     ensures { OnOk result (out.new.items
         ≡ out.old.items ++ def.function_words names.now program.now function) }
 {
@@ -64,12 +104,7 @@ pub fn say_function(
 /// # Errors
 ///
 /// Memory ran out; `out` may then have a part of it.
-pub fn say_line(
-    alloc: Global,
-    out: &mut Vec<u8>,
-    names: &Names<'_>,
-    number: u32,
-) -> Result<(), AllocError>
+pub fn say_line(alloc: Global, out: &mut Vec<u8>, names: &Names<'_>, number: u32) -> Said
     ensures { OnOk result (out.new.items ≡ out.old.items ++ def.line_words names.now number) }
 {
     match names.line(number) {
@@ -92,7 +127,7 @@ pub fn say_place(
     names: &Names<'_>,
     function: u32,
     pc: u32,
-) -> Result<(), AllocError>
+) -> Said
     ensures { OnOk result (out.new.items
         ≡ out.old.items ++ def.place_words names.now function pc) }
 {
@@ -103,7 +138,7 @@ pub fn say_place(
 }
 
 /// Appends each word after a space.
-fn say_words<'a>(out: &mut Vec<u8>, words: Words<'a>) -> Result<(), AllocError>
+fn say_words<'a>(out: &mut Vec<u8>, words: Words<'a>) -> Said
     ensures { OnOk result (out.new.items ≡ out.old.items ++ after_spaces words.entry) }
 {
     let mut left = words;
@@ -119,7 +154,7 @@ fn say_line_and_words(
     out: &mut Vec<u8>,
     names: &Names<'_>,
     sentence: &Sentence<'_>,
-) -> Result<(), AllocError>
+) -> Said
     ensures { OnOk result (out.new.items
         ≡ out.old.items ++ def.said_by names.now (Some sentence.now)) }
 {
@@ -139,7 +174,7 @@ pub fn say_sentence(
     names: &Names<'_>,
     function: u32,
     pc: u32,
-) -> Result<(), AllocError>
+) -> Said
     ensures { OnOk result (out.new.items
         ≡ out.old.items ++ def.said_words names.now function pc) }
 {

@@ -140,7 +140,7 @@ unfolding end_task
 rests-end t w f end = rests-trans t w (ended w t f end) _ (rests-task t w _) (rests-tell t (ended w t f end) t (task_at w t).scope end)
 
 rests-effect : (t : ℕ) (p : Program) (w : World) (i : Instr) → Rests t w (effect p w t (task_at w t).frame i)
-rests-effect t p w (Open x joiner timed) = rests-open t w x _ joiner timed
+rests-effect t p w (Open x timed joiner) = rests-open t w x _ joiner timed
 rests-effect t p w (Fork x g h) = rests-fork t p w _ _ g h
 rests-effect t p w (Join x failed timeout interrupted) = rests-join t w _ _ _ _ interrupted
 rests-effect t p w (Close x) = rests-close t w _ _

@@ -16,7 +16,7 @@ use Rattle.look_lines.specs.View.{view_lines}
 use Rattle.look_lines.specs.Views.{applied}
 use Rattle.look_lines.specs.Watched.{Watched, watched}
 use Rattle.look_lines.specs.declared.watch.Applied.{Applied}
-use Rattle.look_tell.specs.Outcome.{end_words}
+use Rattle.look_run.specs.States.{end_words}
 use Rattle.look_tell.specs.Story.{Story, after_events, world_of}
 use Rattle.look_picture.specs.declared.marks.Mark.{Mark}
 use Rattle.look_picture.specs.declared.marks.Mark.TheVariants as mark

@@ -10,7 +10,7 @@ use Rattle.look_picture.specs.Writing.{text_end, text_start}
 
 -- the word of an instruction by which a task deals with a scope, or ends
 abbrev pub word_of : Option Instr → Option (List ℕ)
-word_of (Some (instr.Open s joiner timed)) = Some (codes "open")
+word_of (Some (instr.Open s timed joiner)) = Some (codes "open")
 word_of (Some (instr.Fork s g h)) = Some (codes "fork")
 word_of (Some (instr.Join s failed timeout interrupted)) = Some (codes "join")
 word_of (Some (instr.Close s)) = Some (codes "close")

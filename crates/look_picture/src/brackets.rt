@@ -14,10 +14,10 @@ use crate::writing::{mark_end, mark_start, text_end, text_start};
 use look_lines::{phase_word, scope_place};
 use std::alloc::AllocError;
 use std::fmt::Write;
-use sts_model::{Entry, Phase, Stack};
+use sts_model::{Entries, Entry, Phase};
 
 /// The number of scopes in a structure list that were born before a scope.
-fn scopes_before(entries: &Stack<Entry, 16>, s: u32) -> usize
+fn scopes_before(entries: &Entries, s: u32) -> usize
     ensures value { result ≡ count_by (place.is_before s) entries.now }
     ensures few { result ≤ 16 }
 {

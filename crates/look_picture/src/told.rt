@@ -8,7 +8,7 @@ ghost use Rattle.look_picture.specs.Told as def;
 use crate::writing::escape;
 use look_names::Names;
 use look_options::TellOptions;
-use look_tell::{Story, say_event};
+use look_tell::{Story, Telling};
 use std::alloc::{AllocError, Global};
 use sts_model::Event;
 
@@ -33,7 +33,12 @@ fn say_lines(
         first: 1,
         last: u32::MAX,
     };
-    say_event(alloc, out, names, options, number, story, event)
+    let telling = Telling {
+        names,
+        options,
+        number,
+    };
+    telling.say_event(alloc, out, story, event)
 }
 
 /// All bytes but the last one.

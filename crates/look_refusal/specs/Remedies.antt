@@ -68,7 +68,7 @@ not_empty kind.Lent = r.FillsParentScope
 not_empty _ = r.FillsSubtask
 
 abbrev pub busy_remedy : Instr → TypeState → Remedy
-busy_remedy (i.Open x j timed) s = not_empty (kind s x)
+busy_remedy (i.Open x timed j) s = not_empty (kind s x)
 busy_remedy (i.Fork x g (Some h)) s = not_empty (kind s h)
 busy_remedy _ s = r.FillsSubtask
 

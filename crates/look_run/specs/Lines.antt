@@ -5,8 +5,6 @@ use Rattle.std.specs.Prelude.{Option, Some, None, codes, length, map, slice_get}
 use Rattle.std.specs.Fmt.{decimal}
 use Rattle.sts_text.specs.Words.{lines}
 use Rattle.sts_code.specs.Program.{Program}
-use Rattle.sts_model.specs.declared.event.End.{End}
-use Rattle.sts_model.specs.declared.event.End.TheVariants.{Success, Failed}
 use Rattle.sts_model.specs.declared.event.Fault.{Fault}
 use Rattle.sts_model.specs.declared.event.Stand.{Stand}
 use Rattle.sts_model.specs.declared.event.Stand.TheVariants.{Free, AtJoin, AtClose}
@@ -14,39 +12,17 @@ use Rattle.sts_model.specs.declared.record.Task.{Task}
 use Rattle.sts_model.specs.Living.{is_living_subtask, lives}
 use Rattle.sts_model.specs.Waiting.{can_step, stand_at}
 use Rattle.sts_model.specs.World.{World, task_at}
-use Rattle.sts_output.specs.Printed.{fault_word}
 use Rattle.sts_output.specs.Shown.{shown_byte}
 use Rattle.sts_plain.specs.declared.misstep.PlainState.{PlainState}
 use Rattle.sts_plain.specs.declared.misstep.PlainState.TheVariants as plain
 use Rattle.sts_trace.specs.declared.error.TraceError.{TraceError}
 use Rattle.sts_trace.specs.declared.error.TraceError.TheVariants as trace
 use Rattle.look_refusal.specs.Sentences.{remedy_sentence}
-use Rattle.look_names.specs.Words.{function_words, said_words, value_words}
 use Rattle.look_run.specs.Remedies.{remedy}
 use Rattle.look_run.specs.Sentences.{trace_sentence}
+use Rattle.look_run.specs.States.{state_line, task_place}
 
 -- ---- the state
-
--- `task 1 in kid, line 3: close s0`, the last words as they are in the text
-abbrev pub task_place : List ℕ → Program → ℕ → ℕ → ℕ → List ℕ
-task_place text p t f pc =
-    codes "task " ++ decimal t ++ codes " in " ++ function_words text p f ++ codes ", "
-    ++ said_words text f pc
-
-abbrev pub end_line : List ℕ → End → List ℕ
-end_line text (Success v) = codes "success " ++ value_words text v ++ codes "\n"
-end_line text (Failed c) = codes "failed " ++ value_words text c ++ codes "\n"
-
--- `fault Structure, task 1 in kid, line 3: close s0`
-abbrev pub fault_line : List ℕ → Program → Fault → ℕ → ℕ → ℕ → List ℕ
-fault_line text p kind t f pc =
-    codes "fault " ++ fault_word kind ++ codes ", " ++ task_place text p t f pc ++ codes "\n"
-
--- `running`, `success V`, `failed C` or a fault
-abbrev pub state_line : List ℕ → Program → PlainState → List ℕ
-state_line text p plain.Running = codes "running\n"
-state_line text p (plain.Ended end) = end_line text end
-state_line text p (plain.Fault kind t f pc) = fault_line text p kind t f pc
 
 -- what to do about a fault of a living task
 abbrev pub remedy_line : Program → World → Fault → ℕ → List ℕ

@@ -76,7 +76,7 @@ slot_remedy f (i.Case h success failed) = no_subtask (slot f h)
 slot_remedy f (i.Get h) = no_subtask (slot f h)
 slot_remedy f (i.Except h) = no_subtask (slot f h)
 slot_remedy f (i.Forget h) = no_subtask (slot f h)
-slot_remedy f (i.Open x j timed) = not_empty (slot f x)
+slot_remedy f (i.Open x timed j) = not_empty (slot f x)
 slot_remedy f (i.Fork x g h) = fork_remedy f x h
 slot_remedy f (i.Join x failed timeout interrupted) = no_scope (slot f x)
 slot_remedy f (i.Close x) = no_scope (slot f x)
@@ -93,7 +93,7 @@ join_remedy w failed timeout _ = r.FailedLabelMissing
 
 -- no room for what it opens, or forks
 abbrev pub room_remedy : World → Frame → Instr → Remedy
-room_remedy w f (i.Open x j timed) =
+room_remedy w f (i.Open x timed j) =
     if nat_le MAX_ENTRIES (length f.entries) then r.TooManyOpen else r.NoRoomForScope
 room_remedy w f (i.Fork x g h) = r.NoRoomForTask
 room_remedy w f (i.Join x failed timeout interrupted) =

@@ -8,7 +8,7 @@ ghost use Rattle.look_refusal.specs.Stops.{Prints};
 ghost use Rattle.look_lines.specs.Watched.{watched};
 ghost use Rattle.look_run.specs.Output as def;
 
-use crate::tasks::{Told, say_living, say_outcome};
+use crate::states::Told;
 use crate::traces::trace_fault;
 use look_lines::{Watch, after};
 use look_names::Names;
@@ -29,8 +29,8 @@ fn of_watch(alloc: Global, names: &Names<'_>, watch: &Watch<'_>) -> Result<Expla
     };
     let state = watch.state();
     let mut bytes = Vec::new(alloc);
-    say_outcome(alloc, &mut bytes, told, watch.world().records(), state)?;
-    say_living(alloc, &mut bytes, told, watch.world())?;
+    told.say_outcome(alloc, &mut bytes, watch.world().records(), state)?;
+    told.say_living(alloc, &mut bytes, watch.world())?;
     Ok(Explanation {
         bytes,
         status: state_status(state),

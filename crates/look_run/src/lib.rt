@@ -5,8 +5,11 @@
 mod explaining;
 mod remedy;
 mod sentences;
+mod states;
 mod tasks;
 mod traces;
 
 pub use explaining::explain_run;
+pub use states::{Told, say_end, say_end_line};
+pub use tasks::is_living_subtask;
 pub use traces::trace_fault;

@@ -7,109 +7,18 @@ ghost use Rattle.sts_model.specs.World as model;
 ghost use Rattle.look_run.specs.Lines as def;
 
 use crate::remedy::remedy_of;
-use look_names::{Names, say_function, say_sentence, say_value};
+use crate::states::Told;
+use look_names::Said;
 use look_refusal::remedy_sentence;
 use look_text::say;
-use std::alloc::{AllocError, Global};
+use std::alloc::Global;
 use sts_code::Program;
-use sts_model::{End, Fault, Stand};
-use sts_output::printed::fault_word;
+use sts_model::{Fault, Stand};
 use sts_plain::{PlainState, can_step, stand_at};
 use sts_world::{Records, World};
 
-/// A program, and the lines and names of the text that spells it.
-#[derive(Clone, Copy)]
-pub(crate) struct Told<'a, 't> {
-    pub program: &'a Program,
-    pub names: &'a Names<'t>,
-}
-
-/// `task T in NAME, line L: WORDS`
-fn say_task(
-    alloc: Global,
-    out: &mut Vec<u8>,
-    told: Told<'_, '_>,
-    t: u32,
-    function: u32,
-    pc: u32,
-) -> Result<(), AllocError>
-    ensures { OnOk result (out.new.items ≡ out.old.items
-        ++ def.task_place told.entry.names.now told.entry.program.now t function pc) }
-{
-    let head = format!(in alloc; "task {t} in ")?;
-    say(out, head.as_str())?;
-    say_function(out, told.names, told.program, function)?;
-    say(out, ", ")?;
-    say_sentence(alloc, out, told.names, function, pc)
-}
-
-/// `fault KIND, task T in NAME, line L: WORDS`
-fn say_fault(
-    alloc: Global,
-    out: &mut Vec<u8>,
-    told: Told<'_, '_>,
-    kind: Fault,
-    task: u32,
-    function: u32,
-    pc: u32,
-) -> Result<(), AllocError>
-    ensures { OnOk result (out.new.items ≡ out.old.items
-        ++ def.fault_line told.entry.names.now told.entry.program.now kind task function pc) }
-{
-    say(out, "fault ")?;
-    say(out, fault_word(kind))?;
-    say(out, ", ")?;
-    say_task(alloc, out, told, task, function, pc)?;
-    say(out, "\n")
-}
-
-fn say_end(alloc: Global, out: &mut Vec<u8>, names: &Names<'_>, end: End) -> Result<(), AllocError>
-    ensures { OnOk result (out.new.items ≡ out.old.items ++ def.end_line names.now end) }
-{
-    match end {
-        End::Success(value) => {
-            say(out, "success ")?;
-            say_value(alloc, out, names, value)?;
-            say(out, "\n")
-        }
-        End::Failed(code) => {
-            say(out, "failed ")?;
-            say_value(alloc, out, names, code)?;
-            say(out, "\n")
-        }
-    }
-}
-
-/// The state of a run: `running`, `success V`, `failed C` or a fault.
-fn say_state(
-    alloc: Global,
-    out: &mut Vec<u8>,
-    told: Told<'_, '_>,
-    state: PlainState,
-) -> Result<(), AllocError>
-    ensures { OnOk result (out.new.items ≡ out.old.items
-        ++ def.state_line told.entry.names.now told.entry.program.now state) }
-{
-    match state {
-        PlainState::Running => say(out, "running\n"),
-        PlainState::Ended(end) => say_end(alloc, out, told.names, end),
-        PlainState::Fault {
-            kind,
-            task,
-            function,
-            pc,
-        } => say_fault(alloc, out, told, kind, task, function, pc),
-    }
-}
-
 /// What to do about a fault of a living task.
-fn say_remedy(
-    out: &mut Vec<u8>,
-    program: &Program,
-    records: &Records,
-    kind: Fault,
-    t: u32,
-) -> Result<(), AllocError>
+fn say_remedy(out: &mut Vec<u8>, program: &Program, records: &Records, kind: Fault, t: u32) -> Said
     ensures { OnOk result (out.new.items
         ≡ out.old.items ++ def.remedy_line program.now records.now kind t) }
 {
@@ -126,7 +35,7 @@ fn say_remedy_part(
     program: &Program,
     records: &Records,
     state: PlainState,
-) -> Result<(), AllocError>
+) -> Said
     ensures { OnOk result (out.new.items
         ≡ out.old.items ++ def.remedy_part program.now records.now state) }
 {
@@ -136,28 +45,8 @@ fn say_remedy_part(
     }
 }
 
-/// The state of the run, and what to do about its fault. After a fault, the records are those before
-/// it.
-///
-/// # Errors
-///
-/// Memory ran out; `out` may then have a part of it.
-pub(crate) fn say_outcome(
-    alloc: Global,
-    out: &mut Vec<u8>,
-    told: Told<'_, '_>,
-    records: &Records,
-    state: PlainState,
-) -> Result<(), AllocError>
-    ensures { OnOk result (out.new.items ≡ out.old.items
-        ++ def.state_lines told.entry.names.now told.entry.program.now records.now state) }
-{
-    say_state(alloc, out, told, state)?;
-    say_remedy_part(out, told.program, records, state)
-}
-
-/// Is the task a living subtask of the scope?
-fn is_living_subtask(records: &Records, s: u32, t: u32) -> bool
+/// Says whether the task is a living subtask of the scope.
+pub fn is_living_subtask(records: &Records, s: u32, t: u32) -> bool
     ensures { result ≡ living.is_living_subtask s (model.task_at records.now t) }
 {
     match records.parent(t) {
@@ -166,13 +55,7 @@ fn is_living_subtask(records: &Records, s: u32, t: u32) -> bool
     }
 }
 
-fn say_subtask(
-    alloc: Global,
-    out: &mut Vec<u8>,
-    records: &Records,
-    s: u32,
-    t: u32,
-) -> Result<(), AllocError>
+fn say_subtask(alloc: Global, out: &mut Vec<u8>, records: &Records, s: u32, t: u32) -> Said
     ensures { OnOk result (out.new.items ≡ out.old.items ++ def.subtask_word records.now s t) }
 {
     if !is_living_subtask(records, s, t) {
@@ -183,13 +66,7 @@ fn say_subtask(
 }
 
 /// The living ones of these tasks, if they are subtasks of the scope.
-fn say_births(
-    alloc: Global,
-    out: &mut Vec<u8>,
-    records: &Records,
-    s: u32,
-    births: &[u32],
-) -> Result<(), AllocError>
+fn say_births(alloc: Global, out: &mut Vec<u8>, records: &Records, s: u32, births: &[u32]) -> Said
     ensures { OnOk result (out.new.items ≡ out.old.items
         ++ flat_map (def.subtask_word records.now s) births.now) }
 {
@@ -200,7 +77,7 @@ fn say_births(
 }
 
 /// The living subtasks of a scope.
-fn say_subtasks(alloc: Global, out: &mut Vec<u8>, world: &World, s: u32) -> Result<(), AllocError>
+fn say_subtasks(alloc: Global, out: &mut Vec<u8>, world: &World, s: u32) -> Said
     ensures { OnOk result (out.new.items ≡ out.old.items
         ++ def.subtask_words world.now s world.now.tasks 0) }
 {
@@ -208,13 +85,7 @@ fn say_subtasks(alloc: Global, out: &mut Vec<u8>, world: &World, s: u32) -> Resu
 }
 
 /// `waits at join of scope S for T ..`
-fn say_wait_for(
-    alloc: Global,
-    out: &mut Vec<u8>,
-    world: &World,
-    word: &str,
-    s: u32,
-) -> Result<(), AllocError>
+fn say_wait_for(alloc: Global, out: &mut Vec<u8>, world: &World, word: &str, s: u32) -> Said
     ensures { OnOk result (out.new.items ≡ out.old.items ++ def.wait_for world.now word.now s) }
 {
     let head = format!(in alloc; "waits at {word} of scope {s} for")?;
@@ -223,7 +94,7 @@ fn say_wait_for(
 }
 
 /// What a task that can't step waits for.
-fn say_wait(alloc: Global, out: &mut Vec<u8>, world: &World, stand: Stand) -> Result<(), AllocError>
+fn say_wait(alloc: Global, out: &mut Vec<u8>, world: &World, stand: Stand) -> Said
     ensures { OnOk result (out.new.items ≡ out.old.items ++ def.wait_words world.now stand) }
 {
     match stand {
@@ -234,13 +105,7 @@ fn say_wait(alloc: Global, out: &mut Vec<u8>, world: &World, stand: Stand) -> Re
 }
 
 /// The state of a living task.
-fn say_life(
-    alloc: Global,
-    out: &mut Vec<u8>,
-    program: &Program,
-    world: &World,
-    t: u32,
-) -> Result<(), AllocError>
+fn say_life(alloc: Global, out: &mut Vec<u8>, program: &Program, world: &World, t: u32) -> Said
     requires born { t < length world.now.tasks }
     requires lives { living.lives (model.task_at world.now t) ≡ true }
     ensures { OnOk result (out.new.items ≡ out.old.items
@@ -252,60 +117,65 @@ fn say_life(
     say_wait(alloc, out, world, stand_at(world, program, t))
 }
 
-/// `task T in NAME, line L: WORDS (ready)`
-fn say_task_line(
-    alloc: Global,
-    out: &mut Vec<u8>,
-    told: Told<'_, '_>,
-    world: &World,
-    t: u32,
-) -> Result<(), AllocError>
-    requires born { t < length world.now.tasks }
-    requires lives { living.lives (model.task_at world.now t) ≡ true }
-    ensures { OnOk result (out.new.items ≡ out.old.items
-        ++ def.task_line told.entry.names.now told.entry.program.now world.now t) }
-{
-    let records = world.records();
-    say_task(alloc, out, told, t, records.function(t), records.pc(t))?;
-    say(out, " (")?;
-    say_life(alloc, out, told.program, world, t)?;
-    say(out, ")\n")
-}
+impl Told<'_, '_> {
+    /// The state of the run, and what to do about its fault. After a fault, the records are those
+    /// before it.
+    ///
+    /// # Errors
+    ///
+    /// Memory ran out; `out` may then have a part of it.
+    pub(crate) fn say_outcome(
+        self,
+        alloc: Global,
+        out: &mut Vec<u8>,
+        records: &Records,
+        state: PlainState,
+    ) -> Said
+        ensures { OnOk result (out.new.items ≡ out.old.items
+            ++ def.state_lines self.entry.names.now self.entry.program.now records.now state) }
+    {
+        self.say_state(alloc, out, state)?;
+        say_remedy_part(out, self.program, records, state)
+    }
 
-fn say_if_living(
-    alloc: Global,
-    out: &mut Vec<u8>,
-    told: Told<'_, '_>,
-    world: &World,
-    t: u32,
-) -> Result<(), AllocError>
-    ensures { OnOk result (out.new.items ≡ out.old.items
-        ++ def.living_line told.entry.names.now told.entry.program.now world.now t) }
-{
-    if world.records().lives(t) {
-        say_task_line(alloc, out, told, world, t)
-    } else {
+    /// `task T in NAME, line L: WORDS (ready)`
+    fn say_task_line(self, alloc: Global, out: &mut Vec<u8>, world: &World, t: u32) -> Said
+        requires born { t < length world.now.tasks }
+        requires lives { living.lives (model.task_at world.now t) ≡ true }
+        ensures { OnOk result (out.new.items ≡ out.old.items
+            ++ def.task_line self.entry.names.now self.entry.program.now world.now t) }
+    {
+        let records = world.records();
+        self.say_task(alloc, out, t, records.function(t), records.pc(t))?;
+        say(out, " (")?;
+        say_life(alloc, out, self.program, world, t)?;
+        say(out, ")\n")
+    }
+
+    fn say_if_living(self, alloc: Global, out: &mut Vec<u8>, world: &World, t: u32) -> Said
+        ensures { OnOk result (out.new.items ≡ out.old.items
+            ++ def.living_line self.entry.names.now self.entry.program.now world.now t) }
+    {
+        if world.records().lives(t) {
+            self.say_task_line(alloc, out, world, t)
+        } else {
+            Ok(())
+        }
+    }
+
+    /// The lines of the tasks that live.
+    ///
+    /// # Errors
+    ///
+    /// Memory ran out; `out` may then have a part of them.
+    pub(crate) fn say_living(self, alloc: Global, out: &mut Vec<u8>, world: &World) -> Said
+        ensures { OnOk result (out.new.items ≡ out.old.items
+            ++ def.living_lines self.entry.names.now self.entry.program.now world.now
+            world.now.tasks 0) }
+    {
+        for t in 0..world.records().tasks_born() {
+            self.say_if_living(alloc, out, world, t as u32)?;
+        }
         Ok(())
     }
-}
-
-/// The lines of the tasks that live.
-///
-/// # Errors
-///
-/// Memory ran out; `out` may then have a part of them.
-pub(crate) fn say_living(
-    alloc: Global,
-    out: &mut Vec<u8>,
-    told: Told<'_, '_>,
-    world: &World,
-) -> Result<(), AllocError>
-    ensures { OnOk result (out.new.items ≡ out.old.items
-        ++ def.living_lines told.entry.names.now told.entry.program.now world.now world.now.tasks
-        0) }
-{
-    for t in 0..world.records().tasks_born() {
-        say_if_living(alloc, out, told, world, t as u32)?;
-    }
-    Ok(())
 }

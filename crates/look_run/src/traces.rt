@@ -8,6 +8,7 @@ ghost use Rattle.look_run.specs.Lines as def;
 ghost use Rattle.look_run.specs.Output.{trace_fault_output};
 
 use crate::sentences::trace_sentence;
+use look_names::Said;
 use look_refusal::Explanation;
 use look_text::say;
 use std::alloc::{AllocError, Global};
@@ -44,7 +45,7 @@ fn line_number(text: &[u8], error: TraceError) -> u64
 }
 
 /// The bytes of a line, as they are shown.
-fn say_line(out: &mut Vec<u8>, line: Option<&[u8]>) -> Result<(), AllocError>
+fn say_line(out: &mut Vec<u8>, line: Option<&[u8]>) -> Said
     ensures { OnOk result (out.new.items ≡ out.old.items
         ++ def.shown_line (option_copied line.entry)) }
 {
@@ -55,12 +56,7 @@ fn say_line(out: &mut Vec<u8>, line: Option<&[u8]>) -> Result<(), AllocError>
 }
 
 /// The lines of a fault of a trace: where it is, the line itself, and what is wrong.
-fn say_fault(
-    alloc: Global,
-    out: &mut Vec<u8>,
-    text: &[u8],
-    error: TraceError,
-) -> Result<(), AllocError>
+fn say_fault(alloc: Global, out: &mut Vec<u8>, text: &[u8], error: TraceError) -> Said
     ensures { OnOk result (out.new.items ≡ out.old.items ++ def.trace_fault_lines text.now error) }
 {
     let number = trace_number(error);

@@ -21,7 +21,7 @@ closing w s =
 
 -- an instruction that is no misuse: what others notice of it, or that it asks something of them
 abbrev pub deed_of : World → Frame → Instr → Deed
-deed_of w f (instr.Open s joiner timed) = deed.Opens (length w.scopes)
+deed_of w f (instr.Open s timed joiner) = deed.Opens (length w.scopes)
 deed_of w f (instr.Fork s g h) = deed.Forks (length w.tasks)
 deed_of w f (instr.Join s failed timeout interrupted) = deed.Joins (named (slot f s))
 deed_of w f (instr.Close s) = closing w (named (slot f s))

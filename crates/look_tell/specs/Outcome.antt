@@ -7,7 +7,6 @@ use Rattle.sts_code.specs.declared.instr.Joiner.{Joiner}
 use Rattle.sts_code.specs.declared.instr.Joiner.TheVariants.{AllSucceed, AnySucceeds, AwaitOk}
 use Rattle.sts_code.specs.declared.instr.Joiner.TheVariants.{AwaitAll, Until}
 use Rattle.sts_model.specs.declared.event.End.{End}
-use Rattle.sts_model.specs.declared.event.End.TheVariants.{Success, Failed}
 use Rattle.sts_model.specs.declared.event.Phase.{Phase}
 use Rattle.sts_model.specs.declared.event.Phase.TheVariants as phase
 use Rattle.sts_model.specs.declared.record.Completion.{Completion}
@@ -18,6 +17,7 @@ use Rattle.sts_model.specs.Local.{operand}
 use Rattle.sts_model.specs.World.{scope_at, task_at}
 use Rattle.sts_output.specs.Printed.{fault_word}
 use Rattle.look_names.specs.Words as names
+use Rattle.look_run.specs.States.{end_words}
 use Rattle.look_tell.specs.declared.deed.Deed.{Deed}
 use Rattle.look_tell.specs.declared.deed.Deed.TheVariants as deed
 use Rattle.look_tell.specs.Story.{Story, function_of, pc_of, world_of}
@@ -108,10 +108,6 @@ closing_words text s scope cancels =
     codes ", begins to close scope " ++ decimal scope ++ cancels_words text s scope cancels
 
 -- ---- an end
-
-abbrev pub end_words : List ℕ → End → List ℕ
-end_words text (Success v) = codes "success " ++ shown_value text v
-end_words text (Failed c) = codes "failed " ++ shown_value text c
 
 -- the joiner is told, and may ask for a cancel then
 abbrev pub hearing_words : List ℕ → Story → ℕ → List ℕ

@@ -20,7 +20,7 @@ use Rattle.look_refusal.specs.Output.{fault_output}
 use Rattle.look_run.specs.Output.{trace_fault_output}
 use Rattle.look_options.specs.declared.stories.TellOptions.{TellOptions}
 use Rattle.look_tell.specs.Line.{lines_from}
-use Rattle.look_tell.specs.Outcome.{end_words}
+use Rattle.look_run.specs.States.{end_words}
 use Rattle.look_tell.specs.Story.{Story, begun, next, program_of, world_of}
 use Rattle.look_tell.specs.Words.{task_words}
 

@@ -1,14 +1,12 @@
 -- The words for a task, for the place that it is at, and for a list of tasks (this project's own).
-use Rattle.std.specs.Prelude.{ℕ, ℤ, pos, List, [], ◌∷◌, ◌++◌, ◌==◌, drop, length, codes, Bool}
-use Rattle.std.specs.Prelude.{if◌then◌else◌, slice_index_or}
+use Rattle.std.specs.Prelude.{ℕ, ℤ, List, [], ◌∷◌, ◌++◌, codes, Bool, if◌then◌else◌}
 use Rattle.std.specs.Fmt.{decimal}
-use Rattle.std.specs.List.{flat_map}
 use Rattle.sts_code.specs.Program.{Program}
 use Rattle.sts_model.specs.Living.{is_living_subtask}
 use Rattle.sts_model.specs.World.{task_at}
 use Rattle.sts_world.specs.Kept.{births}
 use Rattle.sts_world.specs.Lines as counted
-use Rattle.look_names.specs.Words.{function_words, said_words, value_words}
+use Rattle.look_names.specs.Words.{arguments_words, function_words, said_words, value_words}
 use Rattle.look_tell.specs.Story.{Story, function_of, given_to, pc_of, program_of, world_of}
 
 -- a value, a function, and the instruction at a place, with the names that the text gives them
@@ -20,17 +18,6 @@ shown_function text p f = function_words text p f
 
 unfoldable pub shown_sentence : List ℕ → ℕ → ℕ → List ℕ
 shown_sentence text f pc = said_words text f pc
-
--- `(1, 2)`
-unfoldable pub listed_words : List ℕ → ℤ → List ℤ → List ℕ
-listed_words text first others =
-    codes "(" ++ shown_value text first
-    ++ flat_map (λ x. codes ", " ++ shown_value text x) others ++ codes ")"
-
--- the arguments in brackets, if there are any
-abbrev pub arguments_words : List ℕ → List ℤ → List ℕ
-arguments_words text args =
-    if length args == 0 then [] else listed_words text (slice_index_or args 0 (pos 0)) (drop 1 args)
 
 -- `handle(1)`
 unfoldable pub called_words : List ℕ → Story → ℕ → List ℕ

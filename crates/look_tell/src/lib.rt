@@ -10,8 +10,7 @@ mod story;
 mod telling;
 mod words;
 
-pub use line::say_event;
-pub use outcome::say_end;
+pub use line::Telling;
 pub use story::Story;
 pub use telling::tell;
-pub use words::say_called;
+pub use words::Told;

@@ -7,9 +7,9 @@ ghost use Rattle.sts_output.specs.Output as cli;
 ghost use Rattle.look_refusal.specs.Stops.{Prints};
 ghost use Rattle.look_tell.specs.Telling as def;
 
-use crate::ends::say_end_lines;
 use crate::line::say_events;
 use crate::story::Story;
+use crate::words::Told;
 use look_names::Names;
 use look_options::TellOptions;
 use look_refusal::{ExplainError, Explanation, program_of, write_explained};
@@ -58,7 +58,8 @@ fn of_events(
     let told = up_to(events, options.last);
     say_events(alloc, &mut bytes, names, options, &mut story, told)?;
     if options.strict {
-        say_end_lines(alloc, &mut bytes, names, &story)?;
+        let story = &story;
+        Told { names, story }.say_end_lines(alloc, &mut bytes)?;
     }
     Ok(Explanation {
         bytes,

@@ -1,21 +1,25 @@
 //! The words for a task, for the place that it is at, and for a list of tasks.
 
-ghost use Rattle.std.specs.Prelude.{◌≡◌, ◌++◌, [], OnOk, codes, if◌then◌else◌};
+ghost use Rattle.std.specs.Prelude.{◌≡◌, ◌++◌, [], OnOk, if◌then◌else◌};
 ghost use Rattle.std.specs.Fmt.{decimal};
-ghost use Rattle.std.specs.List.{flat_map};
-ghost use Rattle.sts_model.specs.Living as living;
-ghost use Rattle.sts_model.specs.World as model;
 ghost use Rattle.look_tell.specs.Words as def;
 
 use crate::story::Story;
-use look_names::{Names, say_function, say_sentence, say_value};
+use look_names::{Names, Said, say_arguments, say_function, say_sentence, say_value};
+use look_run::is_living_subtask;
 use look_text::say;
-use std::alloc::{AllocError, Global};
+use std::alloc::Global;
 use sts_code::Program;
-use sts_world::Records;
+
+/// A story, and the names of its text.
+#[derive(Clone, Copy)]
+pub struct Told<'n, 't, 's, 'p> {
+    pub names: &'n Names<'t>,
+    pub story: &'s Story<'p>,
+}
 
 /// Appends a number.
-pub(crate) fn say_number(alloc: Global, out: &mut Vec<u8>, number: u32) -> Result<(), AllocError>
+pub(crate) fn say_number(alloc: Global, out: &mut Vec<u8>, number: u32) -> Said
     ensures { OnOk result (out.new.items ≡ out.old.items ++ decimal number) }
 {
     let word = format!(in alloc; "{number}")?;
@@ -24,12 +28,7 @@ pub(crate) fn say_number(alloc: Global, out: &mut Vec<u8>, number: u32) -> Resul
 
 /// Appends a value.
 #[tactic(auto, unfolding(crate::specs::Words::shown_value))]
-pub(crate) fn say_shown(
-    alloc: Global,
-    out: &mut Vec<u8>,
-    names: &Names<'_>,
-    value: i64,
-) -> Result<(), AllocError>
+pub(crate) fn say_shown(alloc: Global, out: &mut Vec<u8>, names: &Names<'_>, value: i64) -> Said
     ensures { OnOk result (out.new.items ≡ out.old.items ++ def.shown_value names.now value) }
 {
     say_value(alloc, out, names, value)
@@ -41,7 +40,7 @@ fn say_shown_function(
     names: &Names<'_>,
     program: &Program,
     function: u32,
-) -> Result<(), AllocError>
+) -> Said
     ensures { OnOk result (out.new.items ≡ out.old.items
         ++ def.shown_function names.now program.now function) }
 {
@@ -55,156 +54,19 @@ fn say_shown_sentence(
     names: &Names<'_>,
     function: u32,
     pc: u32,
-) -> Result<(), AllocError>
+) -> Said
     ensures { OnOk result (out.new.items ≡ out.old.items
         ++ def.shown_sentence names.now function pc) }
 {
     say_sentence(alloc, out, names, function, pc)
 }
 
-/// The arguments after the first one.
-fn say_more(
-    alloc: Global,
-    out: &mut Vec<u8>,
-    names: &Names<'_>,
-    values: &[i64],
-) -> Result<(), AllocError>
-    ensures { OnOk result (out.new.items ≡ out.old.items
-        ++ flat_map (λ x. codes ", " ++ def.shown_value names.now x) values.now) }
-{
-    for value in values {
-        say(out, ", ")?;
-        say_shown(alloc, out, names, *value)?;
-    }
-    Ok(())
-}
-
-/// The arguments in brackets.
-#[tactic(auto, unfolding(crate::specs::Words::listed_words))]
-fn say_listed(
-    alloc: Global,
-    out: &mut Vec<u8>,
-    names: &Names<'_>,
-    first: i64,
-    others: &[i64],
-) -> Result<(), AllocError>
-    ensures { OnOk result (out.new.items ≡ out.old.items
-        ++ def.listed_words names.now first others.now) }
-{
-    say(out, "(")?;
-    say_shown(alloc, out, names, first)?;
-    say_more(alloc, out, names, others)?;
-    say(out, ")")
-}
-
-/// The arguments in brackets, if there are any.
-fn say_arguments(
-    alloc: Global,
-    out: &mut Vec<u8>,
-    names: &Names<'_>,
-    values: &[i64],
-) -> Result<(), AllocError>
-    ensures { OnOk result (out.new.items ≡ out.old.items
-        ++ def.arguments_words names.now values.now) }
-{
-    if values.len() == 0 {
-        Ok(())
-    } else {
-        say_listed(alloc, out, names, values[0], &values[1..])
-    }
-}
-
 /// Appends words, if `holds` is true.
-pub(crate) fn say_if(out: &mut Vec<u8>, holds: bool, words: &str) -> Result<(), AllocError>
+pub(crate) fn say_if(out: &mut Vec<u8>, holds: bool, words: &str) -> Said
     ensures { OnOk result (out.new.items ≡ out.old.items
         ++ (if holds then words.now else [])) }
 {
     if holds { say(out, words) } else { Ok(()) }
-}
-
-/// Appends the function of a task and the arguments that it was forked with: `handle(1)`.
-///
-/// # Errors
-///
-/// Memory ran out; `out` may then have a part of it.
-#[tactic(auto, unfolding(crate::specs::Words::called_words))]
-pub fn say_called(
-    alloc: Global,
-    out: &mut Vec<u8>,
-    names: &Names<'_>,
-    story: &Story<'_>,
-    t: u32,
-) -> Result<(), AllocError>
-    ensures { OnOk result (out.new.items ≡ out.old.items
-        ++ def.called_words names.now story.now t) }
-{
-    say_shown_function(out, names, story.program(), story.function_of(t))?;
-    say_arguments(alloc, out, names, story.given_to(t))
-}
-
-/// Appends a task: `task 2, handle(1)`.
-#[tactic(auto, unfolding(crate::specs::Words::task_words))]
-pub(crate) fn say_task(
-    alloc: Global,
-    out: &mut Vec<u8>,
-    names: &Names<'_>,
-    story: &Story<'_>,
-    t: u32,
-) -> Result<(), AllocError>
-    ensures { OnOk result (out.new.items ≡ out.old.items
-        ++ def.task_words names.now story.now t) }
-{
-    say(out, "task ")?;
-    say_number(alloc, out, t)?;
-    say(out, ", ")?;
-    say_called(alloc, out, names, story, t)
-}
-
-/// Appends a task and the line that it is at: `task 2, handle(1), line 5: ret`.
-#[tactic(auto, unfolding(crate::specs::Words::place_words))]
-pub(crate) fn say_place_of(
-    alloc: Global,
-    out: &mut Vec<u8>,
-    names: &Names<'_>,
-    story: &Story<'_>,
-    t: u32,
-) -> Result<(), AllocError>
-    ensures { OnOk result (out.new.items ≡ out.old.items
-        ++ def.place_words names.now story.now t) }
-{
-    say_task(alloc, out, names, story, t)?;
-    say(out, ", ")?;
-    say_shown_sentence(alloc, out, names, story.function_of(t), story.pc_of(t))
-}
-
-/// Is the task a living subtask of the scope?
-fn is_living_subtask(records: &Records, s: u32, t: u32) -> bool
-    ensures { result ≡ living.is_living_subtask s (model.task_at records.now t) }
-{
-    match records.parent(t) {
-        None => false,
-        Some(parent) => parent == s && records.lives(t),
-    }
-}
-
-/// A task that lives, with these words before it.
-fn say_living_one(
-    alloc: Global,
-    out: &mut Vec<u8>,
-    names: &Names<'_>,
-    story: &Story<'_>,
-    lives: bool,
-    lead: &'static str,
-    t: u32,
-) -> Result<(), AllocError>
-    ensures { OnOk result (out.new.items ≡ out.old.items
-        ++ def.living_word names.now story.now lives lead.entry.now t) }
-{
-    if !lives {
-        return Ok(());
-    }
-    say(out, lead)?;
-    say_task(alloc, out, names, story, t)
 }
 
 /// The words before the next one that lives.
@@ -214,41 +76,109 @@ fn next_lead(lives: bool, lead: &'static str) -> &'static str
     if lives { " and " } else { lead }
 }
 
-/// The living ones of these tasks, if they are subtasks of the scope, with these words before the
-/// first.
-fn say_living_among(
-    alloc: Global,
-    out: &mut Vec<u8>,
-    names: &Names<'_>,
-    story: &Story<'_>,
-    s: u32,
-    lead: &'static str,
-    births: &[u32],
-) -> Result<(), AllocError>
-    ensures { OnOk result (out.new.items ≡ out.old.items
-        ++ def.living_among names.now story.now s lead.entry.now births.now) }
-{
-    let mut words = lead;
-    for t in births {
-        let lives = is_living_subtask(story.records(), s, *t);
-        say_living_one(alloc, out, names, story, lives, words, *t)?;
-        words = next_lead(lives, words);
+impl Told<'_, '_, '_, '_> {
+    /// Appends the function of a task and the arguments that it was forked with: `handle(1)`.
+    ///
+    /// # Errors
+    ///
+    /// Memory ran out; `out` may then have a part of it.
+    #[tactic(auto, unfolding(crate::specs::Words::called_words))]
+    pub fn say_called(self, alloc: Global, out: &mut Vec<u8>, t: u32) -> Said
+        ensures { OnOk result (out.new.items ≡ out.old.items
+            ++ def.called_words self.entry.names.now self.entry.story.now t) }
+    {
+        say_shown_function(
+            out,
+            self.names,
+            self.story.program(),
+            self.story.function_of(t),
+        )?;
+        say_arguments(alloc, out, self.names, self.story.given_to(t))
     }
-    Ok(())
-}
 
-/// Appends the living subtasks of a scope, with these words before the first.
-#[tactic(auto, unfolding(crate::specs::Words::living_words))]
-pub(crate) fn say_living(
-    alloc: Global,
-    out: &mut Vec<u8>,
-    names: &Names<'_>,
-    story: &Story<'_>,
-    lead: &'static str,
-    s: u32,
-) -> Result<(), AllocError>
-    ensures { OnOk result (out.new.items ≡ out.old.items
-        ++ def.living_words names.now story.now lead.entry.now s) }
-{
-    say_living_among(alloc, out, names, story, s, lead, story.world().subtasks(s))
+    /// Appends a task: `task 2, handle(1)`.
+    #[tactic(auto, unfolding(crate::specs::Words::task_words))]
+    pub(crate) fn say_task(self, alloc: Global, out: &mut Vec<u8>, t: u32) -> Said
+        ensures { OnOk result (out.new.items ≡ out.old.items
+            ++ def.task_words self.entry.names.now self.entry.story.now t) }
+    {
+        say(out, "task ")?;
+        say_number(alloc, out, t)?;
+        say(out, ", ")?;
+        self.say_called(alloc, out, t)
+    }
+
+    /// Appends a task and the line that it is at: `task 2, handle(1), line 5: ret`.
+    #[tactic(auto, unfolding(crate::specs::Words::place_words))]
+    pub(crate) fn say_place_of(self, alloc: Global, out: &mut Vec<u8>, t: u32) -> Said
+        ensures { OnOk result (out.new.items ≡ out.old.items
+            ++ def.place_words self.entry.names.now self.entry.story.now t) }
+    {
+        self.say_task(alloc, out, t)?;
+        say(out, ", ")?;
+        say_shown_sentence(
+            alloc,
+            out,
+            self.names,
+            self.story.function_of(t),
+            self.story.pc_of(t),
+        )
+    }
+
+    /// A task that lives, with these words before it.
+    fn say_living_one(
+        self,
+        alloc: Global,
+        out: &mut Vec<u8>,
+        lives: bool,
+        lead: &'static str,
+        t: u32,
+    ) -> Said
+        ensures { OnOk result (out.new.items ≡ out.old.items
+            ++ def.living_word self.entry.names.now self.entry.story.now lives lead.entry.now t) }
+    {
+        if !lives {
+            return Ok(());
+        }
+        say(out, lead)?;
+        self.say_task(alloc, out, t)
+    }
+
+    /// The living ones of these tasks, if they are subtasks of the scope, with these words before
+    /// the first.
+    fn say_living_among(
+        self,
+        alloc: Global,
+        out: &mut Vec<u8>,
+        s: u32,
+        lead: &'static str,
+        births: &[u32],
+    ) -> Said
+        ensures { OnOk result (out.new.items ≡ out.old.items
+            ++ def.living_among
+            self.entry.names.now self.entry.story.now s lead.entry.now births.now) }
+    {
+        let mut words = lead;
+        for t in births {
+            let lives = is_living_subtask(self.story.records(), s, *t);
+            self.say_living_one(alloc, out, lives, words, *t)?;
+            words = next_lead(lives, words);
+        }
+        Ok(())
+    }
+
+    /// Appends the living subtasks of a scope, with these words before the first.
+    #[tactic(auto, unfolding(crate::specs::Words::living_words))]
+    pub(crate) fn say_living(
+        self,
+        alloc: Global,
+        out: &mut Vec<u8>,
+        lead: &'static str,
+        s: u32,
+    ) -> Said
+        ensures { OnOk result (out.new.items ≡ out.old.items
+            ++ def.living_words self.entry.names.now self.entry.story.now lead.entry.now s) }
+    {
+        self.say_living_among(alloc, out, s, lead, self.story.world().subtasks(s))
+    }
 }

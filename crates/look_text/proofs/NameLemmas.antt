@@ -252,7 +252,7 @@ maybe_word {X} names s next same rest = step names s read (λ q. absurd (cc)) (�
 opened : (names : Names) → NamedFrom names w.OpenSlot (operated (Some names) m.Open)
 opened names =
     quiet_named names w.OpenSlot (operated (Some names) m.Open)
-    (λ ws. never_on (slot_at ws) _ (never_slot ws) (λ s. never_on (joiner_at s.1) _ (never_joiner s.1) (λ j. never_on (timed_at j.1) _ (never_timed j.1) (λ t. never_finished (i.Open s.0 j.0 t.0) t.1))))
+    (λ ws. never_on (slot_at ws) _ (never_slot ws) (λ s. never_on (joiner_at s.1) _ (never_joiner s.1) (λ j. never_on (timed_at j.1) _ (never_timed j.1) (λ t. never_finished (i.Open s.0 t.0 j.0) t.1))))
     (quiet_open names)
 
 forked : (names : Names) → NamedFrom names w.ForkSlot (operated (Some names) m.Fork)

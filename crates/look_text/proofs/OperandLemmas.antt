@@ -177,7 +177,7 @@ joiner build = one w.Joiner (opening joiner_at build) (allows (opening joiner_at
     by word false e q = one_word word (looked_up joiners word) e refl (or_other (bytes_eq word (codes "until")) (is_some (looked_up joiners word)) e q)
 
 opened : StopsFrom w.OpenSlot (operated None m.Open)
-opened = slot_word w.OpenSlot (λ s ws. joiner_at ws >>= λ j. (timed_at j.1 >>= λ t. finished (i.Open s j.0 t.0) t.1)) (λ word. refl) (allows (operated None m.Open) (codes "s0" ∷ codes "until" ∷ codes "failed" ∷ codes "0" ∷ []) _ refl) (λ word s. joiner (λ j t. i.Open s j t))
+opened = slot_word w.OpenSlot (λ s ws. joiner_at ws >>= λ j. (timed_at j.1 >>= λ t. finished (i.Open s t.0 j.0) t.1)) (λ word. refl) (allows (operated None m.Open) (codes "s0" ∷ codes "until" ∷ codes "failed" ∷ codes "0" ∷ []) _ refl) (λ word s. joiner (λ j t. i.Open s t j))
 
 -- ---- `fork`, `join`, `case` and `tally`
 

@@ -1,7 +1,7 @@
 //! The commands that the program knows, in the form that `clap` takes.
 
 ghost use Rattle.std.specs.Prelude.{◌≡◌, IfOk, Ok, codes, false, true};
-ghost use Rattle.clap.specs.Words.{App, app_of, new_app, new_rule, rule_of};
+ghost use Rattle.clap.specs.Words.{App, Rule, app_of, new_app, new_rule, rule_of};
 ghost use Rattle.clap.specs.Words.{with_rule, with_subcommand};
 ghost use Rattle.clap.specs.declared.builder.Command.TheViews.{out-Command};
 ghost use Rattle.sts_args.specs.Command as def;
@@ -61,11 +61,12 @@ pub fn on_trace<'a>(alloc: Global, name: &'a str, about: &'a str) -> Result<Comm
         ≡ with_rule (with_rule (new_app name.entry.now) def.file_rule) def.trace_rule) }
     ensures local { IfOk result (λ c. (out-Command c).has_globals ≡ false) }
 {
-    on_file(alloc, name, about)?.arg(needed(
+    let trace = needed(
         alloc,
         "TRACE",
         "a trace: lines `step N`, `interrupt N` and `expire N`",
-    ))
+    );
+    with_argument(on_file(alloc, name, about), trace)
 }
 
 /// The command that takes workers, and may take outside events and write a trace.
@@ -73,24 +74,25 @@ fn run<'a>(alloc: Global) -> Result<Command<'a>, AllocError>
     ensures app { IfOk result (λ c. app_of c ≡ def.run) }
     ensures local { IfOk result (λ c. (out-Command c).has_globals ≡ false) }
 {
-    on_file(
+    let command = on_file(
         alloc,
         "run",
         "Verifies, then runs with N threads; prints the budgets and the result",
-    )?
-    .arg(workers(alloc))?
-    .arg(option(
+    );
+    let outside = option(
         alloc,
         "outside",
         "FILE",
         "outside events: lines `at N interrupt T` and `at N expire S`",
-    ))?
-    .arg(option(
+    );
+    let trace = option(
         alloc,
         "trace",
         "FILE",
         "where the journal is written, as a trace",
-    ))
+    );
+    let command = with_argument(command, workers(alloc));
+    with_argument(with_argument(command, outside), trace)
 }
 
 /// The program with no command yet.
@@ -104,6 +106,25 @@ fn bare<'a>(alloc: Global) -> Command<'a>
              and does what `plain` does.",
         )
         .subcommand_required(true)
+}
+
+/// Adds an argument, if the command was made.
+///
+/// # Errors
+///
+/// Memory ran out, or it had for the command.
+pub fn with_argument<'a>(
+    command: Result<Command<'a>, AllocError>,
+    argument: Arg<'a>,
+) -> Result<Command<'a>, AllocError>
+    ensures app { (a : App) → (r : Rule) → Makes a command.entry → rule_of argument.entry ≡ r
+        → argument.entry.global ≡ false → Makes (with_rule a r) result }
+    ensures local { IsLocal command.entry → argument.entry.global ≡ false → IsLocal result }
+{
+    match command {
+        Ok(command) => command.arg(argument),
+        Err(error) => Err(error),
+    }
 }
 
 /// Two values, if both were made.

@@ -6,5 +6,5 @@ mod command;
 mod reading;
 
 pub use asked::LineError;
-pub use command::{on_file, on_trace, with_subcommand};
+pub use command::{on_file, on_trace, with_argument, with_subcommand};
 pub use reading::{line, text_of, told, trace_of, unknown};

@@ -10,4 +10,5 @@ pub mod TableLemmas
 pub mod TextLemmas
 pub mod SourceLemmas
 pub mod KeptLemmas
+pub mod SettledLemmas
 pub mod TakenLemmas

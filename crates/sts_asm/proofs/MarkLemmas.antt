@@ -14,6 +14,17 @@ find_if false m r = refl
 pub marked_cons : (m : Mark) (ms : List Mark) (q : List ℕ) → marked (m ∷ ms) q ≡ cond (bytes_eq m.name q) (Some m.at) (marked ms q)
 marked_cons m ms q = find_if (bytes_eq m.name q) m (find (λ (k : Mark). bytes_eq k.name q) ms)
 
+later_if : (b : Bool) (x y : ℕ) (r s : Option ℕ) → (r ≡ Some y → s ≡ Some y) → cond b (Some x) r ≡ Some y → cond b (Some x) s ≡ Some y
+later_if true x y r s h e = e
+later_if false x y r s h e = h e
+
+-- what a name means stays, if more names are added
+pub marked_later : (ms more : List Mark) (q : List ℕ) (y : ℕ) → marked ms q ≡ Some y → marked (ms ++ more) q ≡ Some y
+marked_later [] more q y e = absurd (cc)
+marked_later (m ∷ ms) more q y e =
+    marked_cons m (ms ++ more) q
+    ∙ later_if (bytes_eq m.name q) m.at y (marked ms q) (marked (ms ++ more) q) (marked_later ms more q y) (sym (marked_cons m ms q) ∙ e)
+
 or_if : (b : Bool) (x : ℕ) (r s t : Option ℕ) → t ≡ option_or r s → cond b (Some x) t ≡ option_or (cond b (Some x) r) s
 or_if true x r s t e = refl
 or_if false x r s t e = e

@@ -37,6 +37,7 @@ use Rattle.sts_asm.specs.declared.mnemonic.Targeted.{Targeted}
 use Rattle.sts_asm.specs.declared.mnemonic.Targeted.TheVariants as targeted
 use Rattle.sts_asm.specs.Line.{plain_words, numbered_words, slotted_words, other_words, with_number}
 use Rattle.sts_asm.specs.Line.{with_slot, with_target, operated, known, mnemonic_of, instr_of, sample}
+use Rattle.sts_asm.proofs.TextLemmas.{bind_ok}
 use Rattle.sts_asm.specs.Table.{Spells, IsLabel, IsMaybeLabel, IsFunction, IsHandle, IsKind}
 use Rattle.sts_asm.specs.Table.{IsWord, IsJoiner, IsTimed, ReadByTable}
 
@@ -103,7 +104,7 @@ spelled_read names (i.Forget x) words (r, e, (o, s, f, (w, g, h), l)) = rw (e, f
 spelled_read names (i.Div to) words (r, e, (o, s, f, (w, g, h), l)) = rw (e, f, g, l, h.0, h.1) refl
 spelled_read names (i.Jmp to) words (r, e, (o, s, f, (w, g, h), l)) = rw (e, f, g, l, h.0, h.1) refl
 spelled_read names (i.Jz to) words (r, e, (o, s, f, (w, g, h), l)) = rw (e, f, g, l, h.0, h.1) refl
-spelled_read names (i.Open x j t) words (r, e, (o, s, f, (w, g, h), (js, u, k, m, (ts, v, n, q, l)))) = rw (e, f, g, k, n, l, h, append-nil ts, joiner_read j js ts m, timed_read t ts q) refl
+spelled_read names (i.Open x t j) words (r, e, (o, s, f, (w, g, h), (js, u, k, m, (ts, v, n, q, l)))) = rw (e, f, g, k, n, l, h, append-nil ts, joiner_read j js ts m, timed_read t ts q) refl
 spelled_read names (i.Fork x f h) words (r, e, (o, s, a, (w, b, c), (o1, s1, a1, (w1, b1, c1), (o2, s2, a2, (w2, b2, c2), l)))) = rw (e, a, b, a1, b1, a2, b2, l, c, c1.0, c1.1, handle_read h w2 c2) refl
 spelled_read names (i.Join x f t to) words (r, e, (o, s, a, (w, b, c), (o1, s1, a1, (w1, b1, c1), (o2, s2, a2, (w2, b2, c2), (o3, s3, a3, (w3, b3, c3), l))))) = rw (e, a, b, a1, b1, a2, b2, a3, b3, l, c, maybe_read names f w1 (w2 ∷ w3 ∷ []) c1, maybe_read names t w2 (w3 ∷ []) c2, target_read names to w3 [] c3) refl
 spelled_read names (i.Case h x f) words (r, e, (o, s, a, (w, b, c), (o1, s1, a1, (w1, b1, c1), (o2, s2, a2, (w2, b2, c2), l)))) = rw (e, a, b, a1, b1, a2, b2, l, c, target_read names x w1 (w2 ∷ []) c1, target_read names f w2 [] c2) refl
@@ -111,10 +112,6 @@ spelled_read names (i.Tally x k) words (r, e, (o, s, a, (w, b, c), (o1, s1, a1, 
 spelled_read names _ words (r, e, l) = rw (e, l) refl
 
 -- ---- from what is read to the table
-
-bind_ok : {A B E : Type 0} (r : Result A E) (f : A → Result B E) (y : B) → (r >>= f) ≡ Ok y → (x : A) × (r ≡ Ok x) × (f x ≡ Ok y)
-bind_ok (Ok x) f y e = (x, refl, e)
-bind_ok (Err k) f y e = cc
 
 wanted_ok : {A : Type 0} (k : AsmKind) (o : Option A) (rest : List (List ℕ)) (p : A × List (List ℕ)) → wanted k o rest ≡ Ok p → (o ≡ Some p.0) × (rest ≡ p.1)
 wanted_ok k None rest p e = cc
@@ -310,12 +307,12 @@ right Times none names rest instr e =
     let f = finished_ok (i.Times b.0.0) instr b.0.1 b.2 in
     rw (← f.1) (rest, refl, (n.0 ∷ [], b.0.1, n.1, (n.0, refl, n.2), f.0))
 right Open none names rest instr e =
-    let a = bind_ok (slot_at rest) (λ s. joiner_at s.1 >>= λ j. timed_at j.1 >>= λ t. finished (i.Open s.0 j.0 t.0) t.1) instr e in
-    let b = bind_ok (joiner_at a.0.1) (λ j. timed_at j.1 >>= λ t. finished (i.Open a.0.0 j.0 t.0) t.1) instr a.2 in
-    let c = bind_ok (timed_at b.0.1) (λ t. finished (i.Open a.0.0 b.0.0 t.0) t.1) instr b.2 in
+    let a = bind_ok (slot_at rest) (λ s. joiner_at s.1 >>= λ j. timed_at j.1 >>= λ t. finished (i.Open s.0 t.0 j.0) t.1) instr e in
+    let b = bind_ok (joiner_at a.0.1) (λ j. timed_at j.1 >>= λ t. finished (i.Open a.0.0 t.0 j.0) t.1) instr a.2 in
+    let c = bind_ok (timed_at b.0.1) (λ t. finished (i.Open a.0.0 t.0 b.0.0) t.1) instr b.2 in
     let s = slot_found rest a.0 a.1 in
     let j = joiner_found a.0.1 b.0 b.1 in
-    let f = finished_ok (i.Open a.0.0 b.0.0 c.0.0) instr c.0.1 c.2 in
+    let f = finished_ok (i.Open a.0.0 c.0.0 b.0.0) instr c.0.1 c.2 in
     let t = timed_found b.0.1 c.0 c.1 f.0 in
     rw (← f.1) (rest, refl, (s.0 ∷ [], a.0.1, s.1, (s.0, refl, s.2), (j.front, b.0.1, j.whole, j.is, (b.0.1, [], sym (append-nil b.0.1), t, refl))))
 right Fork none names rest instr e =

@@ -40,6 +40,10 @@ err_bind r f e h = rw h refl
 pub ok_bind : {A B E : Type 0} (r : Result A E) (f : A → Result B E) (x : A) → r ≡ Ok x → (r >>= f) ≡ f x
 ok_bind r f x h = rw h refl
 
+pub bind_ok : {A B E : Type 0} (r : Result A E) (f : A → Result B E) (y : B) → (r >>= f) ≡ Ok y → (x : A) × (r ≡ Ok x) × (f x ≡ Ok y)
+bind_ok (Ok x) f y e = (x, refl, e)
+bind_ok (Err k) f y e = cc
+
 -- a fault of the line that is read next is the text's first
 pub outline_fails : (at : ℕ) (o : Outline) (e : AsmError) (line : List ℕ) (more : List (List ℕ)) (rest text : List ℕ) → lines_read at o (lines rest) ≡ lines_read 1 empty (lines text) → lines rest ≡ line ∷ more → FailsAt e e.kind (at_line at (line_read at o line)) → FailsAt e e.kind (outline_of text)
 outline_fails at o e line more rest text read cut h =

@@ -80,7 +80,7 @@ sample (WithSlot m) = with_slot m 0
 sample (WithTarget m) = with_target m 0
 sample Push = i.Push (pos 0)
 sample Times = i.Times 0
-sample Open = i.Open 0 AwaitAll false
+sample Open = i.Open 0 false AwaitAll
 sample Fork = i.Fork 0 0 None
 sample Join = i.Join 0 None None 0
 sample Case = i.Case 0 0 0
@@ -131,7 +131,7 @@ mnemonic_of word =
 abbrev pub open_at : List (List ℕ) → Result Instr AsmKind
 open_at words =
     slot_at words >>= λ s. joiner_at s.1 >>= λ j. timed_at j.1
-    >>= λ t. finished (i.Open s.0 j.0 t.0) t.1
+    >>= λ t. finished (i.Open s.0 t.0 j.0) t.1
 
 -- a slot, a function, and a slot or `_`
 abbrev pub fork_at : Option Names → List (List ℕ) → Result Instr AsmKind

@@ -3,19 +3,20 @@
 ghost use Rattle.std.specs.Prelude.{◌≡◌, ◌<◌, ◌≤◌, ◌+◌, ◌++◌, ◌∷◌, [], length, IfOk, OnOk};
 ghost use Rattle.std.specs.Prelude.{if◌then◌else◌};
 ghost use Rattle.sts_asm.specs.Kept as def;
-ghost use Rattle.sts_asm.specs.Kept.{AreTaken, IsKept};
+ghost use Rattle.sts_asm.specs.Kept.{AreTaken, IsKept, IsShortened};
 ghost use Rattle.sts_asm.specs.Line.{has_names};
-ghost use Rattle.sts_asm.specs.Outline.{Outline, size_of};
+ghost use Rattle.sts_asm.specs.Outline.{Draft, Outline, size_of};
 
-use crate::marks::Marks;
+use crate::marks::{Marks, Names};
 use crate::outline::{Draft, Lines, Outline, Sentence};
-use crate::resolving::has_names;
+use crate::resolving::{fill, has_names};
 use std::alloc::{AllocError, Global};
 use std::marker::Model;
 use sts_code::Instr;
 
-/// A function that has ended: its instructions as they were read without names, and the lines that
-/// are read again, since they name a label or a function.
+/// A function that has ended: its instructions, and the lines that are read again after the last
+/// line of the text. These are all lines that name a label or a function, if one of the names wasn't
+/// known yet when the function ended, or else none.
 #[derive(Drop)]
 pub(crate) struct Kept<'a> {
     pub(crate) name: &'a str,
@@ -74,7 +75,7 @@ fn naming_lines<'a>(
 
 /// Keeps what is needed of a function, and drops its other lines.
 fn shortened<'a>(alloc: Global, draft: Draft<'a>) -> Result<Kept<'a>, AllocError>
-    ensures { IfOk result (IsKept draft.entry) }
+    ensures { IfOk result (IsShortened draft.entry) }
 {
     let Draft {
         name,
@@ -95,6 +96,41 @@ fn shortened<'a>(alloc: Global, draft: Draft<'a>) -> Result<Kept<'a>, AllocError
     })
 }
 
+/// Looks up the names of a function that has ended, and drops its labels and lines. If a name isn't
+/// known yet, labels and lines are kept: it may name a later function, or it may be a fault of the
+/// text, but not its first.
+fn settled<'a>(alloc: Global, functions: &Marks<'a>, kept: Kept<'a>) -> Kept<'a>
+    ensures { (d : Draft) → IsShortened d kept.entry → IsKept functions.now d result }
+{
+    let Kept {
+        name,
+        args,
+        needs,
+        labels,
+        again,
+        code,
+    } = kept;
+    let mut code = code;
+    if fill(&Names::new(&labels, functions), again.as_slice(), &mut code).is_ok() {
+        return Kept {
+            name,
+            args,
+            needs,
+            labels: Marks::new(alloc),
+            again: Vec::new(alloc),
+            code,
+        };
+    }
+    Kept {
+        name,
+        args,
+        needs,
+        labels,
+        again,
+        code,
+    }
+}
+
 /// Takes the first function that was not taken yet out of the outline, and keeps what is needed.
 #[inline(never)]
 fn keep_next<'a>(
@@ -110,7 +146,8 @@ fn keep_next<'a>(
     ensures more { OnOk result (length all.new.items ≡ length all.old.items + 1) }
 {
     let draft = outline.take(all.len());
-    let function = shortened(alloc, draft)?;
+    let kept = shortened(alloc, draft)?;
+    let function = settled(alloc, &outline.functions, kept);
     all.push(function)?;
     Ok(())
 }

@@ -1,10 +1,10 @@
 //! Looks up the names of a text, and makes its functions a program.
 
-ghost use Rattle.std.specs.Prelude.{◌≡◌, Some};
+ghost use Rattle.std.specs.Prelude.{◌≡◌, Some, true, map, OnErr};
 ghost use Rattle.sts_code.specs.Checks.{program_fault};
 ghost use Rattle.sts_text.specs.Words.{words as words_in};
-ghost use Rattle.sts_asm.specs.Fault.{Judges};
-ghost use Rattle.sts_asm.specs.Kept.{filled, routine_of, program_of};
+ghost use Rattle.sts_asm.specs.Fault.{Judges, StepsAt};
+ghost use Rattle.sts_asm.specs.Kept.{are_naming, without_names, filled, routine_of, program_of};
 ghost use Rattle.sts_asm.specs.Line.{has_names, instr_of};
 ghost use Rattle.sts_asm.specs.Text.{each, instr_at, checked};
 
@@ -58,27 +58,29 @@ fn instr_at(names: &Names<'_, '_>, sentence: &Sentence<'_>) -> Result<Instr, Asm
     }
 }
 
-/// The instructions of a function. Those that name something are read again, from their lines.
-fn filled(
+/// Reads the instructions of a function that name something again, from their lines. After a fault,
+/// those that name nothing are as they were.
+pub(crate) fn fill(
     names: &Names<'_, '_>,
     again: &[Sentence<'_>],
-    code: Vec<Instr>,
-) -> Result<Vec<Instr>, AsmError>
-    ensures { Judges (λ code. code.items) result
-        (filled (instr_at names.now) again.now code.items) }
+    code: &mut Vec<Instr>,
+) -> Result<(), AsmError>
+    ensures steps { StepsAt result code.new.items
+        (filled (instr_at names.now) again.now code.old.items) }
+    ensures same { OnErr result (are_naming again.now ≡ true →
+        map without_names code.new.items ≡ map without_names code.old.items) }
 {
-    let mut code = code;
     let mut next = 0;
     for at in 0..code.len() {
         if next == again.len() {
-            return Ok(code);
+            return Ok(());
         }
         if has_names(&code[at]) {
             code[at] = instr_at(names, &again[next])?;
             next += 1;
         }
     }
-    Ok(code)
+    Ok(())
 }
 
 fn routine_of<'a>(
@@ -96,8 +98,8 @@ fn routine_of<'a>(
         again,
         code,
     } = kept;
-    let names = Names::new(&labels, functions);
-    let code = filled(&names, again.as_slice(), code)?;
+    let mut code = code;
+    fill(&Names::new(&labels, functions), again.as_slice(), &mut code)?;
     let name = String::from_str(alloc, name)?;
     Ok(Function {
         name,

@@ -138,7 +138,7 @@ opened_alone m false k = refl
 
 -- the sums after an instruction come from those before it
 pub front_of : (m : Measure) (i : Instr) (es : List OpenEntry) (d : ℕ) → FitsNames i (names es) → d ≤ length (names_after i (names es)) → front m (entries_of i es) d ≡ front m es (source_of (measured m i (names es)) (length (names es)) d) + added_of (measured m i (names es)) (length (names es)) d
-front_of m (Open x j timed) es d fits le = front_opened m (OpenScope x []) es (length (names es)) d (long es) ∙ opened_alone m (ltb (length (names es)) d) (front m es (min d (length (names es))))
+front_of m (Open x timed j) es d fits le = front_opened m (OpenScope x []) es (length (names es)) d (long es) ∙ opened_alone m (ltb (length (names es)) d) (front m es (min d (length (names es))))
 front_of m (Fork x g h) es d fits le = front_forked m x g es d fits
 front_of m (Close x) es d fits le = front_closed m es d fits le
 front_of m (Bind k) es d fits le = front_opened m OpenBinding es (length (names es)) d (long es)
@@ -151,7 +151,7 @@ low_dropped (n ∷ ns) d le = omega arith
 
 -- it depends on no more entries than are open
 pub source_low : (m : Measure) (i : Instr) (ns : EntryNames) (d : ℕ) → d ≤ length (names_after i ns) → source_of (measured m i ns) (length ns) d ≤ length ns
-source_low m (Open x j timed) ns d le = omega arith
+source_low m (Open x timed j) ns d le = omega arith
 source_low m (Close x) ns d le = low_dropped ns d le
 source_low m (Bind k) ns d le = omega arith
 source_low m Unbind ns d le = low_dropped ns d le
@@ -159,6 +159,6 @@ source_low m _ ns d le = le
 
 -- and on the same ones among the first x
 pub source_kept : (m : Measure) (i : Instr) (ns : EntryNames) (d x : ℕ) → x ≤ length ns → min (source_of (measured m i ns) (length ns) d) x ≡ min d x
-source_kept m (Open x j timed) ns d u le = omega arith
+source_kept m (Open x timed j) ns d u le = omega arith
 source_kept m (Bind k) ns d u le = omega arith
 source_kept m _ ns d u le = refl

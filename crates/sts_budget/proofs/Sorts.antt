@@ -260,7 +260,7 @@ sort p code pc (Read x) = goes_on (single p code pc (Read x) (λ s. moved p (Rea
 sort p code pc (Bound x) = goes_on (single p code pc (Bound x) (λ s. moved p (Bound x) s) refl refl refl (λ hs. refl) (λ s. refl) (λ s. refl) (λ s. refl))
 sort p code pc (OrElse x) = goes_on (single p code pc (OrElse x) (λ s. moved p (OrElse x) s) refl refl refl (λ hs. refl) (λ s. refl) (λ s. refl) (λ s. refl))
 sort p code pc Interrupted = goes_on (single p code pc Interrupted (λ s. moved p Interrupted s) refl refl refl (λ hs. refl) (λ s. refl) (λ s. refl) (λ s. refl))
-sort p code pc (Open x j timed) = goes_on (single p code pc (Open x j timed) (λ s. record s { entries = Scope (record { slot = x; joiner = j; timed = timed; phase = Opened }) ∷ s.entries; slots = slice_set s.slots x Own }) refl refl refl (λ hs. refl) (λ s. refl) (λ s. refl) (λ s. refl))
+sort p code pc (Open x timed j) = goes_on (single p code pc (Open x timed j) (λ s. record s { entries = Scope (record { slot = x; joiner = j; timed = timed; phase = Opened }) ∷ s.entries; slots = slice_set s.slots x Own }) refl refl refl (λ hs. refl) (λ s. refl) (λ s. refl) (λ s. refl))
 sort p code pc (Close x) = goes_on (single p code pc (Close x) (λ s. record s { entries = drop 1 s.entries; slots = cleared x s.slots }) refl refl refl (λ hs. refl) (λ s. refl) (λ s. refl) (λ s. names_dropped s.entries))
 sort p code pc (Forget h) = goes_on (single p code pc (Forget h) (λ s. with_slot (Some h) Empty s) refl refl refl (λ hs. refl) (λ s. refl) (λ s. refl) (λ s. refl))
 sort p code pc (Bind k) = goes_on (single p code pc (Bind k) (λ s. record (moved p (Bind k) s) { entries = Binding k ∷ s.entries }) refl refl refl (λ hs. refl) (λ s. refl) (λ s. refl) (λ s. refl))

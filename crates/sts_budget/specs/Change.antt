@@ -37,7 +37,7 @@ position_of slot (None ∷ ns) = position_of slot ns
 position_of slot (Some s ∷ ns) = if s == slot then length ns else position_of slot ns
 
 abbrev pub measured : Measure → Instr → EntryNames → SumChange
-measured m (Open slot joiner timed) ns = Opens m.scope
+measured m (Open slot timed joiner) ns = Opens m.scope
 measured m (Bind key) ns = Opens m.binding
 measured m (Fork slot function handle) ns = Adds (position_of slot ns) (m.subtask function)
 measured m _ ns = Rises 0

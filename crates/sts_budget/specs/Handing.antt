@@ -20,7 +20,7 @@ is_quiet _ = false
 -- it counts one step, and changes no other sum
 abbrev pub is_ordinary : Instr → Bool
 is_ordinary Next = false
-is_ordinary (Open slot joiner timed) = false
+is_ordinary (Open slot timed joiner) = false
 is_ordinary (Bind key) = false
 is_ordinary (Fork slot function handle) = false
 is_ordinary (Close slot) = false

@@ -15,7 +15,7 @@ EntryNames = List (Option ℕ)
 
 -- the names after an instruction
 abbrev pub names_after : Instr → EntryNames → EntryNames
-names_after (Open slot joiner timed) ns = Some slot ∷ ns
+names_after (Open slot timed joiner) ns = Some slot ∷ ns
 names_after (Bind key) ns = None ∷ ns
 names_after (Close slot) ns = drop 1 ns
 names_after Unbind ns = drop 1 ns

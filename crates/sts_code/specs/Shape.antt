@@ -65,7 +65,7 @@ shape (i.Jmp to) = row (codes "jmp") (Label to ∷ []) 0 0 Leaves
 shape (i.Jz to) = row (codes "jz") (Label to ∷ []) 1 0 Branches
 shape (i.Times n) = row (codes "times") (Turns n ∷ []) 1 0 Branches
 shape i.Next = row (codes "next") [] 0 0 Branches
-shape (i.Open s joiner timed) =
+shape (i.Open s timed joiner) =
     row (codes "open") (InSlot Fill s ∷ Rule joiner ∷ Timed timed ∷ []) 0 0 Steps
 shape (i.Fork s f h) =
     row (codes "fork") (InSlot Owner s ∷ Function f ∷ Handle h ∷ []) 0 0 Steps

@@ -57,8 +57,8 @@ pub enum Instr {
     Next,
     Open {
         slot: u8,
-        joiner: Joiner,
         timed: bool,
+        joiner: Joiner,
     },
     Fork {
         slot: u8,

@@ -1,6 +1,7 @@
 -- What the last of some local instructions came from.
-use Rattle.std.proofs.Common.{◌≡◌, ℕ, suc, List, Bool, true, false, Option, Some, None, refl, sym, cond, slice_get}
+use Rattle.std.proofs.Common.{◌≡◌, List, Bool, true, false, Option, Some, None, refl, sym, cond, slice_get}
 use Rattle.std.specs.Prelude.{option_map}
+use Rattle.std.proofs.lemmas.Option.{same_Some}
 use Rattle.sts_code.specs.declared.instr.Instr.{Instr}
 use Rattle.sts_model.specs.declared.record.Frame.{Frame}
 use Rattle.sts_model.specs.Local.{is_local, local}
@@ -15,15 +16,12 @@ pub record Last (is : List Instr) (o : Option Frame) (g : Frame) : Type 0 where
   pub is_local : is_local instr ≡ true
   pub next : g ≡ local is instr frame
 
-pub just : {X : Type 0} (x y : X) → Some x ≡ Some y → x ≡ y
-just x y e = cc
-
 pub last : (is : List Instr) (o : Option Frame) (g : Frame) → and_local is o ≡ Some g → Last is o g
 last is None g e = absurd (cc)
 last is (Some f) g e = by (slice_get is f.pc) refl e
   where
     so : (i : Instr) (b : Bool) → slice_get is f.pc ≡ Some i → is_local i ≡ b → option_map (λ j. local is j f) (cond b (Some i) None) ≡ Some g → Last is (Some f) g
-    so i true at l e = record { frame = f; instr = i; before = refl; at = at; is_local = l; next = sym (just _ _ e) }
+    so i true at l e = record { frame = f; instr = i; before = refl; at = at; is_local = l; next = sym (same_Some _ _ e) }
     so i false at l e = absurd (cc)
 
     by : (q : Option Instr) → slice_get is f.pc ≡ q → option_map (λ j. local is j f) (if_local q) ≡ Some g → Last is (Some f) g

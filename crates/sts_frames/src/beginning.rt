@@ -5,7 +5,7 @@ ghost use Rattle.sts_code.specs.declared.limits.TheConstants.{LAST_SLOT};
 ghost use Rattle.sts_model.specs.World as def;
 ghost use Rattle.sts_model.specs.declared.record.Slot.TheVariants.{Empty};
 
-use sts_model::{Frame, Slot, Stack};
+use sts_model::{Entries, Frame, KeptSlot, Slot, Stack};
 
 /// The frame at the beginning of a function without arguments, for a task that is in no scope.
 pub fn root_frame(function: u32) -> Frame
@@ -29,15 +29,15 @@ pub fn entry_frame(function: u32, args: u8, forker: &Frame, slot: Slot) -> Frame
 fn at_beginning(function: u32, locals: [i64; 16], slot: Slot) -> Frame
     ensures { result ≡ record (def.entry_frame function [] slot) { locals = locals } }
 {
-    let mut slots = [Slot::Empty; 16];
-    slots[0] = slot;
+    let mut slots = [KeptSlot::new(Slot::Empty); 16];
+    slots[0] = KeptSlot::new(slot);
     Frame {
         function,
         pc: 0,
         operands: Stack::new(),
         locals,
         loops: Stack::new(),
-        entries: Stack::new(),
+        entries: Entries::new(),
         slots,
     }
 }
@@ -50,6 +50,9 @@ fn entry_locals(args: usize, forker: &Frame) -> [i64; 16]
     ensures { result ≡ def.entry_locals (reverse (take args forker.now.operands)) }
 {
     let mut locals = [0i64; 16];
+    if args == 0 {
+        return locals;
+    }
     let operands = forker.operands.as_slice();
     locals[..args].copy_from_slice(&operands[operands.len() - args..]);
     locals

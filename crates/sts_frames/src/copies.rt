@@ -2,7 +2,7 @@
 
 ghost use Rattle.std.specs.Prelude.{◌≡◌, []};
 
-use sts_model::{Frame, Stack};
+use sts_model::{Entries, Entry, Frame, Stack};
 
 /// Fills an empty stack with the values of another.
 fn fill<T: Default + Copy + Drop, const N: usize>(stack: &mut Stack<T, N>, from: &Stack<T, N>)
@@ -12,6 +12,17 @@ fn fill<T: Default + Copy + Drop, const N: usize>(stack: &mut Stack<T, N>, from:
     let len = from.len();
     for i in 0..len {
         stack.push(from.get_or(len - 1 - i, T::default()));
+    }
+}
+
+/// Fills an empty structure list with the entries of another.
+fn fill_entries(entries: &mut Entries, from: &Entries)
+    requires { entries.old ≡ [] }
+    ensures { entries.new ≡ from.now }
+{
+    let len = from.len();
+    for i in 0..len {
+        entries.push(from.get_or(len - 1 - i, Entry::Scope(0)));
     }
 }
 
@@ -33,12 +44,12 @@ pub fn copy_frame(frame: &Frame) -> Frame
         operands: Stack::new(),
         locals: frame.locals,
         loops: Stack::new(),
-        entries: Stack::new(),
+        entries: Entries::new(),
         slots: frame.slots,
     };
     fill(&mut copy.operands, &frame.operands);
     fill(&mut copy.loops, &frame.loops);
-    fill(&mut copy.entries, &frame.entries);
+    fill_entries(&mut copy.entries, &frame.entries);
     copy
 }
 

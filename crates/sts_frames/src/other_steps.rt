@@ -8,7 +8,7 @@ ghost use Rattle.sts_model.specs.declared.record.Entry.TheVariants as entry;
 ghost use Rattle.sts_model.specs.declared.record.Slot.TheVariants.{Empty, Own};
 
 use crate::slots::set_slot;
-use sts_model::{Entry, Frame, Slot};
+use sts_model::{Entry, Frame, KeptSlot, Slot};
 
 /// Pops `n` operands.
 pub fn steps(frame: &mut Frame, n: usize)
@@ -56,7 +56,7 @@ pub fn leave_entry(frame: &mut Frame)
 }
 
 /// Leaves the innermost entry, with these slots.
-pub fn leave_scope(frame: &mut Frame, slots: [Slot; 16])
+pub fn leave_scope(frame: &mut Frame, slots: [KeptSlot; 16])
     requires { frame.old.pc + 1 < 2 ^ 32 }
     ensures { frame.new ≡ record (def.steps frame.old 0 []) {
       entries = drop 1 frame.old.entries;

@@ -5,13 +5,16 @@ ghost use Rattle.sts_model.specs.Effect as effect;
 ghost use Rattle.sts_model.specs.Misuse as misuse;
 
 use sts_code::LAST_SLOT;
-use sts_model::{Frame, Slot};
+use sts_model::{Frame, KeptSlot, Slot};
 
 /// The content of a slot. There is nothing above the last slot.
 pub fn slot(frame: &Frame, x: u8) -> Slot
     ensures { result ≡ misuse.slot frame.now x }
 {
-    frame.slots.get(x as usize).copied().unwrap_or(Slot::Empty)
+    match frame.slots.get(x as usize) {
+        Some(kept) => kept.get(),
+        None => Slot::Empty,
+    }
 }
 
 /// Does a slot hold nothing?
@@ -33,10 +36,10 @@ pub fn named(frame: &Frame, x: u8) -> u32
 }
 
 /// Fills a slot. A slot above the last changes nothing.
-pub fn set_slot(slots: &mut [Slot; 16], x: u8, slot: Slot)
+pub fn set_slot(slots: &mut [KeptSlot; 16], x: u8, slot: Slot)
     ensures { slots.new ≡ slice_set slots.old x slot }
 {
     if x <= LAST_SLOT {
-        slots[x as usize] = slot;
+        slots[x as usize] = KeptSlot::new(slot);
     }
 }

@@ -8,7 +8,7 @@ use Rattle.std.specs.Str.{bytes_eq}
 use Rattle.std.proofs.lemmas.Slice.Eq.{bytes_eq-Decides}
 use Rattle.std.proofs.lemmas.Bool.Decides.{nat_tests}
 use Rattle.std.proofs.lemmas.Bool.{not-false}
-use Rattle.sts_code.proofs.CheckedLemmas.{neither}
+use Rattle.sts_code.proofs.CheckedLemmas.{neither, no_test}
 use Rattle.sts_code.specs.Name.{is_name}
 use Rattle.sts_code.specs.Program.{Routine, no_routine}
 use Rattle.sts_code.specs.Checks.{has_bad_target, forks_later, has_bad_range, instr_cause, fault_at}
@@ -28,10 +28,6 @@ use Rattle.sts_list.proofs.FunctionLemmas.{names_from}
 
 -- ---- what it says that no check fails
 
-none_if : {A : Type 0} (b : Bool) (x : A) (r : Option A) → cond b (Some x) r ≡ None → (b ≡ false) × (r ≡ None)
-none_if true x r e = cc
-none_if false x r e = (refl, e)
-
 no_fault_at : (at pc : ℕ) (cause : Option CodeCause) → fault_at at pc cause ≡ None → cause ≡ None
 no_fault_at at pc None e = refl
 no_fault_at at pc (Some c) e = cc
@@ -44,9 +40,9 @@ pub record IsChecked (at n : ℕ) (instr : Instr) : Type 0 where
 
 instr_checked : (at n : ℕ) (instr : Instr) → instr_cause at n instr ≡ None → IsChecked at n instr
 instr_checked at n instr e =
-    let a = none_if (has_bad_target n instr) BadTarget (cond (forks_later at instr) (Some LaterFunction) (cond (has_bad_range instr) (Some BadRange) None)) e in
-    let b = none_if (forks_later at instr) LaterFunction (cond (has_bad_range instr) (Some BadRange) None) a.1 in
-    let c = none_if (has_bad_range instr) BadRange None b.1 in
+    let a = no_test (has_bad_target n instr) BadTarget (cond (forks_later at instr) (Some LaterFunction) (cond (has_bad_range instr) (Some BadRange) None)) e in
+    let b = no_test (forks_later at instr) LaterFunction (cond (has_bad_range instr) (Some BadRange) None) a.1 in
+    let c = no_test (has_bad_range instr) BadRange None b.1 in
     record { target = a.0; fork = b.0; range = c.0 }
 
 code_checked : (at n pc : ℕ) (code : List Instr) → code_fault at n pc code ≡ None → AllByRecursion (IsChecked at n) code
@@ -68,9 +64,9 @@ routine_checked earlier r e =
     let h = neither (fault_at (length earlier) 0 (routine_cause earlier r)) (code_fault (length earlier) (length r.code) 0 r.code) e in
     let bad = not (is_name r.name) || nat_lt 8 r.args || length r.code == 0 in
     let taken = cond (list_any (is_named r.name) earlier) (Some DuplicateName) None in
-    let a = none_if (nat_lt 4096 (length r.code)) TooLong (cond bad (Some BadRange) taken) (no_fault_at (length earlier) 0 (routine_cause earlier r) h.0) in
-    let b = none_if bad BadRange taken a.1 in
-    let c = none_if (list_any (is_named r.name) earlier) DuplicateName None b.1 in
+    let a = no_test (nat_lt 4096 (length r.code)) TooLong (cond bad (Some BadRange) taken) (no_fault_at (length earlier) 0 (routine_cause earlier r) h.0) in
+    let b = no_test bad BadRange taken a.1 in
+    let c = no_test (list_any (is_named r.name) earlier) DuplicateName None b.1 in
     let d = either (not (is_name r.name) || nat_lt 8 r.args) (length r.code == 0) b.0 in
     let f = either (not (is_name r.name)) (nat_lt 8 r.args) d.0 in
     record { name = not-false (is_name r.name) f.0; args = grind (arith, nat_tests, f.1); short = grind (arith, nat_tests, a.0); new = c.0; code = code_checked (length earlier) (length r.code) 0 r.code h.1 }
@@ -87,7 +83,7 @@ routines_checked earlier (r ∷ rest) e =
 
 pub program_checked : (rs : List Routine) → program_fault rs ≡ None → AreChecked [] rs
 program_checked rs e =
-    let a = none_if (nat_lt 64 (length rs)) (record { cause = TooManyFunctions; function = 0; pc = 0 }) (option_or (routines_fault [] rs) (cond (ends_with_main rs) None (Some (record { cause = NoMain; function = 0; pc = 0 })))) e in
+    let a = no_test (nat_lt 64 (length rs)) (record { cause = TooManyFunctions; function = 0; pc = 0 }) (option_or (routines_fault [] rs) (cond (ends_with_main rs) None (Some (record { cause = NoMain; function = 0; pc = 0 })))) e in
     let b = neither (routines_fault [] rs) (cond (ends_with_main rs) None (Some (record { cause = NoMain; function = 0; pc = 0 }))) a.1 in
     routines_checked [] rs b.0
 

@@ -6,6 +6,7 @@ use Rattle.std.specs.List.{AllByRecursion}
 use Rattle.std.specs.Str.{bytes_eq}
 use Rattle.std.proofs.lemmas.Fmt.{decimal_injective}
 use Rattle.std.proofs.lemmas.Slice.Eq.{bytes_eq-Decides}
+use Rattle.std.proofs.lemmas.Bool.{false_from_ne_true}
 use Rattle.sts_code.specs.Program.{Program}
 use Rattle.sts_code.specs.declared.instr.Instr.{Instr}
 use Rattle.sts_text.specs.Words.{lines}
@@ -22,12 +23,8 @@ use Rattle.sts_list.proofs.LineLemmas.{IsGood, label_line_read, instr_line_read,
 abbrev pub Fresh : List Mark → ℕ → Type 0
 Fresh marks pc = (q : ℕ) → pc ≤ q → q < 10000 → marked marks (label q) ≡ None
 
-not_same : (b : Bool) → (b ≡ true → ⊥) → b ≡ false
-not_same true h = absurd (h refl)
-not_same false h = refl
-
 pub labels_differ : (m n : ℕ) → m < 10000 → n < 10000 → (m ≡ n → ⊥) → bytes_eq (label m) (label n) ≡ false
-labels_differ m n h k differ = not_same (bytes_eq (label m) (label n)) (λ (e : bytes_eq (label m) (label n) ≡ true).
+labels_differ m n h k differ = false_from_ne_true (bytes_eq (label m) (label n)) (λ (e : bytes_eq (label m) (label n) ≡ true).
     differ (decimal_injective m n (omega arith) (omega arith) (ap (drop 1) ((bytes_eq-Decides (label m) (label n)).0 e))))
 
 fresh_more : (marks : List Mark) (pc : ℕ) → pc < 10000 → Fresh marks pc → Fresh (marks ++ record { name = label pc; at = pc } ∷ []) (pc + 1)

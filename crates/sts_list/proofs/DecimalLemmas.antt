@@ -7,10 +7,10 @@ use Rattle.std.specs.Fmt.{decimal, signed_decimal}
 use Rattle.std.proofs.lemmas.Fmt.{digits_decimal, digits_value-decimal, decimal_nonempty}
 use Rattle.std.proofs.lemmas.Fmt.{length-decimal-le}
 use Rattle.std.proofs.lemmas.Bool.Decides.{nat_tests}
-use Rattle.std.proofs.lemmas.Bool.{and_parts, and_from}
+use Rattle.std.proofs.lemmas.Bool.{and_parts}
 use Rattle.sts_code.specs.Name.{is_name, is_name_byte}
-use Rattle.sts_text.specs.Number.{is_digits, number, number_up_to, up_to}
-use Rattle.sts_text.proofs.NumberLemmas.{own}
+use Rattle.sts_text.specs.Number.{number, number_up_to, up_to}
+use Rattle.sts_text.proofs.NumberLemmas.{own, decimal_is_digits}
 use Rattle.sts_asm.specs.Operand as operand
 use Rattle.sts_list.specs.Spelling.{label, slot}
 use Rattle.sts_list.specs.RoundTrip.{IsValue}
@@ -25,12 +25,6 @@ digit_name b e = grind (arith, nat_tests)
 pub digits_of : (n : ℕ) → n < 2 ^ 64 → list_all is_ascii_digit (decimal n) ≡ true
 digits_of n h = digits_decimal own n h
 
-pub are_digits : (n : ℕ) → n < 2 ^ 64 → is_digits (decimal n) ≡ true
-are_digits n h =
-    let filled = decimal_nonempty n h in
-    let t : not (length (decimal n) == 0) ≡ true = grind (arith, nat_tests, filled) in
-    and_from (not (length (decimal n) == 0)) (list_all is_ascii_digit (decimal n)) t (digits_of n h)
-
 pub decimal_word : (n : ℕ) → n < 2 ^ 64 → IsWord (decimal n)
 decimal_word n h = record { filled = decimal_nonempty n h; plain = all_implied is_ascii_digit is_plain digit_plain (decimal n) (digits_of n h) }
 
@@ -42,7 +36,7 @@ pub positive_read : (n : ℕ) → n < 2 ^ 63 → number (decimal n) ≡ Some (po
 positive_read n h =
     let wide : n < 2 ^ 64 = omega arith in
     let small : nat_lt n (2 ^ 63) ≡ true = grind (arith, nat_tests) in
-    rw (no_minus_at (decimal n) (digits_of n wide), are_digits n wide, digits_value-decimal own n wide, small) refl
+    rw (no_minus_at (decimal n) (digits_of n wide), decimal_is_digits n wide, digits_value-decimal own n wide, small) refl
 
 pub number_read : (most n : ℕ) → n ≤ most → n < 2 ^ 63 → number_up_to most (decimal n) ≡ Some n
 number_read most n h small =
@@ -53,7 +47,7 @@ negative_read : (n : ℕ) → n < 2 ^ 63 → number (45 ∷ decimal (suc n)) ≡
 negative_read n h =
     let wide : suc n < 2 ^ 64 = omega arith in
     let small : nat_le (suc n) (2 ^ 63) ≡ true = grind (arith, nat_tests) in
-    rw (are_digits (suc n) wide, digits_value-decimal own (suc n) wide, small) refl
+    rw (decimal_is_digits (suc n) wide, digits_value-decimal own (suc n) wide, small) refl
 
 pub value_read : (v : ℤ) → IsValue v → number (signed_decimal v) ≡ Some v
 value_read (pos n) h = positive_read n h
@@ -67,7 +61,7 @@ pub slot_read : (s : ℕ) → s ≤ 255 → operand.slot (slot s) ≡ Some s
 slot_read s h =
     let wide : s < 2 ^ 64 = omega arith in
     let t : nat_le s 255 ≡ true = grind (arith, nat_tests) in
-    rw (are_digits s wide, digits_value-decimal own s wide, t) refl
+    rw (decimal_is_digits s wide, digits_value-decimal own s wide, t) refl
 
 pub slot_word : (s : ℕ) → s < 2 ^ 64 → IsWord (slot s)
 slot_word s h = record { filled = omega arith; plain = (decimal_word s h).plain }

@@ -179,7 +179,7 @@ FitAll (operand ∷ more) = FitAll more
 
 fit_all : (instr : Instr) → FitsInstr instr → FitAll (shape instr).operands
 fit_all (i.Push k) f = (f, tt)
-fit_all (i.Open s joiner timed) f = (f, tt)
+fit_all (i.Open s timed joiner) f = (f, tt)
 fit_all _ f = tt
 
 fit_split : (operand : Operand) (more : List Operand) → FitAll (operand ∷ more) → FitsOperand operand × FitAll more

@@ -30,7 +30,7 @@ FitsJoiner joiner = ⊤
 -- its values are of 64 bits
 abbrev pub FitsInstr : Instr → Type 0
 FitsInstr (i.Push k) = IsValue k
-FitsInstr (i.Open s joiner timed) = FitsJoiner joiner
+FitsInstr (i.Open s timed joiner) = FitsJoiner joiner
 FitsInstr instr = ⊤
 
 -- it says of sixteen keys whether it needs them, and its values are of 64 bits

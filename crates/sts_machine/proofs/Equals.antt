@@ -17,13 +17,16 @@ use Rattle.sts_model.specs.contracts.record.SlotPartialEq.TheImpl as slot_eq
 decided : {X : Type 0} (E : X → X → Bool) → ((a b : X) → E a b ≡ true → a ≡ b) → ((a : X) → E a a ≡ true) → (a b : X) → Decides (E a b) (a ≡ b)
 decided E to from a b = (to a b, λ e. subst (λ x. E a x ≡ true) e (from a))
 
+-- a comparison of two lists is one of the lists in reverse
+pub turned : {X : Type 0} → (xs ys a b : List X) (r : Bool) → reverse xs ≡ a → reverse ys ≡ b → Decides r (xs ≡ ys) → Decides r (a ≡ b)
+turned xs ys a b r p q d = (
+  λ t. sym p ∙ ap reverse (d.0 t) ∙ q,
+  λ h. d.1 (sym (reverse-reverse xs) ∙ ap reverse (p ∙ h ∙ sym q) ∙ reverse-reverse ys),
+)
+
 -- two stacks, which are seen in reverse
 pub stacks : {X : Type 0} {E : X → X → Bool} → ((a b : X) → Decides (E a b) (a ≡ b)) → (xs ys a b : List X) (r : Bool) → reverse xs ≡ a → reverse ys ≡ b → r ≡ pointwise E xs ys → Decides r (a ≡ b)
-stacks each xs ys a b r p q e =
-    let d = slice_eq-Decides each xs ys r e in (
-      λ t. sym p ∙ ap reverse (d.0 t) ∙ q,
-      λ h. d.1 (sym (reverse-reverse xs) ∙ ap reverse (p ∙ h ∙ sym q) ∙ reverse-reverse ys),
-    )
+stacks each xs ys a b r p q e = turned xs ys a b r p q (slice_eq-Decides each xs ys r e)
 
 pub each_loop : (a b : Loop) → Decides (loop_eq.eq-value.it a b) (a ≡ b)
 each_loop = decided loop_eq.eq-value.it (λ a b e. grind arith) (λ a. grind arith)

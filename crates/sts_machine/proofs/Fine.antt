@@ -74,7 +74,7 @@ module _ (p : Program) (v : Live) (t x : ℕ) (lives : lives_in v t ≡ true) (o
 
 -- a local instruction
 pub local_effect : (p : Program) (v : Live) (t : ℕ) (f : Frame) (i : Instr) → is_local i ≡ true → live_effect p v t f i ≡ with_live_frame v t (local (code p f) i f)
-local_effect p v t f (Open x joiner timed) e = cc
+local_effect p v t f (Open x timed joiner) e = cc
 local_effect p v t f (Fork x g h) e = cc
 local_effect p v t f (Join x failed timeout interrupted) e = cc
 local_effect p v t f (Close x) e = cc

@@ -47,7 +47,7 @@ bool-from false = refl
 all_three : (a b c : Bool) → a ≡ true → b ≡ true → c ≡ true → (a && (b && c)) ≡ true
 all_three a b c p q r = simp (p, q, r)
 
-same_open : (s s' : ℕ) (j j' : Joiner) (t t' : Bool) → s ≡ s' → j ≡ j' → t ≡ t' → Open s j t ≡ Open s' j' t'
+same_open : (s s' : ℕ) (j j' : Joiner) (t t' : Bool) → s ≡ s' → j ≡ j' → t ≡ t' → Open s t j ≡ Open s' t' j'
 same_open s s' j j' t t' a b c = rw (a, b, c) refl
 
 -- ---- the same where the test holds
@@ -116,11 +116,11 @@ to_next : (b : Instr) → instr_eq.eq-value.it Next b ≡ true → Next ≡ b
 to_next Next e = refl
 to_next b e = absurd (false≢true e)
 
-to_open : (s : ℕ) (j : Joiner) (t : Bool) (b : Instr) → instr_eq.eq-value.it (Open s j t) b ≡ true → Open s j t ≡ b
-to_open s j t (Open s' j' t') e =
+to_open : (s : ℕ) (j : Joiner) (t : Bool) (b : Instr) → instr_eq.eq-value.it (Open s t j) b ≡ true → Open s t j ≡ b
+to_open s j t (Open s' t' j') e =
     let p = and_parts (eqb s s') _ e in
-    let q = and_parts (joiner_eq.eq-value.it j j') _ p.1 in
-    same_open s s' j j' t t' (eqb-true s s' p.0) (joiner-to j j' q.0) (bool-to t t' q.1)
+    let q = and_parts (bool_eq.ghosts.eq t t') _ p.1 in
+    same_open s s' j j' t t' (eqb-true s s' p.0) (joiner-to j j' q.1) (bool-to t t' q.0)
 to_open s j t b e = absurd (false≢true e)
 
 to_fork : (s f : ℕ) (h : Option ℕ) (b : Instr) → instr_eq.eq-value.it (Fork s f h) b ≡ true → Fork s f h ≡ b
@@ -218,7 +218,7 @@ to (Jmp x) b e = to_jmp x b e
 to (Jz x) b e = to_jz x b e
 to (Times x) b e = to_times x b e
 to Next b e = to_next b e
-to (Open s j t) b e = to_open s j t b e
+to (Open s t j) b e = to_open s j t b e
 to (Fork s f h) b e = to_fork s f h b e
 to (Join s f t i) b e = to_join s f t i b e
 to (Close x) b e = to_close x b e
@@ -242,7 +242,7 @@ to Fail b e = to_fail b e
 
 from : (a : Instr) → instr_eq.eq-value.it a a ≡ true
 from (Push x) = (Decides-int_eq x x).1 refl
-from (Open s j t) = all_three (eqb s s) (joiner_eq.eq-value.it j j) (bool_eq.ghosts.eq t t) (eq-eqb s s refl) (joiner-from j) (bool-from t)
+from (Open s t j) = all_three (eqb s s) (bool_eq.ghosts.eq t t) (joiner_eq.eq-value.it j j) (eq-eqb s s refl) (bool-from t) (joiner-from j)
 from a = grind arith
 
 pub each_instr : (a b : Instr) → Decides (instr_eq.eq-value.it a b) (a ≡ b)

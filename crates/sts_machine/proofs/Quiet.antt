@@ -193,7 +193,7 @@ quiet-tell v t (Some s) end =
 -- ---- every instruction
 
 pub quiet-effect : (p : Program) (v : Live) (t : ℕ) (i : Instr) → is_quiet i ≡ true → IsQuiet v (live_effect p v t (alive_at v t).frame i)
-quiet-effect p v t (Open x joiner timed) e = cc
+quiet-effect p v t (Open x timed joiner) e = cc
 quiet-effect p v t (Fork x g h) e = cc
 quiet-effect p v t (Close x) e = cc
 quiet-effect p v t (Bind k) e = cc
@@ -208,7 +208,7 @@ quiet-effect p v t Next e = quiet-frame v t _ (ap (λ es. count_by is_binding es
 quiet-effect p v t i e = quiet-frame v t _ refl
 
 pub local_quiet : (i : Instr) → is_local i ≡ true → is_quiet i ≡ true
-local_quiet (Open x joiner timed) e = cc
+local_quiet (Open x timed joiner) e = cc
 local_quiet (Fork x g h) e = cc
 local_quiet (Close x) e = cc
 local_quiet (Bind k) e = cc

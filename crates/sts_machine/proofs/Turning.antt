@@ -106,7 +106,7 @@ living_few (x ∷ xs) =
 
 -- the numbers that count are below the budgets, so there is room
 left : (b : Budgets) (v : Live) (u : Unseen) (f : Frame) (i : Instr) → HasRoomOf b v u → LiveHasRoomFor b v f i → HasRoomLeft u f i
-left b v u f (Open x joiner timed) h less = let both = h.scopes in omega (arith, both, less)
+left b v u f (Open x timed joiner) h less = let both = h.scopes in omega (arith, both, less)
 left b v u f (Bind key) h less = let both = h.binds in omega (arith, both, less)
 left b v u f (Fork x g handle) h less =
     λ s own.

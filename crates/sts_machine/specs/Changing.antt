@@ -13,7 +13,7 @@ use Rattle.sts_machine.specs.Room.{living_tasks}
 
 -- does it leave the numbers of tasks, scopes and bindings unchanged, and nothing to record?
 abbrev pub is_quiet : Instr → Bool
-is_quiet (Open x joiner timed) = false
+is_quiet (Open x timed joiner) = false
 is_quiet (Fork x g h) = false
 is_quiet (Close x) = false
 is_quiet (Bind k) = false

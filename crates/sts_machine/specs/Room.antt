@@ -27,7 +27,7 @@ pub record HasRoomOf (b : Budgets) (v : Live) (u : Unseen) : Type 0 where
 
 -- there is room for what this instruction of a frame opens, binds or forks
 abbrev pub HasRoomLeft : Unseen → Frame → Instr → Type 0
-HasRoomLeft u f (Open x joiner timed) = 0 < u.scope_room
+HasRoomLeft u f (Open x timed joiner) = 0 < u.scope_room
 HasRoomLeft u f (Bind key) = 0 < u.binding_room
 HasRoomLeft u f (Fork x g h) =
     (s : ℕ) → slot f x ≡ Own s → (0 < u.task_room) × (0 < u.frame_room)

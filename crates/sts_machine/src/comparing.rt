@@ -3,7 +3,7 @@
 ghost use Rattle.std.specs.Prelude.{◌≡◌, ◌↔◌, IsTrue};
 
 use sts_code::Instr;
-use sts_model::{Entry, Frame, Loop, Slot, Stack};
+use sts_model::{Entries, Frame, KeptEntry, KeptSlot, Loop, Stack};
 
 fn same_operands(a: &Stack<i64, 32>, b: &Stack<i64, 32>) -> bool
     ensures { IsTrue result ↔ a.now ≡ b.now }
@@ -17,10 +17,31 @@ fn same_loops(a: &Stack<Loop, 8>, b: &Stack<Loop, 8>) -> bool
     a.as_slice() == b.as_slice()
 }
 
-fn same_entries(a: &Stack<Entry, 16>, b: &Stack<Entry, 16>) -> bool
+#[tactic(auto, using(crate::proofs::Equals::each_entry))]
+fn same_entry(a: KeptEntry, b: KeptEntry) -> bool
+    ensures { IsTrue result ↔ a ≡ b }
+{
+    a.get() == b.get()
+}
+
+fn same_kept(a: &[KeptEntry], b: &[KeptEntry]) -> bool
     ensures { IsTrue result ↔ a.now ≡ b.now }
 {
-    a.as_slice() == b.as_slice()
+    if a.len() != b.len() {
+        return false;
+    }
+    for i in 0..a.len() {
+        if !same_entry(a[i], b[i]) {
+            return false;
+        }
+    }
+    true
+}
+
+fn same_entries(a: &Entries, b: &Entries) -> bool
+    ensures { IsTrue result ↔ a.now ≡ b.now }
+{
+    same_kept(a.as_slice(), b.as_slice())
 }
 
 fn same_locals(a: &[i64; 16], b: &[i64; 16]) -> bool
@@ -29,10 +50,22 @@ fn same_locals(a: &[i64; 16], b: &[i64; 16]) -> bool
     a == b
 }
 
-fn same_slots(a: &[Slot; 16], b: &[Slot; 16]) -> bool
+#[tactic(auto, using(crate::proofs::Equals::each_slot))]
+fn same_slot(a: KeptSlot, b: KeptSlot) -> bool
+    ensures { IsTrue result ↔ a ≡ b }
+{
+    a.get() == b.get()
+}
+
+fn same_slots(a: &[KeptSlot; 16], b: &[KeptSlot; 16]) -> bool
     ensures { IsTrue result ↔ a.now ≡ b.now }
 {
-    a == b
+    for i in 0..a.len() {
+        if !same_slot(a[i], b[i]) {
+            return false;
+        }
+    }
+    true
 }
 
 /// Are two frames the same, by value?

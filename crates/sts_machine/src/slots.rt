@@ -5,16 +5,18 @@ ghost use Rattle.sts_model.specs.Effect as effect;
 ghost use Rattle.sts_model.specs.Misuse as misuse;
 ghost use Rattle.sts_model.specs.declared.record.Slot.TheVariants.{Empty};
 
-use sts_model::{Frame, Slot};
+use sts_model::{Frame, KeptSlot, Slot};
 
-fn slot_at(slots: &[Slot; 16], x: u8) -> Slot
+#[inline(always)]
+fn slot_at(slots: &[KeptSlot; 16], x: u8) -> Slot
     ensures { result ≡ slice_index_or slots.now x Empty }
 {
     let x = x as usize;
-    if x < 16 { slots[x] } else { Slot::Empty }
+    if x < 16 { slots[x].get() } else { Slot::Empty }
 }
 
 /// The content of a slot.
+#[inline(always)]
 pub(crate) fn slot(frame: &Frame, x: u8) -> Slot
     ensures { result ≡ misuse.slot frame.now x }
 {

@@ -201,7 +201,7 @@ take_flag w t f =
 
 -- does it make a task, a scope or a completion?
 abbrev pub takes_memory : Instr → Bool
-takes_memory (Open s joiner timed) = true
+takes_memory (Open s timed joiner) = true
 takes_memory (Fork s g h) = true
 takes_memory Ret = true
 takes_memory Fail = true
@@ -225,7 +225,7 @@ moved p w t f (OrElse k) =
 moved p w t f i = local (code p f) i f
 
 abbrev pub effect : Program → World → ℕ → Frame → Instr → World
-effect p w t f (Open s joiner timed) = open_scope w t f s joiner timed
+effect p w t f (Open s timed joiner) = open_scope w t f s joiner timed
 effect p w t f (Fork s g h) = fork_task p w t f (named (slot f s)) g h
 effect p w t f (Join s failed timeout interrupted) =
     join_scope w t f (named (slot f s)) (unwrap_or failed 0) (unwrap_or timeout 0) interrupted

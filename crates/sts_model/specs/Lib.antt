@@ -2,6 +2,7 @@ pub mod Cancelling
 pub mod Effect
 pub mod Environment
 pub mod Joining
+pub mod Kept
 pub mod Live
 pub mod Living
 pub mod Local

@@ -138,7 +138,7 @@ is_crowded standing born = nat_le MAX_STANDING standing || nat_le MAX_BIRTHS bor
 
 -- no room for an entry, a scope or a task
 abbrev pub has_no_room : World → Frame → Instr → Bool
-has_no_room w f (Open s j timed) =
+has_no_room w f (Open s timed j) =
     nat_le MAX_ENTRIES (length f.entries) || is_crowded (standing_scopes w) (length w.scopes)
 has_no_room w f (Bind k) = nat_le MAX_ENTRIES (length f.entries)
 has_no_room w f (Fork s g h) = is_crowded (standing_tasks w) (length w.tasks)

@@ -54,7 +54,7 @@ forked slot function (OpenScope s subtasks ∷ es) =
 
 -- the open entries after an instruction, the innermost first
 abbrev pub entries_of : Instr → List OpenEntry → List OpenEntry
-entries_of (Open slot joiner timed) es = OpenScope slot [] ∷ es
+entries_of (Open slot timed joiner) es = OpenScope slot [] ∷ es
 entries_of (Bind key) es = OpenBinding ∷ es
 entries_of (Close slot) es = drop 1 es
 entries_of Unbind es = drop 1 es

@@ -224,7 +224,7 @@ breaks_structure _ s = false
 
 -- V14: `open`, `bind` with 16 entries in the structure list
 abbrev pub is_nested : Instr → TypeState → Bool
-is_nested (Open x j timed) s = nat_le MAX_ENTRIES (length s.entries)
+is_nested (Open x timed j) s = nat_le MAX_ENTRIES (length s.entries)
 is_nested (Bind k) s = nat_le MAX_ENTRIES (length s.entries)
 is_nested _ s = false
 

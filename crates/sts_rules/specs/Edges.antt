@@ -123,7 +123,7 @@ follows p code pc (Times n) s = (
 )
     ∷ map (λ to. (to, moved p (Times n) s)) (skipped_to code pc (Times n))
 follows p code pc Next s = (pc + 1, record s { loops = drop 1 s.loops }) ∷ []
-follows p code pc (Open x j timed) s = (
+follows p code pc (Open x timed j) s = (
   pc + 1,
   record s {
     entries = Scope

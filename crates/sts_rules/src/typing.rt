@@ -38,9 +38,9 @@ pub enum TypedPhase {
 #[derive(Clone, Copy, Debug, PartialEq, Eq)]
 pub struct TypedScope {
     pub slot: u8,
-    pub joiner: Joiner,
     pub timed: bool,
     pub phase: TypedPhase,
+    pub joiner: Joiner,
 }
 
 /// An entry of the structure list: a scope, or the binding of a key.

@@ -3,7 +3,7 @@
 ghost use Rattle.std.specs.Prelude.{◌≡◌, true};
 
 use crate::same::{Same, same_slices, same_stacks};
-use sts_model::{Completion, Entry, Frame, Loop, Slot};
+use sts_model::{Completion, Entry, Frame, KeptEntry, KeptSlot, Loop, Slot};
 
 impl Same for Slot {
     fn same(&self, other: &Slot) -> bool {
@@ -14,6 +14,18 @@ impl Same for Slot {
 impl Same for Entry {
     fn same(&self, other: &Entry) -> bool {
         *self == *other
+    }
+}
+
+impl Same for KeptSlot {
+    fn same(&self, other: &KeptSlot) -> bool {
+        self.get() == other.get()
+    }
+}
+
+impl Same for KeptEntry {
+    fn same(&self, other: &KeptEntry) -> bool {
+        self.get() == other.get()
     }
 }
 
@@ -36,7 +48,7 @@ impl Same for Frame {
             && same_stacks(&self.operands, &other.operands)
             && same_slices(&self.locals, &other.locals)
             && same_stacks(&self.loops, &other.loops)
-            && same_stacks(&self.entries, &other.entries)
+            && same_slices(self.entries.as_slice(), other.entries.as_slice())
             && same_slices(&self.slots, &other.slots)
     }
 }

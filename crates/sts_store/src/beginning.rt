@@ -7,7 +7,7 @@ ghost use Rattle.sts_model.specs.World as def;
 use crate::running::Running;
 use sts_env::Env;
 use sts_frames::root_frame;
-use sts_model::{Frame, Slot};
+use sts_model::{Frame, KeptSlot, Slot};
 use sts_records::Held;
 
 /// A frame at place 0, with these locals, and this slot 0.
@@ -16,7 +16,7 @@ fn first_frame(function: u32, locals: &[i64; 16], slot: Slot) -> Frame
 {
     let mut frame = root_frame(function);
     frame.locals = *locals;
-    frame.slots[0] = slot;
+    frame.slots[0] = KeptSlot::new(slot);
     frame
 }
 
@@ -31,8 +31,9 @@ fn begin_over(frame: &mut Frame, function: u32, locals: &[i64; 16], slot: Slot)
     frame.loops.drop_top(frame.loops.len());
     frame.entries.drop_top(frame.entries.len());
     frame.locals = *locals;
-    frame.slots = [Slot::Empty; 16];
-    frame.slots[0] = slot;
+    let mut slots = [KeptSlot::new(Slot::Empty); 16];
+    slots[0] = KeptSlot::new(slot);
+    frame.slots = slots;
 }
 
 /// Gives the next birth the frame at place 0, with these locals, this slot 0 and this environment.

@@ -18,7 +18,7 @@ use crate::store::Store;
 use sts_cancel::cancel;
 use sts_env::Env;
 use sts_frames::{is_empty, leave_entry};
-use sts_model::{Phase, Slot, Stand};
+use sts_model::{KeptSlot, Phase, Slot, Stand};
 use sts_tree::Tree;
 
 /// The scope that a task is a subtask of, if the task counts and has one.
@@ -46,20 +46,20 @@ fn is_of(tree: &Tree<Env>, s: u32, slot: Slot) -> bool
 
 /// Empties a slot that owns the scope or names a subtask of it.
 #[inline(never)]
-fn clear_one(slot: &mut Slot, tree: &Tree<Env>, s: u32)
+fn clear_one(slot: &mut KeptSlot, tree: &Tree<Env>, s: u32)
     ensures { slot.new ≡ (if is_slot_of tree.now s slot.old then Empty else slot.old) }
 {
-    if is_of(tree, s, *slot) {
-        *slot = Slot::Empty;
+    if is_of(tree, s, slot.get()) {
+        *slot = KeptSlot::new(Slot::Empty);
     }
 }
 
 /// Empties the slots that own the scope or name a subtask of it.
-fn clear(slots: &mut [Slot; 16], tree: &Tree<Env>, s: u32)
+fn clear(slots: &mut [KeptSlot; 16], tree: &Tree<Env>, s: u32)
     ensures { slots.new ≡ slots_cleared tree.now s slots.old }
 {
     for x in slots.iter_mut() {
-        if !is_empty(*x) {
+        if !is_empty(x.get()) {
             clear_one(x, tree, s);
         }
     }

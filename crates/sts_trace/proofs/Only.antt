@@ -1,7 +1,7 @@
 -- Whatever a text spells is read.
 use Rattle.std.proofs.Common.{◌≡◌, ℕ, ◌+◌, ◌<◌, ◌≤◌, ◌^◌, Bool, true, false, List, [], ◌∷◌}
 use Rattle.std.proofs.Common.{◌++◌, length, arith, refl, ◌∙◌, ap, append_assoc}
-use Rattle.std.proofs.lemmas.Bool.{cond-true, cond-false}
+use Rattle.std.proofs.lemmas.Bool.{cond-true, cond-false, and_from}
 use Rattle.std.proofs.lemmas.Bool.Decides.{nat_tests}
 use Rattle.std.specs.Prelude.{Result, Ok, Err, Option, Some, None, IfSome, nat_lt, not, ◌&&◌, codes}
 use Rattle.std.specs.List.{flat_map, All, list_all}
@@ -35,9 +35,6 @@ event_read at (Step n) h = rw (number_read at n h) refl
 event_read at (Interrupt n) h = rw (number_read at n h) refl
 event_read at (Expire n) h = rw (number_read at n h) refl
 
-all_true : (a b c d : Bool) → a ≡ true → b ≡ true → c ≡ true → d ≡ true → (a && (b && (c && d))) ≡ true
-all_true a b c d p q r s = rw (p, q, r, s) refl
-
 goes_on : {A B : Type 0} (r : Result A TraceError) (f : A → Result B TraceError) (x : A) → r ≡ Ok x → (r >>= f) ≡ f x
 goes_on (Ok y) f x e = let same : y ≡ x = cc in ap f same
 goes_on (Err k) f x e = cc
@@ -69,7 +66,7 @@ due_line_only at due k h =
     let word = word_of due.event in
     let number = decimal (number_of due.event) in
     let in_time : nat_lt 4096 at ≡ false = grind (arith, nat_tests) in
-    let t = all_true (bytes_eq (codes "at") (codes "at")) (is_filled time) (is_outside_word word) (is_filled number) refl (number_filled due.at h.0) (outside_word due.event ∙ h.2) (number_filled (number_of due.event) h.1) in
+    let t = and_from (bytes_eq (codes "at") (codes "at")) _ refl (and_from (is_filled time) _ (number_filled due.at h.0) (and_from (is_outside_word word) (is_filled number) (outside_word due.event ∙ h.2) (number_filled (number_of due.event) h.1))) in
     cond-false (nat_lt 4096 at) (Err (BadLine at)) (due_said at (fields (due_text due))) in_time
     ∙ ap (due_said at) (due_fields due h.0 h.1)
     ∙ due_read at (codes "at") time word number due.at due.event t (number_read at due.at h.0) (event_read at due.event h.1)

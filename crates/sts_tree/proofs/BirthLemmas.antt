@@ -1,13 +1,10 @@
 -- Births with a record that passes a test, when a record is added, changed or taken out.
-use Rattle.std.proofs.Common.{◌≡◌, ℕ, zero, suc, ◌+◌, ◌<◌, ◌≤◌, List, [], ◌∷◌, ◌++◌, length, Option, Some, None, refl, sym, ap, arith, get_or, set, Bool, true, false, cond, is_some, count_by, subst}
+use Rattle.std.proofs.Common.{◌≡◌, ℕ, zero, suc, ◌+◌, ◌<◌, ◌≤◌, List, [], ◌∷◌, ◌++◌, length, Option, Some, None, refl, sym, ap, arith, get_or, set, Bool, true, false, cond, is_some, count_by, subst, add-zero}
 use Rattle.std.proofs.lemmas.List.Sums.{sum_by-cons}
 use Rattle.sts_links.specs.Lists.{NotIn, AreApart}
 use Rattle.sts_tree.specs.Births.{births}
 
-zero_more : (n : ℕ) → n + 0 ≡ n
-zero_more n = omega arith
-
-suc_more : (n k : ℕ) → n + suc k ≡ suc n + k
+pub suc_more : (n k : ℕ) → n + suc k ≡ suc n + k
 suc_more n k = omega arith
 
 apart_by : (xs ys : List ℕ) → ((k : ℕ) → (NotIn k ys → ⊥) → NotIn k xs) → AreApart xs ys
@@ -36,7 +33,7 @@ module _ {T : Type 0} where
 
   -- one more record at the end
   pub births_more : (p : T → Bool) (n : ℕ) (xs : List (Option T)) (o : Option T) → births p n (xs ++ o ∷ []) ≡ births p n xs ++ births p (n + length xs) (o ∷ [])
-  births_more p n [] o = rw (zero_more n) refl
+  births_more p n [] o = rw (add-zero n) refl
   births_more p n (None ∷ xs) o = rw (suc_more n (length xs)) (births_more p (suc n) xs o)
   births_more p n (Some x ∷ xs) o = by (p x) refl (births_more p (suc n) xs o)
     where
@@ -67,7 +64,7 @@ module _ {T : Type 0} where
   -- one birth fewer
   pub births_less : (p : T → Bool) (n : ℕ) (xs : List (Option T)) (i : ℕ) (x y : T) → get_or xs i None ≡ Some x → p x ≡ true → p y ≡ false → OneLess (births p n xs) (births p n (set xs i (Some y))) (n + i)
   births_less p n [] i x y at e f = cc
-  births_less p n (o ∷ xs) zero x y at e f = rw (at, e, f, zero_more n) (one_less [] (births p (suc n) xs) n)
+  births_less p n (o ∷ xs) zero x y at e f = rw (at, e, f, add-zero n) (one_less [] (births p (suc n) xs) n)
   births_less p n (None ∷ xs) (suc i) x y at e f = rw (suc_more n i) (births_less p (suc n) xs i x y at e f)
   births_less p n (Some z ∷ xs) (suc i) x y at e f = by (p z) refl (births_less p (suc n) xs i x y at e f)
     where

@@ -2,6 +2,7 @@
 use Rattle.std.proofs.Common.{◌≡◌, ◌≢◌, ℕ, zero, suc, ◌+◌, List, [], ◌∷◌, ◌++◌, length, map, Option, Some, None, refl, sym, ◌∙◌, ap, arith, get_or, set, Bool, true, false, cond, is_some, count_by, get_or-set_other, length-append}
 use Rattle.std.proofs.lemmas.List.{set_at, append_assoc, length-map}
 use Rattle.std.proofs.lemmas.List.Sums.{sum_by-cons}
+use Rattle.std.proofs.lemmas.Option.{same_Some}
 use Rattle.sts_records.specs.Holes.{Holes}
 use Rattle.sts_links.specs.Lists.{NotIn, AreDistinct, AreLinked, IsList, first_or}
 use Rattle.sts_links.specs.declared.links.Ends.{Ends}
@@ -14,7 +15,7 @@ use Rattle.sts_tree.specs.Forest.{ready_of, Family, IsForest, is_of, lives_in}
 use Rattle.sts_tree.specs.declared.record.TaskNode.{TaskNode}
 use Rattle.sts_tree.specs.declared.record.TaskRecord.{TaskRecord}
 use Rattle.sts_tree.proofs.BirthLemmas.{not_in}
-use Rattle.sts_tree.proofs.ForkLemmas.{one_scope, not_lives_of, lives_of, other_scope}
+use Rattle.sts_tree.proofs.ForkLemmas.{one_scope, lives_of}
 use Rattle.sts_tree.proofs.HoldingLemmas.{no_link}
 use Rattle.sts_tree.proofs.KeyLemmas.{has_not}
 use Rattle.sts_tree.proofs.Stores.{Stored, rekeyed, ready_is}
@@ -27,16 +28,13 @@ module _ {T : Type 0} where
   drop_at q (x ∷ xs) zero = refl
   drop_at q (x ∷ xs) (suc k) = drop_at q xs k
 
-  some_same : (x y : T) → Some x ≡ Some y → x ≡ y
-  some_same x y e = cc
-
   drop_some : (q : T → Bool) (o : Option T) (x : T) → drop_if q o ≡ Some x → (o ≡ Some x) × (q x ≡ false)
   drop_some q None x e = cc
   drop_some q (Some y) x e = by (q y) refl e
     where
       by : (b : Bool) → q y ≡ b → drop_if q (Some y) ≡ Some x → (Some y ≡ Some x) × (q x ≡ false)
       by true h f = cc
-      by false h f = let g : Some y ≡ Some x = rw h at f in (g, rw (← some_same y x g) h)
+      by false h f = let g : Some y ≡ Some x = rw h at f in (g, rw (← same_Some y x g) h)
 
   -- what is read then
   pub kept_at : (q : T → Bool) (xs : List (Option T)) (k : ℕ) (x : T) → get_or (map (drop_if q) xs) k None ≡ Some x → (get_or xs k None ≡ Some x) × (q x ≡ false)
@@ -139,9 +137,6 @@ has_next first now keys n t r none =
     let gone = no_link now.slots 0 t none in
     cc
 
-some_link : (a b : Link) → Some a ≡ Some b → a ≡ b
-some_link a b e = cc
-
 pub removes_next : (first now new : Holes TaskRecord) (keys : List ℕ) (n t : ℕ) (r : TaskRecord) (at : Option ℕ) → Removes first now keys n (Some t) → get_or now.slots t None ≡ Some r → new.slots ≡ set now.slots t None → new.keys ≡ now.keys → new.room ≡ now.room + 1 → at ≡ (get_or r.links 0 (record { before = None; after = None })).after → Removes first new keys (suc n) at
 removes_next first now new keys n t r at i is same same_keys more at_is =
     let x = next_of now t i.rest i.next in
@@ -150,7 +145,7 @@ removes_next first now new keys n t r at i is same same_keys more at_is =
     let count : n + length (t ∷ x.later) ≡ length keys = rw x.rest_is at i.count in
     let slots : remove_each (t ∷ x.later) now.slots ≡ remove_each keys first.slots = rw x.rest_is at i.slots in
     let room = i.room in
-    let here : get_or r.links 0 (record { before = None; after = None }) ≡ record { before = i.before; after = first_or x.later None } = some_link _ _ (ap (link_of 0) (sym is) ∙ linked.0) in
+    let here : get_or r.links 0 (record { before = None; after = None }) ≡ record { before = i.before; after = first_or x.later None } = same_Some _ _ (ap (link_of 0) (sym is) ∙ linked.0) in
     record {
       rest = x.later;
       before = Some t;

@@ -1,5 +1,6 @@
 -- A task that ends, and the lists afterwards.
-use Rattle.std.proofs.Common.{◌≡◌, ◌≢◌, ℕ, ◌+◌, ◌<◌, ◌≤◌, List, ◌∷◌, ◌++◌, length, Option, Some, None, refl, sym, ◌∙◌, ap, arith, get_or, set, Bool, true, false, ◌&&◌, length-set, length-append}
+use Rattle.std.proofs.Common.{◌≡◌, ◌≢◌, ℕ, ◌+◌, ◌<◌, ◌≤◌, List, ◌∷◌, ◌++◌, length, Option, Some, None, refl, sym, ◌∙◌, ap, arith, get_or, set, true, false, length-set, length-append}
+use Rattle.std.proofs.Math.Bool.{and-false}
 use Rattle.sts_links.specs.Lists.{AreApart, IsList, BecomesList}
 use Rattle.sts_links.specs.declared.links.Link.{Link}
 use Rattle.sts_links.specs.declared.links.Ends.{Ends}
@@ -17,12 +18,8 @@ pub leaves : (tasks : List (Option TaskNode)) (t s : ℕ) (x y : TaskNode) → g
 leaves tasks t s x y is scope lives ends =
     let zero : 0 + t ≡ t = omega arith in
     let here : lives_in s x ≡ true = rw (scope, lives, own_scope s) refl in
-    let gone : lives_in s y ≡ false = rw ends (no_and (is_in s y.scope)) in
+    let gone : lives_in s y ≡ false = rw ends (and-false (is_in s y.scope)) in
     rw zero at (births_less (lives_in s) 0 tasks t x y is here gone)
-  where
-    no_and : (b : Bool) → (b && false) ≡ false
-    no_and true = refl
-    no_and false = refl
 
 pub ended : (at new : ℕ → ℕ → Option Link) (tasks : List (Option TaskNode)) (families : List (Option Family)) (ready : Ends) (keys : List ℕ) (room t s : ℕ) (x y : TaskNode) (f g : Family) (living : Ends) → IsForest at tasks families ready keys room → get_or tasks t None ≡ Some x → x.scope ≡ Some s → y.scope ≡ x.scope → y.ready ≡ x.ready → get_or families s None ≡ Some f → g ≡ record f { living = living } → (o : OneLess (births (lives_in s) 0 tasks) (births (lives_in s) 0 (set tasks t (Some y))) t) → BecomesList at new 1 living (o.front ++ o.back) → IsForest new (set tasks t (Some y)) (set families s (Some g)) ready keys room
 ended at new tasks families ready keys room t s x y f g living i is scope same_scope flag there same o list =

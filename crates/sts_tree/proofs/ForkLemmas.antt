@@ -2,6 +2,7 @@
 use Rattle.std.proofs.Common.{◌≡◌, ◌≢◌, ℕ, ◌+◌, ◌-◌, ◌<◌, ◌≤◌, List, [], ◌∷◌, ◌++◌, length, Option, Some, None, refl, sym, ◌∙◌, arith, get_or, set, Bool, true, false, nat_eq, get_or-set_same, get_or-set_other, length-append}
 use Rattle.std.proofs.lemmas.Bool.Decides.{nat_tests}
 use Rattle.std.proofs.lemmas.List.{get_or_past}
+use Rattle.std.proofs.lemmas.Option.{same_Some}
 use Rattle.sts_links.specs.Lists.{NotIn, AreApart, IsList}
 use Rattle.sts_links.specs.declared.links.Link.{Link}
 use Rattle.sts_links.specs.declared.links.Ends.{Ends}
@@ -50,9 +51,6 @@ living_apart r s tasks ne = births_apart (lives_in r) (lives_in s) tasks (λ x e
 unborn : (p : TaskNode → Bool) (tasks : List (Option TaskNode)) → NotIn (length tasks) (births p 0 tasks)
 unborn p tasks = not_in p tasks (length tasks) (λ x e. let n : get_or tasks (length tasks) None ≡ None = get_or_past tasks (length tasks) None (omega arith) in cc)
 
-pub some_eq : (a b : ℕ) → Some a ≡ Some b → a ≡ b
-some_eq a b e = cc
-
 -- after a write each record still exists
 pub stays_some : {T : Type 0} → (xs : List (Option T)) (i j : ℕ) (x y : T) → get_or xs i None ≡ Some x → get_or xs j None ≢ None → get_or (set xs i (Some y)) j None ≢ None
 stays_some xs i j x y is h = by (nat_eq j i) refl
@@ -100,7 +98,7 @@ added at one two new tasks families ready keys room s f g y forks living i is so
       flags = at_more tasks y (λ u z. z.ready ≡ has u keys) (flag ∙ sym (not_has (length tasks) keys (without_link (at 2) (length tasks) None keys None (a.vacant 2) i.is_ready.linked))) i.flags;
       homes = λ t r x at_t e.
           at_more tasks y (λ u z. z.scope ≡ Some r → get_or (set families s (Some g)) r None ≢ None)
-          (λ h. stays_some families s r f g is (let q : s ≡ r = some_eq s r (sym scope ∙ h) in rw (← q) (λ n. let m : Some f ≡ None = sym is ∙ n in cc)))
+          (λ h. stays_some families s r f g is (let q : s ≡ r = same_Some s r (sym scope ∙ h) in rw (← q) (λ n. let m : Some f ≡ None = sym is ∙ n in cc)))
           (λ u z at_u h. stays_some families s r f g is (i.homes u r z at_u h))
           t x at_t e;
       few = let c = count_more tasks y in let few2 = i.few in omega (arith, c, few2);

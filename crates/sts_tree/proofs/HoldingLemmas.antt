@@ -1,9 +1,10 @@
 -- Lists by birth with holes: one record changed, and the view of each.
-use Rattle.std.proofs.Common.{◌≡◌, ◌≢◌, ℕ, zero, suc, ◌<◌, List, [], ◌∷◌, length, map, Option, Some, None, refl, sym, ◌∙◌, ap, arith, get_or, set, nat_lt, true, is_some}
+use Rattle.std.proofs.Common.{◌≡◌, ◌≢◌, ℕ, zero, suc, ◌<◌, List, [], ◌∷◌, length, map, Option, Some, None, refl, sym, ◌∙◌, ap, arith, get_or, set, nat_lt, true}
 use Rattle.std.proofs.lemmas.Bool.Decides.{nat_tests}
 use Rattle.std.proofs.lemmas.List.{map-set, set-get_or}
 use Rattle.std.specs.Prelude.{option_map}
 use Rattle.sts_records.specs.Holes.{key_at}
+use Rattle.laws_words.proofs.OptionLemmas.{some_mapped}
 use Rattle.sts_tree.specs.declared.record.TaskRecord.{TaskRecord}
 use Rattle.sts_tree.specs.Stored.{link_of, link_at}
 
@@ -19,13 +20,8 @@ unseen f xs k x y at same =
     let e : get_or (map (option_map f) xs) k None ≡ Some (f y) = map_at f xs k ∙ ap (option_map f) at ∙ ap (λ z. Some z) (sym same) in
     map-set (option_map f) xs k (Some y) ∙ ap (λ z. set (map (option_map f) xs) k z) (sym e) ∙ set-get_or (map (option_map f) xs) k None
 
--- the key of a record
-some_seen : {A B : Type 0} → (f : A → B) (o : Option A) → is_some (option_map f o) ≡ is_some o
-some_seen f None = refl
-some_seen f (Some x) = refl
-
 pub key_seen : {A B : Type 0} → (f : A → B) (xs : List (Option A)) (keys : List ℕ) (k : ℕ) → key_at (map (option_map f) xs) keys k ≡ key_at xs keys k
-key_seen f xs keys k = rw (map_at f xs k, some_seen f (get_or xs k None)) refl
+key_seen f xs keys k = rw (map_at f xs k, some_mapped f (get_or xs k None)) refl
 
 pub inside_of : {A : Type 0} → (xs : List (Option A)) (k : ℕ) → get_or xs k None ≢ None → k < length xs
 inside_of [] k h = absurd (h refl)

@@ -1,5 +1,5 @@
 -- After one change, which tasks can step, and which own which scopes.
-use Rattle.std.proofs.Common.{◌≡◌, ◌≢◌, ℕ, zero, suc, ◌<◌, List, [], ◌∷◌, ◌++◌, map, Bool, true, false, ◌&&◌, ◌||◌, not, Option, Some, None, refl, sym, ◌∙◌, ap, arith, get_or, set, get_or-set_same, get_or-set_other, is_some, nat_eq, nat_lt, length}
+use Rattle.std.proofs.Common.{◌≡◌, ◌≢◌, ℕ, zero, suc, ◌<◌, List, [], ◌∷◌, ◌++◌, Bool, true, false, ◌&&◌, ◌||◌, not, Option, Some, None, refl, sym, ◌∙◌, ap, arith, get_or, set, get_or-set_same, get_or-set_other, is_some, nat_eq, nat_lt, length}
 use Rattle.std.proofs.lemmas.Bool.Decides.{nat_tests}
 use Rattle.std.proofs.lemmas.List.{get_or_append_left, get_or_past, set-get_or}
 use Rattle.std.specs.Prelude.{option_map}
@@ -99,9 +99,6 @@ module _ {E : Type 0} where
       by None at = refl
       by (Some z) at = by3 z at z.lives (stands_at s z.stand) refl refl
 
-  pub some_scope : (c d : ScopeNode E) → Some c ≡ Some d → c ≡ d
-  some_scope c d e = cc
-
   pub owned_scope : (f : Forest E) (s : ℕ) (c d : ScopeNode E) → Owned f → get_or f.scopes s None ≡ Some c → d.owner ≡ c.owner → Owned (with_scope f s d)
   owned_scope f s c d owned is same u r z at lives stands = by (nat_eq r s) refl (owned u r z at lives stands)
     where
@@ -112,7 +109,7 @@ module _ {E : Type 0} where
       by true q o =
           let k : r ≡ s = grind (arith, nat_tests) in
           let at_s : get_or f.scopes s None ≡ Some o.0 = rw (← k) o.1 in
-          let e : c ≡ o.0 = some_scope c o.0 (sym is ∙ at_s) in
+          let e : c ≡ o.0 = same_Some c o.0 (sym is ∙ at_s) in
           (d, rw k (get_or-set_same f.scopes s (Some d) None inside), same ∙ ap (λ (v : ScopeNode E). v.owner) e ∙ o.2)
       by false q o = (o.0, get_or-set_other f.scopes s r (Some d) None (grind (arith, nat_tests)) ∙ o.1, o.2)
 

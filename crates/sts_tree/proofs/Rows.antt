@@ -2,6 +2,7 @@
 use Rattle.std.proofs.Common.{◌≡◌, ◌≢◌, ℕ, List, [], ◌∷◌, ◌++◌, Option, Some, None, refl, sym, ◌∙◌, ap, get_or, set}
 use Rattle.std.proofs.lemmas.List.{map-set, map-append}
 use Rattle.std.specs.Prelude.{option_map}
+use Rattle.std.proofs.lemmas.Option.{same_Some}
 use Rattle.sts_tree.specs.Forest.{Forest, family_of, scope_of, families_of, scopes_of}
 use Rattle.sts_tree.specs.declared.record.ScopeNode.{ScopeNode}
 use Rattle.sts_tree.specs.declared.record.ScopeRecord.{ScopeRecord}
@@ -28,12 +29,9 @@ module _ {E : Type 0} where
   pub scope_at : (rows : List (Option (ScopeRecord E))) (s : ℕ) (r : ScopeRecord E) → get_or rows s None ≡ Some r → get_or (scopes_of rows) s None ≡ Some r.scope
   scope_at rows s r is = map_at scope_of rows s ∙ ap (option_map scope_of) is
 
-  some_same : (a b : ScopeNode E) → Some a ≡ Some b → a ≡ b
-  some_same a b e = cc
-
   -- the scope that was read is the record's
   pub own_row : (rows : List (Option (ScopeRecord E))) (s : ℕ) (r : ScopeRecord E) (x : ScopeNode E) → get_or rows s None ≡ Some r → get_or (scopes_of rows) s None ≡ Some x → r.scope ≡ x
-  own_row rows s r x is e = some_same r.scope x (sym (scope_at rows s r is) ∙ e)
+  own_row rows s r x is e = same_Some r.scope x (sym (scope_at rows s r is) ∙ e)
 
   -- a field of a scope is written
   pub seen_field : (rows : List (Option (ScopeRecord E))) (s : ℕ) (r q : ScopeRecord E) (x y : ScopeNode E) → get_or rows s None ≡ Some r → get_or (scopes_of rows) s None ≡ Some x → (r.scope ≡ x → q.scope ≡ y) → scopes_of (set rows s (Some q)) ≡ set (scopes_of rows) s (Some y)

@@ -1,9 +1,7 @@
 -- The parts that don't depend on the ready list.
 use Rattle.std.proofs.Common.{◌≡◌, ◌≢◌, ℕ, suc, List, [], ◌∷◌, ◌++◌, arith, map, Bool, true, false, ◌&&◌, Option, Some, None, refl, sym, ◌∙◌, ap, get_or, set, nat_eq}
 use Rattle.std.proofs.lemmas.Bool.Decides.{nat_tests}
-use Rattle.std.specs.Prelude.{option_map, option_copied}
-use Rattle.std.specs.Borrow.{Bor}
-use Rattle.std.proofs.lemmas.Option.{same_Some}
+use Rattle.std.specs.Prelude.{option_map}
 use Rattle.sts_model.specs.declared.event.Stand.{Stand}
 use Rattle.sts_model.specs.declared.event.Stand.TheVariants.{Free, AtJoin, AtClose}
 use Rattle.sts_tree.specs.Births.{births, has, without}
@@ -25,11 +23,6 @@ any_unmarked s xs = rw (births_unmarked s 0 xs) refl
 pub some_task : (o : Option TaskNode) → o ≢ None → (x : TaskNode) × (o ≡ Some x)
 some_task None h = absurd (h refl)
 some_task (Some x) h = (x, refl)
-
--- what a reference to a scope shows
-pub copied : {X : Type 0} → (o : Option (Bor X)) (r : Bor X) (x : X) → o ≡ Some r → option_copied o ≡ Some x → r.now ≡ x
-copied None r x e f = cc
-copied (Some q) r x e f = let s : q ≡ r = cc in rw s at (same_Some q.now x f)
 
 pub some_scope : {E : Type 0} → (o : Option (ScopeNode E)) → o ≢ None → (c : ScopeNode E) × (o ≡ Some c)
 some_scope None h = absurd (h refl)

@@ -97,14 +97,14 @@ scopes_same = (to, from)
     to : (a b : TypedScope) → scope_eq.eq-value.it a b ≡ true → a ≡ b
     to a b e =
         let p = and_parts (eqb a.slot b.slot) _ e in
-        let q = and_parts (joiner_eq.eq-value.it a.joiner b.joiner) _ p.1 in
-        let r = and_parts _ (phase_eq.eq-value.it a.phase b.phase) q.1 in
-        same_scope a.slot b.slot a.joiner b.joiner a.timed b.timed a.phase b.phase (eqb-true a.slot b.slot p.0) (joiners_same.0 a.joiner b.joiner q.0) (bools_same.0 a.timed b.timed r.0) (phases_same.0 a.phase b.phase r.1)
+        let q = and_parts (bool_eq.ghosts.eq a.timed b.timed) _ p.1 in
+        let r = and_parts _ (joiner_eq.eq-value.it a.joiner b.joiner) q.1 in
+        same_scope a.slot b.slot a.joiner b.joiner a.timed b.timed a.phase b.phase (eqb-true a.slot b.slot p.0) (joiners_same.0 a.joiner b.joiner r.1) (bools_same.0 a.timed b.timed q.0) (phases_same.0 a.phase b.phase r.0)
 
     from : (a : TypedScope) → scope_eq.eq-value.it a a ≡ true
     from a =
-        all_true (eqb a.slot a.slot) (joiner_eq.eq-value.it a.joiner a.joiner) (bool_eq.ghosts.eq a.timed a.timed) (phase_eq.eq-value.it a.phase a.phase)
-        (eq-eqb a.slot a.slot refl) (joiners_same.1 a.joiner) (bools_same.1 a.timed) (phases_same.1 a.phase)
+        all_true (eqb a.slot a.slot) (bool_eq.ghosts.eq a.timed a.timed) (phase_eq.eq-value.it a.phase a.phase) (joiner_eq.eq-value.it a.joiner a.joiner)
+        (eq-eqb a.slot a.slot refl) (bools_same.1 a.timed) (phases_same.1 a.phase) (joiners_same.1 a.joiner)
 
 entries_same : IsSame entry_eq.eq-value.it
 entries_same = (to, from)

@@ -10,6 +10,7 @@ pub mod Marking
 pub mod MatchingLemmas
 pub mod Nesting
 pub mod Passing
+pub mod PhaseLemmas
 pub mod PromisingLemmas
 pub mod Ranges
 pub mod RoomLemmas

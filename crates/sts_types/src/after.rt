@@ -88,6 +88,16 @@ fn entries_with_phase(
     after
 }
 
+/// The scope is in this phase, where the structure list has one entry.
+#[tactic(auto, using(crate::proofs::PhaseLemmas::only_entry))]
+fn set_only(entries: &mut Stack<TypedEntry, 16>, slot: u8, phase: TypedPhase)
+    requires { length entries.old ≡ 1 }
+    ensures { entries.new ≡ map (def.phase_set slot phase) entries.old }
+{
+    let only = entries.get_or(0, TypedEntry::Binding(0));
+    entries.replace_top(1, phase_set(slot, phase, only));
+}
+
 fn joiner_of(scope: Option<TypedScope>) -> Joiner
     ensures { result ≡ def.joiner_of scope }
 {
@@ -153,6 +163,10 @@ impl TypeState {
     pub fn set_phase(&mut self, slot: u8, phase: TypedPhase)
         ensures { self.new ≡ def.with_phase slot phase self.old }
     {
+        if self.entries.len() == 1 {
+            set_only(&mut self.entries, slot, phase);
+            return;
+        }
         let entries = entries_with_phase(&self.entries, slot, phase);
         self.entries = entries;
     }

@@ -144,6 +144,7 @@ impl<'c> CodeLoops<'c> {
     }
 
     /// Are the loops around this place the open ones without the innermost `closed`?
+    #[inline(always)]
     pub fn are_around(&self, place: u32, loops: &Stack<TypedLoop, 8>, closed: usize) -> bool
         ensures { result ≡ bytes_eq (def.around self.now place) (drop closed (heads loops.now)) }
     {

@@ -5,9 +5,8 @@ use Rattle.std.proofs.Common.{length, take, arith, subst, sym, ap, refl, ◌∙�
 use Rattle.std.proofs.Common.{length-take-le}
 use Rattle.std.proofs.lemmas.Bool.{cases_lt}
 use Rattle.std.proofs.lemmas.List.{take-append-le, get_or_append_left, get_or-take}
-use Rattle.std.proofs.Math.Seq.{take-append_seam, get_or-append_seam, take-length}
+use Rattle.std.proofs.Math.Seq.{take-append_seam, get_or-append_seam}
 use Rattle.sts_code.specs.Program.{Program, routine}
-use Rattle.sts_code.specs.declared.instr.Instr.{Instr}
 use Rattle.sts_rules.specs.declared.budget.Budgets.{Budgets}
 use Rattle.sts_rules.specs.Budget.{AreBudgets, IsBudget, budget_at, no_budget}
 use Rattle.sts_rules.specs.Refusal.{IsBudgetOf}

@@ -1,7 +1,7 @@
 -- Function by function.
-use Rattle.std.proofs.Common.{◌≡◌, ℕ, zero, suc, ◌+◌, ◌<◌, ◌≤◌, ◌⊎◌, inl, inr, List, [], ◌∷◌, ◌++◌}
-use Rattle.std.proofs.Common.{length, take, get_or, Err, arith, subst, sym, ap, refl, length-append}
-use Rattle.std.proofs.Common.{length-take-le, Result, Ok, MatchResult}
+use Rattle.std.proofs.Common.{◌≡◌, ℕ, ◌+◌, ◌<◌, ◌≤◌, ◌⊎◌, inl, inr, List}
+use Rattle.std.proofs.Common.{length, Err, arith, subst, sym, refl}
+use Rattle.std.proofs.Common.{Result, Ok, MatchResult}
 use Rattle.std.specs.Result.{IsErrAnd}
 use Rattle.std.proofs.lemmas.Bool.{cases_lt}
 use Rattle.sts_code.specs.Program.{Program, routine}
@@ -9,8 +9,8 @@ use Rattle.sts_budget.specs.declared.budgets.BudgetError.{BudgetError}
 use Rattle.sts_budget.specs.declared.budgets.BudgetError.TheVariants as b
 use Rattle.sts_budget.specs.Outcome.{IsFound}
 use Rattle.sts_rules.specs.declared.budget.Budgets.{Budgets}
-use Rattle.sts_rules.specs.Budget.{AreBudgets, IsBudget, budget_at, no_budget}
-use Rattle.sts_rules.specs.Refusal.{IsSound, IsAccepted, IsWellTyped, IsUnsound, IsBudgetOf}
+use Rattle.sts_rules.specs.Budget.{AreBudgets}
+use Rattle.sts_rules.specs.Refusal.{IsSound, IsAccepted, IsWellTyped, IsUnsound}
 use Rattle.sts_rules.specs.Refusal.{ill_typed, too_much, size}
 use Rattle.sts_types.specs.declared.pass.TypeError.{TypeError}
 use Rattle.sts_types.specs.declared.pass.TypeError.TheVariants.{Memory, Refused}

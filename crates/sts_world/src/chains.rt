@@ -153,7 +153,7 @@ impl BindingChains {
         let mut front = rest;
         let mut left = count;
         for entry in frame.entries.as_slice() {
-            if let Entry::Binding(key, value) = *entry {
+            if let Entry::Binding(key, value) = entry.get() {
                 left = left.saturating_sub(1);
                 front = Some(self.put(Bound { key, value }, front, places[left % MAX_ENTRIES])?);
             }

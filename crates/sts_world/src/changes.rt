@@ -19,7 +19,7 @@ use crate::task::TaskRecord;
 use std::alloc::{AllocError, Global};
 use sts_code::{Joiner, Program, args};
 use sts_frames::leave_fork;
-use sts_model::{Completion, End, Items, Phase, Slot};
+use sts_model::{Completion, End, Items, KeptSlot, Phase, Slot};
 
 // ---- one task
 
@@ -37,18 +37,25 @@ impl Records {
         }
     }
 
+    /// Empties the slots that name the scope or one of its subtasks.
+    fn clear(&self, slots: &mut [KeptSlot; 16], s: u32)
+        ensures { slots.new ≡ effect.cleared self.now s slots.old }
+    {
+        for x in slots.iter_mut() {
+            if self.is_of(s, x.get()) {
+                *x = KeptSlot::new(Slot::Empty);
+            }
+        }
+    }
+
     /// The slots of a task, with those emptied that name the scope or one of its subtasks.
-    pub(crate) fn cleared(&self, t: u32, s: u32) -> [Slot; 16]
+    pub(crate) fn cleared(&self, t: u32, s: u32) -> [KeptSlot; 16]
         requires born { t < length self.now.tasks }
         requires lives { living.lives (def.task_at self.now t) ≡ true }
         ensures { result ≡ effect.cleared self.now s (def.task_at self.now t).frame.slots }
     {
         let mut slots = self.frame(t).slots;
-        for x in slots.iter_mut() {
-            if self.is_of(s, *x) {
-                *x = Slot::Empty;
-            }
-        }
+        self.clear(&mut slots, s);
         slots
     }
 }

@@ -12,7 +12,7 @@ ghost use Rattle.std.specs.Prelude.{true};
 
 use std::alloc::{AllocError, Global};
 use sts_frames::{copy_frame, is_empty};
-use sts_model::{Frame, Slot};
+use sts_model::{Frame, KeptSlot, Slot};
 use sts_same::same::{Same, same_slices};
 
 /// The used parts of a frame without open loops and entries.
@@ -46,20 +46,21 @@ fn used(locals: &[i64; 16]) -> &[i64]
     &locals[..n]
 }
 
-fn are_empty(slots: &[Slot]) -> bool
+fn are_empty(slots: &[KeptSlot]) -> bool
     ensures { result ≡ list_all misuse.is_empty slots.now }
 {
-    slots.iter().all(|slot| is_empty(*slot))
+    slots.iter().all(|slot| is_empty(slot.get()))
 }
 
 /// The scope in the first slot, if it has one. `None` means that another slot is used.
-fn sole_scope(slots: &[Slot; 16]) -> Option<Option<u32>>
+fn sole_scope(slots: &[KeptSlot; 16]) -> Option<Option<u32>>
     ensures { IfSome result (λ s. slots.now ≡ slot_of s ∷ replicate LAST_SLOT Empty) }
 {
-    if !are_empty(&slots[1..]) {
+    let all = &slots[..];
+    if !are_empty(&all[1..]) {
         return None;
     }
-    let first = slots[0];
+    let first = slots[0].get();
     match first {
         Slot::Empty => Some(None),
         Slot::Lent(s) => Some(Some(s)),

@@ -5,7 +5,7 @@ ghost use Rattle.sts_model.specs.declared.record.Slot.TheVariants.{Empty};
 
 use std::process::Abort;
 use std::test::Fail;
-use sts_model::{Entry, Frame, Slot, Stack};
+use sts_model::{Entries, Entry, Frame, KeptSlot, Slot, Stack};
 use sts_store::{Room, Store};
 
 /// The frame at the beginning of function 0, with 7 on top.
@@ -23,8 +23,8 @@ fn beginning() -> Frame
         operands,
         locals: [0; 16],
         loops: Stack::new(),
-        entries: Stack::new(),
-        slots: [Slot::Empty; 16],
+        entries: Entries::new(),
+        slots: [KeptSlot::new(Slot::Empty); 16],
     }
 }
 

@@ -1,15 +1,7 @@
-use Rattle.std.proofs.Common.{◌≡◌, ℕ, ◌-◌, ◌≤◌, ℤ, pos, List, ◌++◌, length, take, drop, reverse, replicate, arith, refl, sym, ◌∙◌, ap}
-use Rattle.std.proofs.Math.Seq.{drop-append_seam}
-use Rattle.std.proofs.lemmas.List.{drop-replicate, take-append-drop, take_rest, reverse-append, reverse-reverse, length-take, length-drop, length-reverse}
+use Rattle.std.proofs.Common.{◌≡◌, ℕ, ◌-◌, ℤ, pos, List, ◌++◌, length, take, drop, reverse, replicate, arith, sym, ◌∙◌, ap}
+use Rattle.std.proofs.lemmas.List.{drop-replicate, take_rest, reverse-reverse, length-take, length-reverse}
+use Rattle.sts_model.proofs.ListLemmas.{reverse_take}
 use Rattle.sts_frames.proofs.beginning.entry_locals.Goals as goal
-
--- the first n, in reverse order, are the last n of the reverse order
-last : (xs : List ℤ) (n : ℕ) → n ≤ length xs → drop (length (reverse xs) - n) (reverse xs) ≡ reverse (take n xs)
-last xs n h =
-    let back = reverse (drop n xs) in
-    let whole : reverse xs ≡ back ++ reverse (take n xs) = ap reverse (sym (take-append-drop n xs)) ∙ reverse-append (take n xs) (drop n xs) in
-    let size : length (reverse xs) - n ≡ length back = simp (length-reverse, length-drop) refl in
-    rw (size, whole) (drop-append_seam back (reverse (take n xs)))
 
 pub returns : goal.returns
 returns c =
@@ -21,7 +13,7 @@ returns c =
     c.copy_from_slice.ensures.after
     ∙ take_rest vals (length vals - n)
     ∙ ap (λ (l : List ℤ). drop (length l - n) l) back
-    ∙ last ops n c.requires.enough
+    ∙ sym (reverse_take ops (length (reverse ops) - n) n (omega (arith, length-reverse ops, c.requires.enough)))
     in
     let size : length (reverse (take n ops)) ≡ n = simp (length-reverse, length-take) (omega arith) in
     ap (λ (l : List ℤ). l ++ drop n (replicate 16 (pos 0))) copied

@@ -4,7 +4,11 @@ use Rattle.sts_world.proofs.Resting.{sole_slot}
 use Rattle.sts_world.proofs.held.sole_scope.Goals as goal
 
 pub returns-in-Empty : goal.returns-in-Empty
-returns-in-Empty c = sole_slot c.args.slots.now 15 Empty Empty c.told-slots (sym c.are_empty.ensures ∙ c.if-not-are_empty.false) c.in-Empty.is
+returns-in-Empty c =
+    sole_slot c.args.slots.now 15 _ Empty c.told-slots
+    (rw c.told-slots at (sym c.are_empty.ensures ∙ c.if-not-are_empty.false)) (sym c.get-first.ensures ∙ c.in-Empty.is)
 
 pub returns-in-Lent : goal.returns-in-Lent
-returns-in-Lent c = sole_slot c.args.slots.now 15 Empty (Lent c.in-Lent.s) c.told-slots (sym c.are_empty.ensures ∙ c.if-not-are_empty.false) c.in-Lent.is
+returns-in-Lent c =
+    sole_slot c.args.slots.now 15 _ (Lent c.in-Lent.s) c.told-slots
+    (rw c.told-slots at (sym c.are_empty.ensures ∙ c.if-not-are_empty.false)) (sym c.get-first.ensures ∙ c.in-Lent.is)

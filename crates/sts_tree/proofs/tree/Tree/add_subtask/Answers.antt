@@ -1,7 +1,8 @@
 use Rattle.std.proofs.Common.{◌-◌, not, refl, sym, ◌∙◌, ap}
+use Rattle.std.proofs.lemmas.Option.{same_Some}
 use Rattle.sts_tree.specs.Forest.{subtask}
 use Rattle.sts_tree.proofs.SeeingLemmas.{added_seen}
-use Rattle.sts_tree.proofs.Keeping.{added_free, added_tree, fresh_step, some_scope, unborn_waits}
+use Rattle.sts_tree.proofs.Keeping.{added_free, added_tree, fresh_step, unborn_waits}
 use Rattle.sts_tree.proofs.tree.Tree.add_subtask.Goals as goal
 
 pub settle_at-requires-clause-steps : goal.settle_at-requires-clause-steps
@@ -25,12 +26,12 @@ invariant_of-self g c =
 
 pub returns-clause-lives : goal.returns-clause-lives
 returns-clause-lives g c x is =
-    let now = some_scope c.scope_node-scope.result.now x (sym c.scope_node-scope.ensures ∙ (rw (← c.self.view_is) at is)) in
+    let now = same_Some c.scope_node-scope.result.now x (sym c.scope_node-scope.ensures ∙ (rw (← c.self.view_is) at is)) in
     rw now refl
 
 pub returns-clause-added : goal.returns-clause-added
 returns-clause-added g c x is =
-    let now = some_scope c.scope_node-scope.result.now x (sym c.scope_node-scope.ensures ∙ (rw (← c.self.view_is) at is)) in
+    let now = same_Some c.scope_node-scope.result.now x (sym c.scope_node-scope.ensures ∙ (rw (← c.self.view_is) at is)) in
     rw (← c.self.view_is, ← now)
     (added_seen c.self.inside.forest c.add_subtask-t.new.self c.settle_waiting.new.forest _ _ (c.settle_waiting.ensures.seen ∙ c.settle_at.ensures.seen) c.add_subtask-t.ensures.added)
 
