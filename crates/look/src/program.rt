@@ -24,7 +24,7 @@ use sts_args::LineError;
 use sts_output::{
     Events, FileError, MOST_OF_A_STREAM, NOT_TEXT, Named, Notes, STATUS_OUTSIDE, Sinks, Sources,
     TakeError, WordsError, WriteFailed, borrowed, failed, file, file_failed, made, placeholder,
-    read_text, read_texts, words, written,
+    read_text, read_texts, spared, words, written,
 };
 use sts_remarks::{Remarks, Watched};
 
@@ -119,8 +119,30 @@ fn on_explain<S: Sources, W: Write>(
     }
 }
 
+/// Writes what was found of the ends of a text. No end has the number that was asked for, so no file
+/// of a trace is made.
+fn on_listing_alone<S: Sinks, W: Write>(
+    sinks: &mut S,
+    path: &str,
+    file: &str,
+    listing: &Listing,
+    out: &mut W,
+    notes: &mut Notes,
+) -> Result<u8, WriteFailed>
+    ensures { IfOk result (λ s. (o : Output)
+        × def.IsWritten listing.now
+        (def.SparesFile (same_file (S.same sinks.old) (S.said_yes sinks.old) (S.said_yes sinks.new))
+        path.now file.now) o
+        × Writes (W.contents out.old) (W.contents out.new) s o) }
+{
+    match spared(sinks, file, path, None) {
+        Ok(()) => written(out, listing.output.bytes.as_slice(), listing.output.status),
+        Err(error) => file_failed(error, out, notes),
+    }
+}
+
 /// Writes what was found of the ends of a text, and the trace of one to its file.
-fn on_listing<S: Sinks, W: Write>(
+fn on_listing_and_trace<S: Sinks, W: Write>(
     alloc: Global,
     sinks: &mut S,
     path: &str,
@@ -143,6 +165,30 @@ fn on_listing<S: Sinks, W: Write>(
             Ok(status)
         }
         Err(error) => file_failed(error, out, notes),
+    }
+}
+
+/// Writes what was found of the ends of a text. If one has the number that was asked for, its trace
+/// is written to the file.
+fn on_listing<S: Sinks, W: Write>(
+    alloc: Global,
+    sinks: &mut S,
+    path: &str,
+    file: &str,
+    listing: &Listing,
+    out: &mut W,
+    notes: &mut Notes,
+) -> Result<u8, WriteFailed>
+    ensures { IfOk result (λ s. (o : Output)
+        × def.IsWritten listing.now
+        (def.SparesFile (same_file (S.same sinks.old) (S.said_yes sinks.old) (S.said_yes sinks.new))
+        path.now file.now) o
+        × Writes (W.contents out.old) (W.contents out.new) s o) }
+{
+    if listing.trace.is_empty() {
+        on_listing_alone(sinks, path, file, listing, out, notes)
+    } else {
+        on_listing_and_trace(alloc, sinks, path, file, listing, out, notes)
     }
 }
 

@@ -35,7 +35,7 @@ pub use process_words::{WordsError, words};
 pub use reasons::{Named, outside_reason, text_reason, trace_reason};
 pub use refusal::{accepted, verified_of};
 pub use shown::{line_at, say_shown};
-pub use sinks::{Sinks, made};
+pub use sinks::{Sinks, made, spared};
 pub use sources::{Host, Sources, file};
 pub use taking::{TakeError, bytes_of, take};
 pub use text_mode::{TextMode, play_text};

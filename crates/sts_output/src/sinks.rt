@@ -107,6 +107,28 @@ fn is_read<S: Sinks>(
     }
 }
 
+/// Passes the name of a file that may be made: a run doesn't read it.
+///
+/// # Errors
+///
+/// The file is `file` or `outside`, or the system doesn't say which file it is.
+pub fn spared<'a, S: Sinks>(
+    sinks: &mut S,
+    path: &'a str,
+    file: &str,
+    outside: Option<&str>,
+) -> Result<(), FileError<'a>>
+    ensures file { IfOk result (λ _. Differ (S.same sinks.old path.now file.now)) }
+    ensures outside { IfOk result (λ _. DifferFrom (S.same sinks.old path.now) outside.entry) }
+    ensures said { IfOk result (λ _. S.said_yes sinks.new ≡ S.said_yes sinks.old) }
+{
+    match is_read(sinks, path, file, outside) {
+        Ok(false) => Ok(()),
+        Ok(true) => Err(FileError::Overwrites { path }),
+        Err(error) => Err(FileError::unwritten(path, &error)),
+    }
+}
+
 /// Makes a file for many small writes, unless it is a file that a run reads.
 ///
 /// # Errors
@@ -124,11 +146,7 @@ pub fn made<'a, S: Sinks>(
     ensures outside { IfOk result (λ _. DifferFrom (S.same sinks.old path.now) outside.entry) }
     ensures said { IfOk result (λ _. S.said_yes sinks.new ≡ S.said_yes sinks.old) }
 {
-    match is_read(sinks, path, file, outside) {
-        Ok(false) => {}
-        Ok(true) => return Err(FileError::Overwrites { path }),
-        Err(error) => return Err(FileError::unwritten(path, &error)),
-    }
+    spared(sinks, path, file, outside)?;
     match sinks.create(path) {
         Ok(sink) => {
             BufWriter::new(alloc, sink).map_err(|error| FileError::unwritten(path, &error))
