@@ -1,5 +1,9 @@
 """Runs the gate, `rt ci`, and then prints the processor seconds of each crate: its proofs, its tests' proofs, its must-fail edits.
 
+It has `rt ci` prove as many crates side by side as there are processors, but no more than one for each 4 GiB of memory that is
+free. By itself `rt ci` plans with two to four times the memory that our crates take, and leaves processors idle. RT_JOBS names
+another number.
+
 The output of the gate goes to standard output as it comes, and the table follows it. The status is the gate's.
 The figures are read off /proc twice a second, so a process that ends between two readings loses half a second at most.
 """
@@ -15,6 +19,7 @@ from checks import kit
 from checks.programs import ROOT
 
 TICK = os.sysconf("SC_CLK_TCK")
+OF_A_CRATE = 4 << 30  # the bytes that are kept free for the proof of a crate; the largest one takes some 3 GB
 KINDS = ["proofs", "tests", "edits"]
 
 
@@ -54,7 +59,16 @@ def table(seen):
     yield f"{'all':<20}" + "".join(f"{whole[it]:>9.0f}" for it in KINDS) + f"{sum(whole.values()):>9.0f}"
 
 
+def side_by_side():
+    """Returns how many crates are proved at a time."""
+    free = os.sysconf("SC_AVPHYS_PAGES") * os.sysconf("SC_PAGE_SIZE")
+    with open("/proc/meminfo", encoding="ascii") as told:
+        free = max([free, *(1024 * int(it.split()[1]) for it in told if it.startswith("MemAvailable:"))])
+    return max(1, min(len(os.sched_getaffinity(0)), free // OF_A_CRATE))
+
+
 def main():
+    os.environ.setdefault("RT_JOBS", str(side_by_side()))
     seen, ended, since = {}, threading.Event(), time.time()
     looking = threading.Thread(target=watch, args=(seen, ended))
     looking.start()

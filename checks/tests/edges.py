@@ -358,6 +358,7 @@ def outputs_of_look(look):
         yield f"explain {text!r}", (ended, printed.startswith(first), told), (status, True, "")
         if status == 3:
             yield f"ends of {text!r}", look.says("ends", "text", "--trace", "1", "made"), (status, printed, "")
+            yield f"no trace of {text!r}", look.names(), ["text"]
 
 
 def outputs_of_sts(sts):
@@ -565,6 +566,18 @@ def files_of_look(look):
     yield from files(look, "look", [["explain", "text"], ["ends", "text"]], [[it, "text", "trace"] for it in ("view", "explain", "draw")])
     look.has()
     yield "no FILE, and a trace", (look.says("ends", "text", "--trace", "1", "made"), look.names()), (NO_FILE, [])
+    yield from missing_ends(look)
+
+
+def missing_ends(look):
+    """Tries the trace of an end that isn't found: no file is made, and one that is there stays as it was."""
+    look.has(text=SEVEN, kept="kept\n")
+    for words in ([], ["--calls"], ["--sample", "3"]):
+        for name in ("made", "kept"):
+            status, printed, told = look.says("ends", "text", *words, "--trace", "9", name)
+            yield f"no end 9, {words}, {name}", (status, printed.endswith("no end has number 9\n"), told), (5, True, "")
+            yield f"the files after {words}, {name}", (look.names(), look.read("kept")), (["kept", "text"], "kept\n")
+    yield "no end 9, and the text", (look.says("ends", "text", "--trace", "9", "text"), look.read("text")), (NO_FILE, SEVEN)
 
 
 OF_STS = [words_of_sts, names_of_sts, outputs_of_sts, dues_of_sts, outside_texts_of_sts, large_runs_of_sts, files_of_sts]

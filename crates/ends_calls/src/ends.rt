@@ -1,7 +1,6 @@
 //! The ends that a search by calls finds.
 
-ghost use Rattle.std.specs.Prelude.{◌≡◌, true, IfOk, IfSome};
-ghost use Rattle.ends_calls.specs.Whole.{AreWhole};
+ghost use Rattle.std.specs.Prelude.{◌≡◌, IfOk, IfSome};
 ghost use Rattle.ends_plain.specs.Configs.{can};
 ghost use Rattle.ends_calls.specs.Stops.{IsStop, IsMarked, IsTraced};
 ghost use Rattle.ends_plain.specs.Listed.{AreEnds, IsEndOf};
@@ -12,7 +11,6 @@ use crate::player::Player;
 use crate::search::{Search, explored};
 use crate::stop::{Shared, Stop, Traced};
 use crate::table::Explored;
-use crate::whole::are_whole;
 use ends_plain::config::{Config, Found, Setting};
 use ends_plain::ends::is_end_at;
 use ends_plain::shorter::can_come;
@@ -33,8 +31,6 @@ const MOST_RUNS: usize = 4_000_000;
 pub struct Room {
     /// It stops once it has more states.
     pub states: usize,
-    /// The most states of its table of calls.
-    pub states_of_table: usize,
     /// The most events of a trace.
     pub longest: usize,
 }
@@ -45,11 +41,8 @@ pub struct FoundByCalls {
     pub found: Vec<Found>,
     /// The number of states that the search found.
     pub states: usize,
-    /// Was each state expanded, and has each end that the search found a trace? Then the ends that
-    /// were known are among those that it found, too.
+    /// Was each state expanded, and has each end that the search found a trace?
     pub is_closed: bool,
-    /// Are these all ends, if no run of the program faults?
-    pub whole: bool,
 }
 
 /// The event, if there is one and it can come.
@@ -216,18 +209,6 @@ fn is_listed(found: &[Found], end: PlainState) -> bool {
     found.iter().any(|one| one.end == end)
 }
 
-/// Is the end that of one of the root's ways?
-fn is_way(root: &Explored, end: PlainState) -> bool {
-    root.ways
-        .iter()
-        .any(|way| end == PlainState::Ended(way.end))
-}
-
-/// Are these ends those of the root's ways?
-fn are_ways(root: &Explored, found: &[Found]) -> bool {
-    found.iter().all(|one| is_way(root, one.end))
-}
-
 /// The ends with one more, unless it is there.
 fn with_end(found: Vec<Found>, one: Found) -> Result<Vec<Found>, AllocError>
     ensures { (g : Setting) → AreEnds g found.items → IsEndOf g one
@@ -241,20 +222,18 @@ fn with_end(found: Vec<Found>, one: Found) -> Result<Vec<Found>, AllocError>
     Ok(found)
 }
 
-/// The ends of the root's ways, after those that are known.
+/// The ends of the root's ways.
 fn listed(
     alloc: Global,
     setting: &Setting,
     search: &Search,
     root: &Explored,
     longest: usize,
-    known: Vec<Found>,
 ) -> Result<FoundByCalls, AllocError>
-    requires { AreEnds setting.now known.items }
     ensures { IfOk result (λ r. AreEnds setting.now r.found.items) }
 {
-    let mut is_closed = search.is_closed() && are_ways(root, known.as_slice());
-    let mut found = known;
+    let mut is_closed = search.is_closed();
+    let mut found = Vec::new(alloc);
     let mut events: usize = 0;
     let mut runs: usize = 0;
     let mut shared: Option<Shared> = None;
@@ -282,63 +261,28 @@ fn listed(
         found,
         states: search.states,
         is_closed,
-        whole: false,
     })
 }
 
-/// The ends that a search finds, after those that are known.
-fn searched(
-    alloc: Global,
-    setting: &Setting,
-    room: Room,
-    known: Vec<Found>,
-) -> Result<FoundByCalls, AllocError>
-    requires { AreEnds setting.now known.items }
-    ensures { IfOk result (λ r. AreEnds setting.now r.found.items) }
-{
-    let search = explored(alloc, setting, room.states)?;
-    match search.root() {
-        Some(root) => listed(alloc, setting, &search, root, room.longest, known),
-        None => Ok(FoundByCalls {
-            found: known,
-            states: search.states,
-            is_closed: false,
-            whole: false,
-        }),
-    }
-}
-
-/// Are these all ends, if no run of the program faults?
-fn is_whole(
-    alloc: Global,
-    setting: &Setting,
-    calls: &FoundByCalls,
-    most: usize,
-) -> Result<bool, AllocError>
-    ensures { IfOk result (λ yes. AreWhole yes setting.now calls.now.found.items) }
-{
-    if !calls.is_closed {
-        return Ok(false);
-    }
-    are_whole(alloc, setting, calls.found.as_slice(), most)
-}
-
-/// Ends of a program, found call by call, after those that are known.
+/// Ends of a program, found call by call.
 ///
 /// # Errors
 ///
 /// There is no memory.
-pub fn ends_by_calls(
+pub fn found_by_calls(
     alloc: Global,
     setting: &Setting,
     room: Room,
-    known: Vec<Found>,
 ) -> Result<FoundByCalls, AllocError>
-    requires { AreEnds setting.now known.items }
-    ensures sound { IfOk result (λ r. AreEnds setting.now r.found.items) }
-    ensures complete { IfOk result (λ r. AreWhole r.whole setting.now r.found.items) }
+    ensures { IfOk result (λ r. AreEnds setting.now r.found.items) }
 {
-    let mut calls = searched(alloc, setting, room, known)?;
-    calls.whole = is_whole(alloc, setting, &calls, room.states_of_table)?;
-    Ok(calls)
+    let search = explored(alloc, setting, room.states)?;
+    match search.root() {
+        Some(root) => listed(alloc, setting, &search, root, room.longest),
+        None => Ok(FoundByCalls {
+            found: Vec::new(alloc),
+            states: search.states,
+            is_closed: false,
+        }),
+    }
 }

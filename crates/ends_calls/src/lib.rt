@@ -21,4 +21,3 @@ pub mod seen;
 pub mod steps;
 pub mod stop;
 pub mod table;
-pub mod whole;

@@ -1,15 +1,16 @@
 //! The ends that a search by calls finds before a search over all schedules.
 
 ghost use Rattle.std.specs.Prelude.{◌≡◌, true, false, IfOk};
-ghost use Rattle.ends_calls.specs.Whole.{AreAllOf, AreWhole};
+ghost use Rattle.ends_whole.specs.Whole.{AreAllOf, AreWhole};
 ghost use Rattle.ends_plain.specs.Listed.{AreEnds, IsEndOf};
 ghost use Rattle.ends_plain.specs.declared.config.Setting.{Setting};
 ghost use Rattle.laws_runs.specs.Runs.{NeverFaults};
 
 use crate::progress::Progress;
-use ends_calls::ends::{FoundByCalls, Room, ends_by_calls};
+use ends_calls::ends::Room;
 use ends_faults::never_faults;
 use ends_plain::config::{EndsFound, Found, Setting};
+use ends_whole::{EndsByCalls, ends_by_calls};
 use look_options::Limits;
 use std::alloc::{AllocError, Global};
 use sts_plain::PlainState;
@@ -73,16 +74,15 @@ fn is_faultless(
 }
 
 /// Ends of a program whose runs may fault. There may be more.
-fn some_ends(alloc: Global, setting: &Setting, limits: Limits) -> Result<FoundByCalls, AllocError>
+fn some_ends(alloc: Global, setting: &Setting, limits: Limits) -> Result<EndsByCalls, AllocError>
     ensures sound { IfOk result (λ r. AreEnds setting.now r.found.items) }
     ensures part { IfOk result (λ r. r.whole ≡ false) }
 {
     let room = Room {
         states: (most_of(limits) as usize).min(FIRST_TRY),
-        states_of_table: 0,
         longest: LONGEST_OF_REFUSED,
     };
-    let mut calls = ends_by_calls(alloc, setting, room, Vec::new(alloc))?;
+    let mut calls = ends_by_calls(alloc, setting, room, 0)?;
     calls.is_closed = false;
     calls.whole = false;
     Ok(calls)
@@ -104,24 +104,23 @@ fn tried<P: Progress>(
     longest: usize,
     limits: Limits,
     progress: &mut P,
-) -> Result<FoundByCalls, AllocError>
+) -> Result<EndsByCalls, AllocError>
     ensures sound { IfOk result (λ r. AreEnds setting.now r.found.items) }
     ensures complete { IfOk result (λ r. AreWhole r.whole setting.now r.found.items) }
 {
     let most = most_of(limits) as usize;
     let mut room = Room {
         states: most.min(FIRST_TRY),
-        states_of_table: most,
         longest,
     };
-    let mut calls = ends_by_calls(alloc, setting, room, Vec::new(alloc))?;
+    let mut calls = ends_by_calls(alloc, setting, room, most)?;
     for _ in 0..u64::MAX {
         let is_cut_off = calls.states > room.states;
         if !is_cut_off || room.states >= most || !has_time(limits, progress) {
             break;
         }
         room.states = room.states.saturating_mul(MORE).min(most);
-        calls = ends_by_calls(alloc, setting, room, Vec::new(alloc))?;
+        calls = ends_by_calls(alloc, setting, room, most)?;
     }
     Ok(calls)
 }
@@ -134,7 +133,7 @@ pub(crate) fn by_calls<P: Progress>(
     is_refused: bool,
     limits: Limits,
     progress: &mut P,
-) -> Result<FoundByCalls, AllocError>
+) -> Result<EndsByCalls, AllocError>
     requires never { is_refused ≡ false → NeverFaults setting.now.program }
     ensures sound { IfOk result (λ r. AreEnds setting.now r.found.items) }
     ensures complete { IfOk result (λ r. r.whole ≡ true → AreAllOf setting.now r.found.items) }
@@ -161,7 +160,7 @@ fn longest(found: &[Found]) -> usize {
 }
 
 /// The most states of a search over all schedules, once these ends are known.
-pub(crate) fn room_after(limits: Limits, is_refused: bool, calls: &FoundByCalls) -> usize {
+pub(crate) fn room_after(limits: Limits, is_refused: bool, calls: &EndsByCalls) -> usize {
     let most = most_of(limits) as usize;
     if limits.states.is_some() || (is_refused && !calls.whole) {
         return most;
@@ -214,7 +213,7 @@ fn merged(
 }
 
 /// The ends of a search by calls, and those of a search over all schedules that stopped.
-fn joined(setting: &Setting, calls: FoundByCalls, ends: EndsFound) -> Result<Answer, AllocError>
+fn joined(setting: &Setting, calls: EndsByCalls, ends: EndsFound) -> Result<Answer, AllocError>
     requires calls { AreEnds setting.now calls.found.items }
     requires ends { AreEnds setting.now ends.found.items }
     ensures sound { IfOk result (λ a. AreEnds setting.now a.found.items) }
@@ -240,7 +239,7 @@ fn joined(setting: &Setting, calls: FoundByCalls, ends: EndsFound) -> Result<Ans
 /// too; and these alone, if they are all ends.
 pub(crate) fn answered(
     setting: &Setting,
-    calls: FoundByCalls,
+    calls: EndsByCalls,
     ends: EndsFound,
 ) -> Result<Answer, AllocError>
     requires calls { AreEnds setting.now calls.found.items }

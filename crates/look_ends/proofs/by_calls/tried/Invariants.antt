@@ -1,4 +1,4 @@
-use Rattle.ends_calls.specs.Whole.{AreWhole}
+use Rattle.ends_whole.specs.Whole.{AreWhole}
 use Rattle.ends_plain.specs.Listed.{AreEnds}
 use Rattle.look_ends.proofs.by_calls.tried.Given as goal
 

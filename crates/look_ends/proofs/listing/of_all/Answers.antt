@@ -1,6 +1,6 @@
 use Rattle.std.proofs.Common.{◌≡◌, true, subst}
 use Rattle.std.proofs.lemmas.Result.{IfOk-weaker}
-use Rattle.ends_calls.specs.Whole.{AreAllOf}
+use Rattle.ends_whole.specs.Whole.{AreAllOf}
 use Rattle.ends_plain.specs.Listed.{AreEnds}
 use Rattle.ends_plain.specs.declared.config.Setting.{Setting}
 use Rattle.look_ends.proofs.ListingLemmas.{search_of}

@@ -6,7 +6,7 @@ use Rattle.sts_model.specs.declared.event.End.TheVariants.{Success}
 use Rattle.sts_plain.specs.declared.misstep.PlainState.TheVariants as plain
 use Rattle.laws_calls.specs.declared.table.Way.{Way}
 use Rattle.ends_plain.specs.Listed.{ends_of}
-use Rattle.ends_calls.proofs.whole.have_ways.Goals as goal
+use Rattle.ends_whole.proofs.whole.have_ways.Goals as goal
 
 pub loop-way-preserved : goal.loop-way-preserved
 loop-way-preserved c =

@@ -2,8 +2,8 @@ use Rattle.std.proofs.Common.{List, subst, sym}
 use Rattle.laws_calls.specs.Outside.{only_interrupts}
 use Rattle.laws_calls.specs.declared.table.Row.{Row}
 use Rattle.ends_table.specs.Led.{IsClosed}
-use Rattle.ends_calls.proofs.WholeLemmas.{are_all}
-use Rattle.ends_calls.proofs.whole.are_whole.Goals as goal
+use Rattle.ends_whole.proofs.WholeLemmas.{are_all}
+use Rattle.ends_whole.proofs.whole.are_whole.Goals as goal
 
 pub returns-in-Some-get : goal.returns-in-Some-get
 returns-in-Some-get c all never =

@@ -27,7 +27,7 @@ use Rattle.ends_plain.specs.Ends.{AreAll, is_end, is_interrupt}
 use Rattle.ends_plain.specs.Listed.{ends_of}
 use Rattle.ends_plain.specs.declared.config.Found.{Found}
 use Rattle.ends_plain.specs.declared.config.Setting.{Setting}
-use Rattle.ends_calls.specs.Whole.{AreAllOf}
+use Rattle.ends_whole.specs.Whole.{AreAllOf}
 
 same_interrupts : (events : List Event) → count_by covers.is_interrupt events ≡ count_by is_interrupt events
 same_interrupts [] = refl

@@ -2,7 +2,7 @@
 
 ghost use Rattle.std.specs.Prelude.{◌≡◌, true, IfOk};
 ghost use Rattle.std.specs.List.{All, Contains};
-ghost use Rattle.ends_calls.specs.Whole.{AreWhole};
+ghost use Rattle.ends_whole.specs.Whole.{AreWhole};
 ghost use Rattle.ends_plain.specs.Listed.{ends_of};
 ghost use Rattle.laws_calls.specs.declared.table.Way.{Way};
 ghost use Rattle.sts_plain.specs.declared.misstep.PlainState.TheVariants as plain;
