@@ -5,3 +5,4 @@ pub mod ends;
 pub mod whole;
 
 pub use ends::{EndsByCalls, ends_by_calls};
+pub use ends_calls::ends::Room;

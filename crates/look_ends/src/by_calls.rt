@@ -7,10 +7,9 @@ ghost use Rattle.ends_plain.specs.declared.config.Setting.{Setting};
 ghost use Rattle.laws_runs.specs.Runs.{NeverFaults};
 
 use crate::progress::Progress;
-use ends_calls::ends::Room;
 use ends_faults::never_faults;
 use ends_plain::config::{EndsFound, Found, Setting};
-use ends_whole::{EndsByCalls, ends_by_calls};
+use ends_whole::{EndsByCalls, Room, ends_by_calls};
 use look_options::Limits;
 use std::alloc::{AllocError, Global};
 use sts_plain::PlainState;
