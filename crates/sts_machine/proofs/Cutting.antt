@@ -8,7 +8,7 @@ use Rattle.sts_model.specs.declared.record.Frame.{Frame}
 use Rattle.sts_model.specs.World.{code, instr_at}
 use Rattle.sts_model.specs.Local.{is_local}
 use Rattle.sts_frames.specs.Locals.{if_local, local_at, and_local, locals, AreSafe, IsSafe}
-use Rattle.sts_frames.proofs.LocalsLemmas.{just}
+use Rattle.std.proofs.lemmas.Option.{same_Some}
 use Rattle.laws_live.specs.Fine.{IsLiveFine}
 use Rattle.laws_live.specs.Reading.{alive_at, with_live_frame}
 use Rattle.laws_live.specs.Waiting.{live_can_step, live_stand_at, live_stand_at_instr}
@@ -24,7 +24,7 @@ next : (is : List Instr) (f : Frame) (i : Instr) → local_at is f ≡ Some i �
 next is f i e = by (slice_get is f.pc) refl e
   where
     so : (j : Instr) (b : Bool) → slice_get is f.pc ≡ Some j → is_local j ≡ b → cond b (Some j) None ≡ Some i → IsNext is f i
-    so j true at l e = subst (IsNext is f) (just j i e) (record { at = at; is_local = l })
+    so j true at l e = subst (IsNext is f) (same_Some j i e) (record { at = at; is_local = l })
     so j false at l e = absurd (cc)
 
     by : (o : Option Instr) → slice_get is f.pc ≡ o → if_local o ≡ Some i → IsNext is f i
@@ -43,7 +43,7 @@ module _ (p : Program) (t : ℕ) (law : IsLawful p) where
   fine : (f : Frame) (i : Instr) (r : IsReached p t f) → AtLocal p r.view t f i → IsLiveFine p r.view t f i
   fine f i r a =
       let s = law.safe r.events r.view r.steps r.stands t (can-local p r.view t f i a) in
-      let same : s.instr ≡ i = just s.instr i (sym s.at ∙ ap (instr_at p) r.frame ∙ a.at) in
+      let same : s.instr ≡ i = same_Some s.instr i (sym s.at ∙ ap (instr_at p) r.frame ∙ a.at) in
       subst (λ j. IsLiveFine p r.view t f j) same (subst (λ (g : Frame). IsLiveFine p r.view t g s.instr) r.frame s.fine)
 
   -- some instruction is next

@@ -22,7 +22,8 @@ use Rattle.laws_live.specs.Seen.{StandsAt, TurnsAreSeen}
 use Rattle.laws_accepted.specs.Costs.{IsModest}
 use Rattle.laws_accepted.specs.Accepted.{LimitsHold}
 use Rattle.sts_frames.specs.Locals.{locals}
-use Rattle.sts_frames.proofs.LocalsLemmas.{just, last}
+use Rattle.std.proofs.lemmas.Option.{same_Some}
+use Rattle.sts_frames.proofs.LocalsLemmas.{last}
 use Rattle.sts_machine.specs.Slice.{steps_of}
 use Rattle.sts_machine.proofs.Fine.{local_effect}
 
@@ -43,7 +44,7 @@ pub beside-local : (is : List Instr) (i : Instr) (f : Frame) → IsBeside f (loc
 beside-local is i f = let same = leaves-local is i f in record { function = same.function; entries = same.entries }
 
 pub beside-locals : (is : List Instr) (f : Frame) (n : ℕ) (g : Frame) → locals is f n ≡ Some g → IsBeside f g
-beside-locals is f zero g e = subst (IsBeside f) (just f g e) (beside-refl f)
+beside-locals is f zero g e = subst (IsBeside f) (same_Some f g e) (beside-refl f)
 beside-locals is f (suc n) g e =
     let l = last is (locals is f n) g e in
     subst (IsBeside f) (sym l.next) (beside-trans f l.frame _ (beside-locals is f n l.frame l.before) (beside-local is l.instr l.frame))
@@ -172,7 +173,7 @@ pub slices_are_steps : (p : Program) → TurnsAreSeen p → (events : List Event
     → (count : ℕ) (f : Frame) → locals (code p (alive_at v t).frame) (alive_at v t).frame count ≡ Some f
     → StandsAt p (events ++ steps_of count t) (with_live_frame v t f) (n + count)
 slices_are_steps p law events v n t stands lives zero f e =
-    let frame : with_live_frame v t f ≡ v = ap (with_live_frame v t) (sym (just _ f e)) ∙ same-framed v t lives in
+    let frame : with_live_frame v t f ≡ v = ap (with_live_frame v t) (sym (same_Some _ f e)) ∙ same-framed v t lives in
     subst (λ es. StandsAt p es (with_live_frame v t f) (n + 0)) (sym (append-nil events))
     (subst (λ w. StandsAt p events w (n + 0)) (sym frame)
     (subst (λ m. StandsAt p events v m) (omega arith) stands))

@@ -20,7 +20,7 @@ use Rattle.sts_store.specs.Parts.{Parts, Unseen, frame_of, live_of, unseen_of}
 use Rattle.sts_machine.specs.Machine.{IsMachine, Seen, Stands}
 use Rattle.sts_machine.specs.Room.{HasRoomOf}
 use Rattle.sts_frames.specs.Locals.{locals}
-use Rattle.sts_frames.proofs.LocalsLemmas.{just}
+use Rattle.std.proofs.lemmas.Option.{same_Some}
 use Rattle.sts_machine.specs.Slice.{Cut, Fits, IsLawful, IsReached, steps_of}
 use Rattle.sts_machine.specs.Standing.{AreStanding, AreStandingBut}
 use Rattle.sts_machine.proofs.Changing.{changes-quiet}
@@ -113,7 +113,7 @@ module _ (v : Live) (t : ℕ) (f : Frame) (i : ℕ) (other : (i == t) ≡ false)
 
 pub same_view : (u : Seen) (s : Cut) → s.count ≡ 0 → Fits u s → locals s.code s.start s.count ≡ Some s.frame → u.live ≡ with_live_frame u.live s.task s.frame
 same_view u s none fits done =
-    let same : s.frame ≡ s.start = just s.frame s.start (sym done ∙ ap (locals s.code s.start) none) in
+    let same : s.frame ≡ s.start = same_Some s.frame s.start (sym done ∙ ap (locals s.code s.start) none) in
     sym (ap (with_live_frame u.live s.task) (same ∙ fits.start) ∙ same-framed u.live s.task fits.lives)
 
 -- ---- put back

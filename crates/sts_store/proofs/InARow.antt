@@ -2,7 +2,8 @@
 use Rattle.std.proofs.Common.{◌≡◌, ℕ, zero, suc, List, [], ◌∷◌, true, Option, Some, None, refl, sym, ◌∙◌, ap, get_or, set}
 use Rattle.sts_code.specs.declared.instr.Instr.{Instr}
 use Rattle.sts_frames.specs.Locals.{locals}
-use Rattle.sts_frames.proofs.LocalsLemmas.{just, last}
+use Rattle.std.proofs.lemmas.Option.{same_Some}
+use Rattle.sts_frames.proofs.LocalsLemmas.{last}
 use Rattle.sts_model.specs.declared.record.Frame.{Frame}
 use Rattle.laws_live.specs.Reading.{lives_in}
 use Rattle.sts_store.specs.declared.running.Running.{Running}
@@ -13,7 +14,7 @@ use Rattle.sts_store.proofs.Views.{lived, lives_is, same_frame, with_running}
 
 -- they keep the structure list
 pub locals_entries : (is : List Instr) (f : Frame) (n : ℕ) (g : Frame) → locals is f n ≡ Some g → g.entries ≡ f.entries
-locals_entries is f zero g e = ap (λ (h : Frame). h.entries) (sym (just f g e))
+locals_entries is f zero g e = ap (λ (h : Frame). h.entries) (sym (same_Some f g e))
 locals_entries is f (suc n) g e =
     let l = last is (locals is f n) g e in
     ap (λ (h : Frame). h.entries) l.next ∙ local_entries is l.instr l.frame ∙ locals_entries is f n l.frame l.before
