@@ -267,23 +267,27 @@ fn are_same(ours: &[Sum], theirs: &[Sum]) -> bool {
             && one.cost == other.cost)
 }
 
-/// The sums with a run of equal parts more.
+/// The sums with a run of equal parts more, if there are at most `most`.
 fn after_run(
     alloc: Global,
     bounds: &Bounds,
     sums: Vec<Sum>,
     choices: &[Sum],
     count: u32,
-) -> Result<Vec<Sum>, AllocError> {
+    most: usize,
+) -> Result<Option<Vec<Sum>>, AllocError> {
     let mut sums = sums;
     for _ in 0..count {
         let next = extended(alloc, bounds, sums.as_slice(), choices)?;
+        if next.len() > most {
+            return Ok(None);
+        }
         if are_same(sums.as_slice(), next.as_slice()) {
-            return Ok(next);
+            return Ok(Some(next));
         }
         sums = next;
     }
-    Ok(sums)
+    Ok(Some(sums))
 }
 
 /// What fits the facts of a scope, if `left` interrupts are left.
@@ -351,25 +355,56 @@ fn choices_of(
     )
 }
 
-/// The sums of all parts of a scope.
+/// The sums of all parts of a scope, if no part makes more than `most`.
 fn sums(
     alloc: Global,
     table: &Table,
     scope: &Seen,
     left: u32,
     needs: Needs,
-) -> Result<Vec<Sum>, AllocError> {
+    most: usize,
+) -> Result<Option<Vec<Sum>>, AllocError> {
     let bounds = bounds_of(&scope.facts, left);
     let mut found = no_parts(alloc)?;
     for run in scope.runs.as_slice() {
         let choices = choices_of(alloc, table, &scope.facts, needs, run)?;
-        found = after_run(alloc, &bounds, found, choices.as_slice(), run.count)?;
+        let next = after_run(alloc, &bounds, found, choices.as_slice(), run.count, most)?;
+        let Some(next) = next else {
+            return Ok(None);
+        };
+        found = next;
+    }
+    Ok(Some(found))
+}
+
+/// Those of some sums that fit what is known of a scope.
+fn those_that_fit(alloc: Global, facts: &Facts, sums: &[Sum]) -> Result<Vec<Sum>, AllocError> {
+    let mut found = Vec::new(alloc);
+    for sum in sums {
+        if fits(facts, sum.count) {
+            found.push(*sum)?;
+        }
     }
     Ok(found)
 }
 
 /// The counts that fit a scope, if `left` interrupts are left, with the needed ones. Each comes
-/// with the fewest interrupts for it.
+/// with the fewest interrupts for it. It returns none if it had to keep more than `most` counts.
+pub fn fitting_within(
+    alloc: Global,
+    table: &Table,
+    scope: &Seen,
+    left: u32,
+    needs: Needs,
+    most: usize,
+) -> Result<Option<Vec<Sum>>, AllocError> {
+    match sums(alloc, table, scope, left, needs, most)? {
+        Some(sums) => Ok(Some(those_that_fit(alloc, &scope.facts, sums.as_slice())?)),
+        None => Ok(None),
+    }
+}
+
+/// The same, however many counts there are.
 pub fn fitting(
     alloc: Global,
     table: &Table,
@@ -377,13 +412,8 @@ pub fn fitting(
     left: u32,
     needs: Needs,
 ) -> Result<Vec<Sum>, AllocError> {
-    let mut found = Vec::new(alloc);
-    for sum in &sums(alloc, table, scope, left, needs)? {
-        if fits(&scope.facts, sum.count) {
-            found.push(*sum)?;
-        }
-    }
-    Ok(found)
+    let found = fitting_within(alloc, table, scope, left, needs, usize::MAX)?;
+    Ok(found.unwrap_or(Vec::new(alloc)))
 }
 
 /// The fewest interrupts of a pick that fits, if one does.

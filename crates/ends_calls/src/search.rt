@@ -27,7 +27,7 @@ pub struct Search {
     stack: Vec<Exploring>,
     /// How many states were found.
     pub states: usize,
-    /// Did all instructions make sense? They do in an accepted program.
+    /// Could each instruction be done, with no more totals of a scope than are told apart?
     is_fine: bool,
 }
 

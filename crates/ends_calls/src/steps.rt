@@ -6,7 +6,7 @@ use crate::joins::joined;
 use crate::learned::{cancelled_by, decided, may_go_on};
 use crate::own::{Held, Own};
 use crate::part::{Filter, Part, count_parts, narrowed, part_at, push_parts, with_part};
-use crate::pick::{Needs, fitting, least_cost, some_fits};
+use crate::pick::{Needs, fitting, fitting_within, least_cost, some_fits};
 use crate::seen::{Facts, Knowledge, Seen};
 use crate::table::{Label, Table};
 use ends_plain::config::Setting;
@@ -14,6 +14,9 @@ use std::alloc::{AllocError, Global};
 use sts_code::{Instr, Joiner, Kind, args};
 use sts_frames::instr_at;
 use sts_model::{End, Entry};
+
+/// The most totals of a scope that are told apart.
+const MOST_TOTALS: usize = 16_384;
 
 /// What the steps of a task depend on besides its state.
 #[derive(Drop)]
@@ -37,7 +40,8 @@ pub enum Outcome {
     /// This call has to be explored first.
     Asks(Call),
     Goes(Vec<Step>),
-    /// An instruction can't be done. That doesn't happen in an accepted program.
+    /// A scope has too many totals, or an instruction can't be done. In an accepted program each
+    /// can.
     Breaks,
 }
 
@@ -416,23 +420,27 @@ fn tallied(
     Ok(())
 }
 
-/// Adds a state for each total that fits.
+/// Adds a state for each total that fits, and returns whether there are not too many.
 fn totalled(
     alloc: Global,
     around: &Around,
     own: &Own,
     place: u32,
     steps: &mut Steps,
-) -> Result<(), AllocError> {
+) -> Result<bool, AllocError> {
     let Some(scope) = own.scope(place) else {
-        return Ok(());
+        return Ok(true);
     };
     let needs = Needs {
         total: true,
         ..Needs::asked(scope.facts.asked)
     };
+    let left = around.left(own);
+    let Some(sums) = fitting_within(alloc, around.table, scope, left, needs, MOST_TOTALS)? else {
+        return Ok(false);
+    };
     let mut seen = Vec::new(alloc);
-    for sum in &fitting(alloc, around.table, scope, around.left(own), needs)? {
+    for sum in &sums {
         let total = sum.count.total;
         if !seen.contains(&total) {
             seen.push(total)?;
@@ -446,7 +454,7 @@ fn totalled(
             steps.add_value(alloc, own, place, next, total, Label::Plain)?;
         }
     }
-    Ok(())
+    Ok(true)
 }
 
 /// Do the ways of the scope's subtasks take no interrupts?
@@ -650,7 +658,7 @@ fn asked_scope(
             )?;
         }
         Instr::Tally(_, kind) => tallied(alloc, around, own, place, kind, steps)?,
-        Instr::Total(_) => totalled(alloc, around, own, place, steps)?,
+        Instr::Total(_) => return totalled(alloc, around, own, place, steps),
         _ => closed(alloc, around, own, place, steps)?,
     }
     Ok(true)
