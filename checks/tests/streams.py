@@ -82,6 +82,16 @@ LATE_FAULT = "func one 0\npush 5\nret\nend\nfunc kid 0\npush 1\ninterrupted\nadd
     + "fork s0 kid _\n" * 10
     + "join s0 bad - intr\npop\ntotal s0\nclose s0\nret\nbad:\nclose s0\nfail\nintr:\npush 0\nclose s0\nfail\nend\n"
 )
+# texts with more ends than any search lists: thirty races, whose winners are summed up in a local, and the total of as many
+# subtasks that a timeout may make unavailable. Each try of a search by calls of the first takes longer than the one before
+ONE, ENDED = "func one 1\nload 0\nret\nend\nfunc main 0\n", "bad:\nclose s0\nfail\nintr:\npush 0\nclose s0\nfail\nend\n"
+RACES = ONE + "push 0\nstore 0\n" + "".join(
+    f"open s0 any\npush 0\nfork s0 one _\npush {1 << k}\nfork s0 one _\njoin s0 bad - intr\nload 0\nadd\nstore 0\nclose s0\n" for k in range(30)
+) + "load 0\nret\n" + ENDED
+TOTALS = "profile 2\n" + ONE + "open s0 awaitok timed\n" + "".join(f"push {1 << k}\nfork s0 one _\n" for k in range(30)) + (
+    "join s0 bad late intr\ntotal s0\nclose s0\nret\nlate:\ntotal s0\nclose s0\nret\n" + ENDED
+)
+STOPPED = (["stopped at N states, not all schedules"], 5)
 FAULT_SO_FAR = r"\r\x1b\[K\d+ after 9 events: fault Operand, task 0 in main, line 18: add\r\n"
 
 
@@ -551,6 +561,11 @@ def timely(look, text):
     with open(f"{text}.trace", "wb") as file:
         file.write(traced.stdout)
     yield "the run of that trace", answer(look, ["explain", text, f"{text}.trace"])[1], 0
+    for name, endless in (("races", RACES), ("totals", TOTALS)):
+        with open(f"{text}.{name}", "w") as file:
+            file.write(endless)
+        printed, status = answer(look, ["ends", f"{text}.{name}", "--most", "100000000", "--seconds", "2"], preexec_fn=None)
+        yield f"{name} after two seconds", (re.sub(r"\d+", "N", printed).splitlines()[-1:], status), STOPPED
 
 
 def searched(look, words):
