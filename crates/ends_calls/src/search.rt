@@ -27,7 +27,7 @@ pub struct Search {
     stack: Vec<Exploring>,
     /// How many states were found.
     pub states: usize,
-    /// Could each instruction be done, with no more totals of a scope than are told apart?
+    /// Could each instruction be done, with no more totals of a scope than the search keeps?
     is_fine: bool,
 }
 

@@ -15,7 +15,7 @@ use sts_code::{Instr, Joiner, Kind, args};
 use sts_frames::instr_at;
 use sts_model::{End, Entry};
 
-/// The most totals of a scope that are told apart.
+/// The most totals of a scope that a search keeps.
 const MOST_TOTALS: usize = 16_384;
 
 /// What the steps of a task depend on besides its state.
