@@ -251,7 +251,7 @@ impl<'p> Book<'p> {
         ensures { self.new
             ≡ record self.old { out = filter (λ o. not (o == task)) self.old.out } }
     {
-        forget(&mut self.out, task);
+        remove_task(&mut self.out, task);
     }
 
     /// Takes the slice of a task that can step and isn't out. Returns `None` if and only if there
@@ -338,7 +338,7 @@ impl<'p> Book<'p> {
         }
         self.machine.put(slice);
         self.journal.push_steps(task, slice.count());
-        forget(&mut self.out, task);
+        remove_task(&mut self.out, task);
         true
     }
 
@@ -462,7 +462,7 @@ fn is_alone(out: &[u32], task: u32) -> bool
 }
 
 /// Takes one task out of a list. Usually it is the only one.
-fn forget(out: &mut Vec<u32>, task: u32)
+fn remove_task(out: &mut Vec<u32>, task: u32)
     ensures items { out.new.items ≡ filter (λ o. not (o == task)) out.old.items }
     ensures capacity { vec_capacity out.new ≡ vec_capacity out.old }
 {

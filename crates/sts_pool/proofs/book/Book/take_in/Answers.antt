@@ -20,8 +20,8 @@ invariant_of-self c =
     let t = c.args.slice.now.task in
     let put = c.put.ensures in
     let recorded : IsRecorded c.self.inside.journal c.push_steps.new.self (steps_of c.args.slice.now.count t) = rw (c.count.ensures.value, c.task-task.ensures) at c.push_steps.ensures in
-    let left : c.forget.new.out.items ≡ without t c.self.inside.out.items = rw c.task-task.ensures at c.forget.ensures.items in
-    rw (left, c.forget.ensures.capacity)
+    let left : c.remove_task.new.out.items ≡ without t c.self.inside.out.items = rw c.task-task.ensures at c.remove_task.ensures.items in
+    rw (left, c.remove_task.ensures.capacity)
     (back_kept c.self.inside.machine c.put.new.self c.self.inside.journal c.self.inside.outside c.self.inside.out.items _ c.args.slice.now.count t c.args.slice.now.frame c.self.invariant put.program put.stands put.live put.steps c.push_steps.new.self recorded)
 
 pub returns-clause-journal : goal.returns-clause-journal
@@ -29,16 +29,16 @@ returns-clause-journal c =
     let t = c.args.slice.now.task in
     let put = c.put.ensures in
     let recorded : IsRecorded c.self.inside.journal c.push_steps.new.self (steps_of c.args.slice.now.count t) = rw (c.count.ensures.value, c.task-task.ensures) at c.push_steps.ensures in
-    λ is. records c.self.inside.machine c.put.new.self c.self.inside.journal c.push_steps.new.self c.self.inside.outside c.self.inside.outside c.self.inside.out.items c.forget.new.out.items _ c.args.self.now c.self.view_is recorded (all_steps c.args.slice.now.count t c.self.inside.machine.steps c.put.new.self.steps put.steps) (none_outside c.args.slice.now.count t c.self.inside.outside) put.stands
+    λ is. records c.self.inside.machine c.put.new.self c.self.inside.journal c.push_steps.new.self c.self.inside.outside c.self.inside.outside c.self.inside.out.items c.remove_task.new.out.items _ c.args.self.now c.self.view_is recorded (all_steps c.args.slice.now.count t c.self.inside.machine.steps c.put.new.self.steps put.steps) (none_outside c.args.slice.now.count t c.self.inside.outside) put.stands
 
 pub returns-clause-back : goal.returns-clause-back
 returns-clause-back c =
     let t = c.args.slice.now.task in
-    let left : c.forget.new.out.items ≡ without t c.self.inside.out.items = rw c.task-task.ensures at c.forget.ensures.items in
+    let left : c.remove_task.new.out.items ≡ without t c.self.inside.out.items = rw c.task-task.ensures at c.remove_task.ensures.items in
     λ is. rw left (taken_out t c.self.inside.out.items)
 
 pub returns-clause-others : goal.returns-clause-others
 returns-clause-others c =
     let t = c.args.slice.now.task in
-    let left : c.forget.new.out.items ≡ without t c.self.inside.out.items = rw c.task-task.ensures at c.forget.ensures.items in
+    let left : c.remove_task.new.out.items ≡ without t c.self.inside.out.items = rw c.task-task.ensures at c.remove_task.ensures.items in
     λ is q other. rw left (others_left t q c.self.inside.out.items other ∙ ap (λ (b : BookSeen). is_out b q) c.self.view_is)

@@ -1,6 +1,6 @@
 use Rattle.std.proofs.Common.{rules, sym, ◌∙◌}
 use Rattle.std.proofs.lemmas.Fn.{filter_same}
-use Rattle.sts_pool.proofs.book.forget.Goals as goal
+use Rattle.sts_pool.proofs.book.remove_task.Goals as goal
 
 pub returns-then-is_alone-clause-items : goal.returns-then-is_alone-clause-items
 returns-then-is_alone-clause-items c =
