@@ -13,7 +13,7 @@ use Rattle.look_options.specs.declared.ends.EndsOptions.{EndsOptions}
 use Rattle.look_args.specs.declared.asked.Asked.{Asked}
 use Rattle.look_args.specs.declared.asked.Asked.TheVariants as asked
 use Rattle.look_args.specs.declared.asked.Kept.{Kept}
-use Rattle.look_json.specs.Ends.{json_form}
+use Rattle.look_ends_json.specs.Ends.{json_form}
 use Rattle.look.specs.declared.piped.Piped.{Piped}
 
 -- lines of JSON or not

@@ -7,7 +7,7 @@ ghost use Rattle.look_ends.specs.Listing.{IsListingIn, Listing as AnyListing, Li
 ghost use Rattle.look.specs.Piping.{form_of};
 
 use look_ends::{Listing, Progress, listed, listed_in, write_ends, write_ends_in};
-use look_json::JsonEnds;
+use look_ends_json::JsonEnds;
 use look_options::EndsOptions;
 use std::alloc::{AllocError, Global};
 use std::io::Write;

@@ -1,5 +1,3 @@
 mod AnswerFloats
-mod CallFloats
-mod EndFloats
-pub mod Plain
+mod Plain
 mod WrittenLemmas

@@ -1,13 +1,10 @@
--- No line has a float, so its text is known byte for byte.
-use Rattle.std.proofs.Common.{◌≡◌, ℕ, List, ◌++◌, Option, Some, None, Bool, false, refl, Result, OnOk, ap, ◌∙◌}
+-- No line of a story has a float.
+use Rattle.std.proofs.Common.{◌≡◌, ℕ, List, Option, Some, None, false, refl}
 use Rattle.std.specs.List.{after_first, before_first}
-use Rattle.std.proofs.lemmas.Result.{on_ok_weaker}
-use Rattle.serde_json.specs.Data.{Data}
 use Rattle.serde_json.specs.Written.{has_float}
 use Rattle.sts_model.specs.declared.event.Event.{Event}
 use Rattle.sts_text.specs.Number.{digits_up_to}
 use Rattle.sts_text.specs.Words.{is_space}
-use Rattle.look_views.specs.Views.{line}
 use Rattle.look_json.specs.Stories as def
 
 told_by_plain : (e : Option Event) (n : ℕ) (words whole : List ℕ) → has_float (def.told_by e n words whole) ≡ false
@@ -20,8 +17,3 @@ numbered_plain events (Some n) words whole = told_by_plain (def.event_at events 
 
 pub told_plain : (events : List Event) (whole : List ℕ) → has_float (def.told events whole) ≡ false
 told_plain events whole = numbered_plain events (digits_up_to 4294967295 (before_first is_space whole)) (after_first is_space whole) whole
-
--- the line of a value that has no float
-pub line_written : {T E : Type 0} (r : Result T E) (old new : List ℕ) (d shown : Data) → d ≡ shown → has_float shown ≡ false → (has_float d ≡ false → OnOk r (new ≡ old ++ line d)) → OnOk r (new ≡ old ++ line shown)
-line_written r old new d shown is plain written =
-    on_ok_weaker r (λ h. h ∙ ap (λ x. old ++ line x) is) (written (ap has_float is ∙ plain))

@@ -1,5 +1,2 @@
-pub mod Calls
-pub mod Ends
 pub mod Explained
-pub mod Outcome
 pub mod Stories

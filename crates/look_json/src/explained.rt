@@ -11,9 +11,10 @@ ghost use Rattle.look_refusal.specs.Output.{IsExplanation};
 ghost use Rattle.look_views.specs.Views.{line};
 ghost use Rattle.look_json.specs.Explained as def;
 
-use crate::lines::{VERSION, push_line, text_of};
+use crate::lines::text_of;
 use look_cases::{Case, answer};
 use look_refusal::{Explanation, explain};
+use look_views::{VERSION, push_line};
 use serde_json::{Value, json};
 use std::alloc::{AllocError, Global};
 use std::io::Write;

@@ -5,22 +5,18 @@ ghost use Rattle.std.specs.List.{after_first, before_first, position};
 ghost use Rattle.std.specs.Option.{option_copied};
 ghost use Rattle.std.specs.String.{string_bytes};
 ghost use Rattle.serde_json.specs.View.{view};
-ghost use Rattle.serde_json.specs.Written.{has_float};
 ghost use Rattle.sts_text.specs.Words.{is_space, lines};
 ghost use Rattle.sts_trace.specs.Spelling.{event_text};
 ghost use Rattle.look_views.specs.Views as views;
 ghost use Rattle.look_json.specs.Stories as def;
 
 use look_lines::event_words;
+use look_views::{VERSION, push_line};
 use serde_json::{Value, json};
 use std::alloc::{AllocError, Global};
-use std::fmt::Write;
 use std::str;
 use sts_model::Event;
 use sts_text::{cut_at_newline, digits_up_to};
-
-/// The version of the lines.
-pub(crate) const VERSION: u64 = 1;
 
 fn space_in(line: &[u8]) -> Option<usize>
     ensures { result ≡ position is_space line.now }
@@ -109,15 +105,6 @@ fn told(alloc: Global, events: &[Event], line: &[u8]) -> Result<Value, AllocErro
         None => alone(alloc, line),
         Some(n) => told_by(alloc, events, n, words, line),
     }
-}
-
-/// Appends a value without floats as a line.
-pub(crate) fn push_line(alloc: Global, out: &mut String, value: &Value) -> Result<(), AllocError>
-    ensures { has_float (view value.now) ≡ false → OnOk result (string_bytes out.new
-        ≡ string_bytes out.old ++ views.line (view value.now)) }
-{
-    let text = value.to_string(alloc)?;
-    writeln!(out, "{text}")
 }
 
 fn say_told(

@@ -1,3 +1,4 @@
 pub mod Floats
+pub mod LineLemmas
 pub mod Lines
 pub mod NamedFloatLemmas

@@ -20,7 +20,7 @@ use sts_model::Event;
 use sts_world::Records;
 
 /// The version of the lines.
-pub(crate) const VERSION: u64 = 1;
+pub const VERSION: u64 = 1;
 
 /// Returns how many tasks don't live, and how many scopes are closed.
 fn not_shown(alloc: Global, records: &Records) -> Result<Value, AllocError>
@@ -171,7 +171,11 @@ fn event_view(
 }
 
 /// Appends a value without floats as a line.
-pub(crate) fn push_line(alloc: Global, out: &mut String, value: &Value) -> Result<(), AllocError>
+///
+/// # Errors
+///
+/// Memory ran out.
+pub fn push_line(alloc: Global, out: &mut String, value: &Value) -> Result<(), AllocError>
     ensures { has_float (view value.now) ≡ false → OnOk result (string_bytes out.new
         ≡ string_bytes out.old ++ def.line (view value.now)) }
 {

@@ -1,5 +1,5 @@
 use Rattle.std.proofs.Common.{refl}
-use Rattle.look_json.proofs.Plain.{line_written}
+use Rattle.look_views.proofs.LineLemmas.{line_written}
 use Rattle.look_json.proofs.explained.say_filled.Goals as goal
 
 pub returns : goal.returns

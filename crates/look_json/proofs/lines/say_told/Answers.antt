@@ -1,4 +1,5 @@
-use Rattle.look_json.proofs.Plain.{told_plain, line_written}
+use Rattle.look_json.proofs.Plain.{told_plain}
+use Rattle.look_views.proofs.LineLemmas.{line_written}
 use Rattle.look_json.proofs.lines.say_told.Goals as goal
 
 pub returns : goal.returns

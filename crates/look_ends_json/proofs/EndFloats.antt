@@ -13,8 +13,8 @@ use Rattle.look_cases.proofs.FloatLemmas.{integer_plain, maybe_plain}
 use Rattle.look_names.specs.Names.{value_name}
 use Rattle.look_views.specs.Named.{line_at}
 use Rattle.look_views.proofs.NamedFloatLemmas.{named_plain, placed_plain}
-use Rattle.look_json.specs.Ends as def
-use Rattle.look_json.specs.Outcome.{ended}
+use Rattle.look_ends_json.specs.Ends as def
+use Rattle.look_ends_json.specs.Outcome.{ended}
 
 -- ---- an end
 

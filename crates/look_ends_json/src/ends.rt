@@ -8,10 +8,9 @@ ghost use Rattle.sts_asm.specs.Fault.{FailsAt};
 ghost use Rattle.sts_asm.specs.declared.fault.AsmError.{AsmError};
 ghost use Rattle.look_cases.specs.Json as value;
 ghost use Rattle.look_views.specs.Views.{faulty, line, text_line};
-ghost use Rattle.look_json.specs.Ends as def;
+ghost use Rattle.look_ends_json.specs.Ends as def;
 
 use crate::calls::{say_call_ends, say_calls};
-use crate::lines::{VERSION, push_line};
 use crate::outcome::{ended, number_or_null};
 use ends_plain::config::{Found, Setting};
 use ends_plain::sample::Sample;
@@ -19,7 +18,7 @@ use look_calls::CallsFound;
 use look_ends::{Answer, EndsForm, has_number, times_at};
 use look_names::Names;
 use look_refusal::{ExplainError, Explanation};
-use look_views::{faulty_text, line_at, placed};
+use look_views::{VERSION, faulty_text, line_at, placed, push_line};
 use serde_json::{Value, json};
 use std::alloc::{AllocError, Global};
 use sts_asm::{AsmError, assemble};
@@ -296,7 +295,7 @@ fn fault_shown(alloc: Global, error: AsmError) -> Result<Explanation, AllocError
 pub struct JsonEnds;
 
 impl EndsForm for JsonEnds {
-    ghost use Rattle.look_json.specs.Ends.{json_form};
+    ghost use Rattle.look_ends_json.specs.Ends.{json_form};
 
     ghost shows = { λ _. json_form };
 

@@ -15,8 +15,8 @@ use Rattle.look_views.specs.Named.{line_at, placed}
 use Rattle.look_views.specs.Views.{faulty, line, text_line}
 use Rattle.look_ends.specs.Form.{EndsForm}
 use Rattle.look_ends.specs.Lines.{has_number, times_at}
-use Rattle.look_json.specs.Calls.{calls_lines}
-use Rattle.look_json.specs.Outcome.{ended}
+use Rattle.look_ends_json.specs.Calls.{calls_lines}
+use Rattle.look_ends_json.specs.Outcome.{ended}
 
 -- ---- how a run ended
 

@@ -8,7 +8,7 @@ use Rattle.look_calls.specs.declared.found.CallEnd.{CallEnd}
 use Rattle.look_cases.specs.Answer.{version}
 use Rattle.look_cases.specs.Json.{count, count_or_null, object_of}
 use Rattle.look_ends.specs.Lines.{has_number}
-use Rattle.look_json.specs.Outcome.{ended}
+use Rattle.look_ends_json.specs.Outcome.{ended}
 use Rattle.look_names.specs.Names.{function_name}
 use Rattle.look_views.specs.Named.{named}
 use Rattle.look_views.specs.Task.{integers}

@@ -4,14 +4,13 @@ ghost use Rattle.std.specs.Prelude.{◌≡◌, ◌++◌, ◌+◌, ◌<◌, ◌^�
 ghost use Rattle.std.specs.String.{string_bytes};
 ghost use Rattle.serde_json.specs.View.{view};
 ghost use Rattle.look_views.specs.Views.{line};
-ghost use Rattle.look_json.specs.Calls as def;
+ghost use Rattle.look_ends_json.specs.Calls as def;
 
-use crate::lines::{VERSION, push_line};
 use crate::outcome::{ended, number_or_null};
 use look_calls::{CallEnd, CallsFound};
 use look_ends::has_number;
 use look_names::Names;
-use look_views::{integers, with_name};
+use look_views::{VERSION, integers, push_line, with_name};
 use serde_json::{Value, json};
 use std::alloc::{AllocError, Global};
 use sts_code::{Program, name_of};

@@ -3,7 +3,7 @@
 ghost use Rattle.std.specs.Prelude.{◌≡◌, IfOk};
 ghost use Rattle.serde_json.specs.View.{view};
 ghost use Rattle.look_cases.specs.Json as value;
-ghost use Rattle.look_json.specs.Outcome as def;
+ghost use Rattle.look_ends_json.specs.Outcome as def;
 
 use look_names::Names;
 use look_views::with_name;

@@ -8,8 +8,8 @@ use Rattle.look_calls.specs.declared.found.CallEnd.{CallEnd}
 use Rattle.look_cases.proofs.FloatLemmas.{maybe_plain}
 use Rattle.look_names.specs.Names.{function_name}
 use Rattle.look_views.proofs.NamedFloatLemmas.{integers_plain, named_plain}
-use Rattle.look_json.proofs.EndFloats.{ended_plain}
-use Rattle.look_json.specs.Calls as def
+use Rattle.look_ends_json.proofs.EndFloats.{ended_plain}
+use Rattle.look_ends_json.specs.Calls as def
 
 call_plain : (text : List ℕ) (p : Program) (place : ℕ) (c : CallEnd) → has_float (def.call text p place c) ≡ false
 call_plain text p place c = or_from _ _ (integers_plain c.arguments.items) (or_from _ _ (ended_plain text c.end) refl)

@@ -1,7 +1,7 @@
-use Rattle.look_json.specs.Calls.{missing_call}
-use Rattle.look_json.proofs.CallFloats.{calls_plain}
-use Rattle.look_json.proofs.Plain.{line_written}
-use Rattle.look_json.proofs.calls.say_calls.Goals as goal
+use Rattle.look_ends_json.specs.Calls.{missing_call}
+use Rattle.look_ends_json.proofs.CallFloats.{calls_plain}
+use Rattle.look_views.proofs.LineLemmas.{line_written}
+use Rattle.look_ends_json.proofs.calls.say_calls.Goals as goal
 
 pub returns : goal.returns
 returns c =

@@ -1,7 +1,7 @@
-use Rattle.look_json.specs.Ends.{missing}
-use Rattle.look_json.proofs.EndFloats.{sample_plain}
-use Rattle.look_json.proofs.Plain.{line_written}
-use Rattle.look_json.proofs.ends.say_sample.Goals as goal
+use Rattle.look_ends_json.specs.Ends.{missing}
+use Rattle.look_ends_json.proofs.EndFloats.{sample_plain}
+use Rattle.look_views.proofs.LineLemmas.{line_written}
+use Rattle.look_ends_json.proofs.ends.say_sample.Goals as goal
 
 pub returns : goal.returns
 returns c =

@@ -1,7 +1,7 @@
 use Rattle.std.proofs.Common.{◌≡◌, ◌++◌, drop}
 use Rattle.std.specs.String.{string_bytes}
-use Rattle.look_json.specs.Ends as def
-use Rattle.look_json.proofs.ends.say_sampled.Given as goal
+use Rattle.look_ends_json.specs.Ends as def
+use Rattle.look_ends_json.proofs.ends.say_sampled.Given as goal
 
 -- what is written, and the lines of the rest
 abbrev pub invariant-loop-k : goal.invariant-loop-k

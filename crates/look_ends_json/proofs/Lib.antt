@@ -1,0 +1,2 @@
+mod CallFloats
+mod EndFloats
