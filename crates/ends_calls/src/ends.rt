@@ -1,6 +1,6 @@
 //! The ends that a search by calls finds.
 
-ghost use Rattle.std.specs.Prelude.{◌≡◌, IfOk, IfSome};
+ghost use Rattle.std.specs.Prelude.{◌≡◌, true, IfOk, IfSome};
 ghost use Rattle.ends_plain.specs.Configs.{can};
 ghost use Rattle.ends_calls.specs.Stops.{IsStop, IsMarked, IsTraced};
 ghost use Rattle.ends_plain.specs.Listed.{AreEnds, IsEndOf};
