@@ -1,5 +1,5 @@
 -- The line of a value without floats is known byte for byte.
-use Rattle.std.proofs.Common.{◌≡◌, List, ◌++◌, ℕ, Bool, false, Result, OnOk, ap, ◌∙◌}
+use Rattle.std.proofs.Common.{◌≡◌, List, ◌++◌, ℕ, false, Result, OnOk, ap, ◌∙◌}
 use Rattle.std.proofs.lemmas.Result.{on_ok_weaker}
 use Rattle.serde_json.specs.Data.{Data}
 use Rattle.serde_json.specs.Written.{has_float}
