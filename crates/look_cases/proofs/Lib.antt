@@ -1,2 +1,3 @@
 pub mod Answered
+mod FailedTraces
 pub mod FloatLemmas

@@ -2,3 +2,4 @@ pub mod Answer
 pub mod Case
 pub mod Json
 pub mod Lines
+pub mod Objects

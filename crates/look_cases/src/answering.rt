@@ -1,6 +1,7 @@
 //! The answer to a case.
 
-ghost use Rattle.std.specs.Prelude.{◌≡◌, IfOk, Result, Ok, Err, option_map};
+ghost use Rattle.std.specs.Prelude.{◌≡◌, ℕ, [], IfOk, Result, Ok, Err, option_map};
+ghost use Rattle.serde_json.specs.Data.{Data};
 ghost use Rattle.serde_json.specs.View.{view};
 ghost use Rattle.sts_code.specs.Program.{Program as AnyProgram};
 ghost use Rattle.sts_model.specs.Run.{after as after_events, taken};
@@ -11,13 +12,15 @@ ghost use Rattle.sts_asm.specs.declared.fault.AsmError.{AsmError};
 ghost use Rattle.sts_trace.specs.Reading.{trace_read};
 ghost use Rattle.look_cases.specs.Answer as def;
 ghost use Rattle.look_cases.specs.Case.{seen};
+ghost use Rattle.look_cases.specs.Objects.{Makes};
 
 use crate::faults::{text_fault, trace_fault};
+use crate::objects::{Scalar, object_of, with_member};
 use crate::reading::Case;
 use crate::runs::run;
 use crate::verdicts::{accepted, refused};
 use look_lines::after;
-use serde_json::{Value, json};
+use serde_json::Value;
 use std::alloc::{AllocError, Global};
 use sts_asm::{AsmError, assemble};
 use sts_code::Program;
@@ -38,31 +41,38 @@ fn ran(alloc: Global, program: &Program, text: &[u8], events: &[Event]) -> Resul
     run(alloc, program, text, watch.state(), watch.steps())
 }
 
-/// Returns the answer of a trace, which may have a fault.
+/// Returns an answer with nothing but the number of its case and the version.
+fn numbered(alloc: Global, number: u64) -> Result<Value, AllocError>
+    ensures { IfOk result (λ v. view v ≡ def.answer_of number []) }
+{
+    object_of(
+        alloc,
+        &[
+            ("case", Scalar::Count(number)),
+            ("version", Scalar::Count(VERSION)),
+        ],
+    )
+}
+
+/// Adds to an answer the run of a trace, or the fault of the trace.
 fn traced(
     alloc: Global,
-    number: u64,
     program: &Program,
     text: &[u8],
     trace: &[u8],
-    verdict: Value,
+    answer: Result<Value, AllocError>,
 ) -> Result<Value, AllocError>
-    ensures { IfOk result (λ v. view v ≡ def.read_answer number program.now text.now
-        (trace_read trace.now) (view verdict)) }
+    ensures { (n : ℕ) → (d : Data) → Makes (def.judged_only n d) answer
+        → Makes (def.read_answer n program.now text.now (trace_read trace.now) d) result }
 {
     match read_trace(alloc, trace) {
         Ok(events) => {
-            let state = ran(alloc, program, text, events.as_slice())?;
-            json!(in alloc; {"case": number, "run": state, "verdict": verdict, "version": VERSION})
+            let state = ran(alloc, program, text, events.as_slice());
+            with_member(alloc, answer, "run", state)
         }
         Err(error) => {
             let fault = trace_fault(alloc, error)?;
-            json!(in alloc; {
-                "case": number,
-                "trace_fault": fault,
-                "verdict": verdict,
-                "version": VERSION
-            })
+            with_member(alloc, answer, "trace_fault", Ok(fault))
         }
     }
 }
@@ -78,9 +88,10 @@ fn of_program(
     ensures { IfOk result (λ v. view v ≡ def.program_answer number program.now (seen case.entry)
         (view verdict)) }
 {
+    let answer = with_member(alloc, numbered(alloc, number), "verdict", Ok(verdict));
     match case.trace {
-        Some(trace) => traced(alloc, number, program, case.text, trace, verdict),
-        None => json!(in alloc; {"case": number, "verdict": verdict, "version": VERSION}),
+        Some(trace) => traced(alloc, program, case.text, trace, answer),
+        None => answer,
     }
 }
 
@@ -146,13 +157,20 @@ fn faulty_text(
         → IfOk result (λ v. def.Answers number (seen case.entry) read (view v)) }
 {
     let fault = text_fault(alloc, error)?;
-    json!(in alloc; {"case": number, "text_fault": fault, "version": VERSION})
+    with_member(alloc, numbered(alloc, number), "text_fault", Ok(fault))
 }
 
 fn no_case(alloc: Global, number: u64) -> Result<Value, AllocError>
     ensures { IfOk result (λ v. view v ≡ def.no_case number) }
 {
-    json!(in alloc; {"case": number, "error": "no case", "version": VERSION})
+    object_of(
+        alloc,
+        &[
+            ("case", Scalar::Count(number)),
+            ("error", Scalar::Text("no case")),
+            ("version", Scalar::Count(VERSION)),
+        ],
+    )
 }
 
 /// Returns the answer to the case of this number, or to a line that says no case.

@@ -1,48 +1,57 @@
 //! Faults of texts and traces, as JSON.
 
-ghost use Rattle.std.specs.Prelude.{◌≡◌, ◌≢◌, IfOk, Result, Err};
+ghost use Rattle.std.specs.Prelude.{◌≡◌, ◌≢◌, ◌++◌, IfOk, Result, Err};
+ghost use Rattle.std.specs.Fmt.{decimal};
+ghost use Rattle.std.specs.String.{string_bytes};
 ghost use Rattle.serde_json.specs.View.{view};
 ghost use Rattle.sts_code.specs.Program.{Program as AnyProgram};
 ghost use Rattle.sts_asm.specs.Fault.{FailsAt, code_error};
 ghost use Rattle.sts_asm.specs.declared.fault.AsmError.{AsmError};
 ghost use Rattle.sts_trace.specs.declared.error.TraceError.TheVariants.{Memory};
 ghost use Rattle.look_cases.specs.Answer as def;
-ghost use Rattle.look_cases.specs.Json as value;
 
-use serde_json::{Value, json};
+use crate::objects::{Scalar, object_of, with_text};
+use serde_json::Value;
 use std::alloc::{AllocError, Global};
 use sts_asm::{AsmError, AsmKind};
 use sts_code::CodeError;
 use sts_trace::TraceError;
 
-/// Returns a number that there may be, or null.
-pub(crate) fn count_or_null(number: Option<u64>) -> Value
-    ensures { view result ≡ value.count_or_null number }
+/// Returns a letter and a number, as `V13`.
+///
+/// # Errors
+///
+/// Memory was refused.
+pub(crate) fn code(alloc: Global, letter: &str, number: u8) -> Result<String, AllocError>
+    ensures { IfOk result (λ s. string_bytes s ≡ letter.now ++ decimal number) }
 {
-    match number {
-        Some(number) => Value::from(number),
-        None => Value::Null,
-    }
+    format!(in alloc; "{letter}{number}")
 }
 
 fn line_fault(alloc: Global, number: u8, line: u32) -> Result<Value, AllocError>
     ensures { IfOk result (λ v. view v ≡ def.line_fault number line) }
 {
-    let fault = format!(in alloc; "A{number}")?;
-    json!(in alloc; {"fault": fault, "line": line})
+    let fault = object_of(alloc, &[("line", Scalar::Count(line as u64))]);
+    with_text(alloc, fault, "fault", code(alloc, "A", number))
 }
 
 fn check_fault(alloc: Global, error: CodeError) -> Result<Value, AllocError>
     ensures { IfOk result (λ v. view v ≡ def.check_fault error) }
 {
-    let number = error.cause.number();
-    let check = format!(in alloc; "C{number}")?;
-    json!(in alloc; {
-        "check": check,
-        "fault": "A9",
-        "function": error.function,
-        "place": error.pc
-    })
+    let fault = object_of(
+        alloc,
+        &[
+            ("fault", Scalar::Text("A9")),
+            ("function", Scalar::Count(error.function as u64)),
+            ("place", Scalar::Count(error.pc as u64)),
+        ],
+    );
+    with_text(
+        alloc,
+        fault,
+        "check",
+        code(alloc, "C", error.cause.number()),
+    )
 }
 
 /// Returns a fault of a text; lack of memory is no fault of it.
@@ -67,8 +76,13 @@ pub fn text_fault(alloc: Global, error: AsmError) -> Result<Value, AllocError>
 fn bad_line(alloc: Global, fault: &str, line: Option<u64>) -> Result<Value, AllocError>
     ensures { IfOk result (λ v. view v ≡ def.bad_line fault.now line) }
 {
-    let line = count_or_null(line);
-    json!(in alloc; {"fault": fault, "line": line})
+    object_of(
+        alloc,
+        &[
+            ("fault", Scalar::Text(fault)),
+            ("line", Scalar::MaybeCount(line)),
+        ],
+    )
 }
 
 /// Returns a fault of a trace; lack of memory is no fault of it.

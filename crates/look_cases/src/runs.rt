@@ -4,9 +4,9 @@ ghost use Rattle.std.specs.Prelude.{◌≡◌, IfOk};
 ghost use Rattle.serde_json.specs.View.{view};
 ghost use Rattle.look_cases.specs.Answer as def;
 
-use crate::faults::count_or_null;
+use crate::objects::{Scalar, object_of};
 use crate::verdicts::line_of;
-use serde_json::{Value, json};
+use serde_json::Value;
 use std::alloc::{AllocError, Global};
 use sts_code::{Program, name_of};
 use sts_model::{End, Fault};
@@ -22,10 +22,22 @@ pub fn ended(alloc: Global, end: End, steps: u64) -> Result<Value, AllocError>
     ensures { IfOk result (λ v. view v ≡ def.ended end steps) }
 {
     match end {
-        End::Success(value) => {
-            json!(in alloc; {"outcome": "success", "steps": steps, "value": value})
-        }
-        End::Failed(code) => json!(in alloc; {"code": code, "outcome": "failed", "steps": steps}),
+        End::Success(value) => object_of(
+            alloc,
+            &[
+                ("outcome", Scalar::Text("success")),
+                ("steps", Scalar::Count(steps)),
+                ("value", Scalar::Integer(value)),
+            ],
+        ),
+        End::Failed(code) => object_of(
+            alloc,
+            &[
+                ("code", Scalar::Integer(code)),
+                ("outcome", Scalar::Text("failed")),
+                ("steps", Scalar::Count(steps)),
+            ],
+        ),
     }
 }
 
@@ -48,16 +60,19 @@ fn faulted(
     ensures { IfOk result (λ v. view v ≡ def.run program.now text.now
         (PlainState.Fault at.kind at.task at.function at.pc) steps) }
 {
-    let line = count_or_null(line_of(alloc, text, at.function, at.pc)?);
-    json!(in alloc; {
-        "fault": fault_word(at.kind),
-        "function": name_of(program, at.function),
-        "line": line,
-        "outcome": "fault",
-        "place": at.pc,
-        "steps": steps,
-        "task": at.task
-    })
+    let line = line_of(alloc, text, at.function, at.pc)?;
+    object_of(
+        alloc,
+        &[
+            ("fault", Scalar::Text(fault_word(at.kind))),
+            ("function", Scalar::Text(name_of(program, at.function))),
+            ("line", Scalar::MaybeCount(line)),
+            ("outcome", Scalar::Text("fault")),
+            ("place", Scalar::Count(at.pc as u64)),
+            ("steps", Scalar::Count(steps)),
+            ("task", Scalar::Count(at.task as u64)),
+        ],
+    )
 }
 
 /// Returns the state of a run of the program of a text, and the steps that it took.
@@ -75,7 +90,13 @@ pub(crate) fn run(
     ensures { IfOk result (λ v. view v ≡ def.run program.now text.now state steps) }
 {
     match state {
-        PlainState::Running => json!(in alloc; {"outcome": "running", "steps": steps}),
+        PlainState::Running => object_of(
+            alloc,
+            &[
+                ("outcome", Scalar::Text("running")),
+                ("steps", Scalar::Count(steps)),
+            ],
+        ),
         PlainState::Ended(end) => ended(alloc, end, steps),
         PlainState::Fault {
             kind,

@@ -1,19 +1,31 @@
 //! The verdict on a program, as JSON.
 
 ghost use Rattle.std.specs.Prelude.{◌≡◌, ℕ, IfOk, List, length};
+ghost use Rattle.serde_json.specs.Data.{Items};
 ghost use Rattle.serde_json.specs.View.{view, items_view, items_of};
 ghost use Rattle.sts_rules.specs.Refusal.{IsRefusal};
-ghost use Rattle.sts_asm.specs.Source.{outlined as outlined_of};
+ghost use Rattle.sts_asm.specs.Source.{outlined as outlined_of, sentence_at};
 ghost use Rattle.look_cases.specs.Answer as def;
+ghost use Rattle.look_cases.specs.Objects.{Makes, MakesList};
 
-use crate::faults::count_or_null;
-use serde_json::{Value, json};
+use crate::faults::code;
+use crate::objects::{Scalar, object_of, with_list, with_text};
+use serde_json::Value;
 use std::alloc::{AllocError, Global};
-use sts_asm::{AsmKind, outlined};
+use sts_asm::{AsmKind, Outline, outlined};
 use sts_code::{Function, Program, name_of};
 use sts_output::verify::all_budgets;
 use sts_rules::{Budgets, Cause};
 use sts_verify::Verified;
+
+fn line_in(outline: &Outline<'_>, function: u32, pc: u32) -> Option<u64>
+    ensures { result ≡ def.line_number (sentence_at outline.now function pc) }
+{
+    match outline.sentence(function, pc) {
+        Some(sentence) => Some(u64::from(sentence.line())),
+        None => None,
+    }
+}
 
 /// Returns the number of the line with an instruction, or null at the end of a function.
 ///
@@ -29,10 +41,7 @@ pub(crate) fn line_of(
     ensures { IfOk result (λ n. n ≡ def.line_of text.now function pc) }
 {
     match outlined(alloc, text) {
-        Ok(outline) => match outline.sentence(function, pc) {
-            Some(sentence) => Ok(Some(u64::from(sentence.line()))),
-            None => Ok(None),
-        },
+        Ok(outline) => Ok(line_in(&outline, function, pc)),
         Err(error) => {
             if matches!(error.kind, AsmKind::Memory) {
                 return Err(AllocError);
@@ -45,13 +54,16 @@ pub(crate) fn line_of(
 fn budget(alloc: Global, name: &str, budgets: Budgets) -> Result<Value, AllocError>
     ensures { IfOk result (λ v. view v ≡ def.budget name.now budgets) }
 {
-    json!(in alloc; {
-        "binds": budgets.binds,
-        "function": name,
-        "scopes": budgets.scopes,
-        "steps": budgets.steps,
-        "tasks": budgets.tasks
-    })
+    object_of(
+        alloc,
+        &[
+            ("binds", Scalar::Count(budgets.binds as u64)),
+            ("function", Scalar::Text(name)),
+            ("scopes", Scalar::Count(budgets.scopes as u64)),
+            ("steps", Scalar::Count(budgets.steps as u64)),
+            ("tasks", Scalar::Count(budgets.tasks as u64)),
+        ],
+    )
 }
 
 /// Returns the budgets of these functions, in order.
@@ -72,10 +84,14 @@ fn budget_list(
     Ok(list)
 }
 
-fn accepted_with(alloc: Global, budgets: Vec<Value>) -> Result<Value, AllocError>
-    ensures { IfOk result (λ v. view v ≡ def.accepted_with (items_view budgets.items)) }
+fn accepted_with(
+    alloc: Global,
+    budgets: Result<Vec<Value>, AllocError>,
+) -> Result<Value, AllocError>
+    ensures { (ds : Items) → MakesList ds budgets → Makes (def.accepted_with ds) result }
 {
-    json!(in alloc; {"accepted": true, "budgets": budgets})
+    let verdict = object_of(alloc, &[("accepted", Scalar::Flag(true))]);
+    with_list(alloc, verdict, "budgets", budgets)
 }
 
 /// Returns the verdict on an accepted program.
@@ -88,8 +104,7 @@ pub(crate) fn accepted(alloc: Global, verified: &Verified) -> Result<Value, Allo
 {
     let budgets = all_budgets(alloc, verified)?;
     let functions = verified.program().functions();
-    let list = budget_list(alloc, functions, budgets.as_slice())?;
-    accepted_with(alloc, list)
+    accepted_with(alloc, budget_list(alloc, functions, budgets.as_slice()))
 }
 
 /// Returns the verdict on a program that is refused.
@@ -107,14 +122,15 @@ pub(crate) fn refused(
 ) -> Result<Value, AllocError>
     ensures { IfOk result (λ v. view v ≡ def.refused program.now text.now function pc cause) }
 {
-    let number = cause.number();
-    let cause = format!(in alloc; "V{number}")?;
-    let line = count_or_null(line_of(alloc, text, function, pc)?);
-    json!(in alloc; {
-        "accepted": false,
-        "cause": cause,
-        "function": name_of(program, function),
-        "line": line,
-        "place": pc
-    })
+    let line = line_of(alloc, text, function, pc)?;
+    let verdict = object_of(
+        alloc,
+        &[
+            ("accepted", Scalar::Flag(false)),
+            ("function", Scalar::Text(name_of(program, function))),
+            ("line", Scalar::MaybeCount(line)),
+            ("place", Scalar::Count(pc as u64)),
+        ],
+    );
+    with_text(alloc, verdict, "cause", code(alloc, "V", cause.number()))
 }
