@@ -13,8 +13,9 @@ scopes that are misused. Each is asked with expiries and without, and with an in
 - `--sample` finds no other end. `--most` stops with status 5, unless a table of calls shows that there is no other end.
 - `--json` says the same as the lines.
 - The sets of ends.rows, worked out by hand, are those that `look ends` prints, as two compilers build it.
-- Random schedules find each end of some races, and of the programs in checks/sampled, which have deadlines. Another seed gives
-  another listing, and the same seed the same one. A schedule may have 100,000 events, and no more (`schedules_of_look`).
+- Random schedules find each end of some races, and of the programs in checks/sampled, which have deadlines, also with one and
+  two interrupts. Another seed gives another listing, and the same seed the same one. A schedule may have 100,000 events, and no
+  more (`schedules_of_look`).
 - Searches of some larger programs keep as many states as are counted by hand or by all_ends.py (`searches_of_look`).
 - A table of calls shows that programs with 16 and 50 subtasks have just the ends that were worked out by hand. It does so for
   programs that are interrupted, unless each end that it has too many takes more interrupts. A search by calls finds the ends that
@@ -248,6 +249,8 @@ SAMPLED = {  # the ends of the programs in checks/sampled: all_ends.py finds tho
     # (each round of ten gives 1000, or 1 if its time was up)
     "bulkhead": ["success 3000", "success 2001", "success 1002", "success 3"],
 }
+# The ends that they have only if an interrupt comes. (A second one adds none; all_ends.py finds those of the first two.)
+SAMPLED_INTERRUPTED = {"best_price": ["failed 0"], "nested_deadlines": ["failed 499", "failed 0"], "bulkhead": ["failed 0"]}
 
 
 def schedules_of_look(look, folder):
@@ -266,7 +269,11 @@ def schedules_of_look(look, folder):
     asked += [("a flag", lines_of(DIGITS), ["300", "--interrupts", "1"], [f"success {it}" for it in (0, 1, 10, 100)])]
     for name, ends in SAMPLED.items():
         with open(f"{CHECKS}/sampled/{name}.sts") as file:
-            asked.append((name, file.read(), ["300"], ends))
+            source = file.read()
+        asked.append((name, source, ["300"], ends))
+        for most in ("1", "2"):
+            words = ["300", "--interrupts", most]
+            asked.append((f"{name}, interrupts up to {most}", source, words, ends + SAMPLED_INTERRUPTED[name]))
     for name, source, words, ends in asked:
         status, shares, _ = sample(source, *words)
         yield f"{name}: {shares}", (status, set(shares), sum(shares.values())) == (5, set(ends), int(words[0]))

@@ -31,11 +31,14 @@ pub struct Sampling {
     pub longest: usize,
 }
 
-/// The number of tasks that were born.
+/// The number of tasks that were born, or of scopes, if these are more.
 fn born(config: &Config) -> usize {
     match config.position.world() {
         None => 0,
-        Some(world) => world.records().tasks_born(),
+        Some(world) => {
+            let records = world.records();
+            records.tasks_born().max(records.scopes_born())
+        }
     }
 }
 

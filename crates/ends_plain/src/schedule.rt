@@ -9,7 +9,8 @@ use rand_xoshiro::Xoshiro256PlusPlus;
 use std::alloc::{AllocError, Global};
 use sts_model::Event;
 
-/// The numbers of moments for outside events. A schedule has any of these, each as likely.
+/// The numbers of moments for outside events. A schedule without priorities has any of these, each
+/// as likely.
 const OUTSIDE: &[usize] = &[0, 1, 1, 2, 4, 8];
 
 /// The numbers of change points. A schedule has any of these, each as likely.
@@ -21,13 +22,17 @@ const DRAWN: u64 = 1 << 63;
 /// What is drawn for one random schedule. A moment is the number of events before it.
 #[derive(Drop)]
 pub struct Schedule {
-    /// The moments at which an interrupt or an expiry comes, if one can.
-    outside: Vec<usize>,
-    /// Does the task with the greatest priority step? If not, any task does that can.
+    /// Does the event with the greatest priority come? If not, any step does.
     has_priorities: bool,
-    /// The moments at which the task that is about to step gets a low priority.
+    /// Without priorities: the moments at which an interrupt or an expiry comes, if one can.
+    outside: Vec<usize>,
+    /// Have interrupts a priority?
+    interrupts: bool,
+    /// Have expiries a priority?
+    expiries: bool,
+    /// The moments at which the event that is about to come gets a low priority.
     changes: Vec<usize>,
-    /// The priority of each task, by its birth number.
+    /// The priorities, each at its `place_of`.
     priorities: Vec<u64>,
     /// The number of events after which priorities don't matter.
     length: usize,
@@ -58,6 +63,23 @@ fn moments(
         found.push(between(rng, 0, length))?;
     }
     Ok(found)
+}
+
+/// A priority for an event.
+fn any_priority(rng: &mut Xoshiro256PlusPlus) -> u64 {
+    let drawn: u64 = rng.random();
+    drawn | DRAWN
+}
+
+/// The place of the priority of an event: each birth number has one for steps, one for interrupts
+/// and one for expiries.
+fn place_of(event: Event) -> usize {
+    let (number, kind) = match event {
+        Event::Step(t) => (t, 0),
+        Event::Interrupt(t) => (t, 1),
+        Event::Expire(s) => (s, 2),
+    };
+    (number as usize).saturating_mul(3).saturating_add(kind)
 }
 
 /// The place of the first event that is no step, or the number of events.
@@ -91,15 +113,18 @@ impl Schedule {
     /// A schedule with no moments for outside events, in which any task steps that can.
     pub fn of_steps(alloc: Global) -> Schedule {
         Schedule {
-            outside: Vec::new(alloc),
             has_priorities: false,
+            outside: Vec::new(alloc),
+            interrupts: false,
+            expiries: false,
             changes: Vec::new(alloc),
             priorities: Vec::new(alloc),
             length: 0,
         }
     }
 
-    /// Draws a schedule of some `length` events.
+    /// Draws a schedule of some `length` events. Three in four have priorities. Of these a third
+    /// leaves interrupts out, and a third expiries.
     ///
     /// # Errors
     ///
@@ -113,9 +138,12 @@ impl Schedule {
         let outside = moments(alloc, rng, count, length)?;
         let count = any_of(rng, CHANGES);
         let changes = moments(alloc, rng, count, length)?;
+        let left_out = between(rng, 0, 3);
         Ok(Schedule {
+            has_priorities: between(rng, 0, 4) > 0,
             outside,
-            has_priorities: rng.random(),
+            interrupts: left_out != 0,
+            expiries: left_out != 1,
             changes,
             priorities: Vec::new(alloc),
             length,
@@ -132,16 +160,34 @@ impl Schedule {
         self.changes.iter().position(|it| *it == moment)
     }
 
-    /// The priority of the task that takes this step.
-    fn priority(&self, event: &Event) -> u64 {
+    /// Have events of this kind a priority?
+    fn has(&self, event: Event) -> bool {
         match event {
-            Event::Step(t) => self.priorities.get(*t as usize).copied().unwrap_or(0),
-            _ => 0,
+            Event::Step(_) => true,
+            Event::Interrupt(_) => self.interrupts,
+            Event::Expire(_) => self.expiries,
         }
     }
 
-    /// Draws priorities of the tasks that have none yet. `born` is the number of tasks that were
-    /// born.
+    /// The priority of this event: 0 if it has none.
+    fn priority(&self, event: Event) -> u64 {
+        if self.has(event) {
+            self.priorities.get(place_of(event)).copied().unwrap_or(0)
+        } else {
+            0
+        }
+    }
+
+    /// Gives this event a priority.
+    fn set_priority(&mut self, event: Event, priority: u64) {
+        let place = place_of(event);
+        if place < self.priorities.len() {
+            self.priorities[place] = priority;
+        }
+    }
+
+    /// Draws the priorities of birth numbers that have none yet. `born` is the number of tasks that
+    /// were born, or of scopes, if these are more.
     ///
     /// # Errors
     ///
@@ -154,19 +200,18 @@ impl Schedule {
         if !self.has_priorities {
             return Ok(());
         }
-        for _ in self.priorities.len()..born {
-            let drawn: u64 = rng.random();
-            self.priorities.push(drawn | DRAWN)?;
+        for _ in self.priorities.len()..born.saturating_mul(3) {
+            self.priorities.push(any_priority(rng))?;
         }
         Ok(())
     }
 
-    /// The place of the step of the task with the greatest priority.
+    /// The place of the event with the greatest priority: the first one if none has a priority.
     fn greatest(&self, events: &[Event]) -> usize {
         let mut best = 0;
         let mut most = 0;
         for (place, event) in events.iter().enumerate() {
-            let priority = self.priority(event);
+            let priority = self.priority(*event);
             if priority > most {
                 best = place;
                 most = priority;
@@ -175,40 +220,39 @@ impl Schedule {
         best
     }
 
-    /// Gives the task that takes this step a low priority.
-    fn lower(&mut self, event: Event, priority: u64) {
-        if let Event::Step(t) = event {
-            let t = t as usize;
-            if t < self.priorities.len() {
-                self.priorities[t] = priority;
-            }
-        }
-    }
-
-    /// The place of the step that comes by the priorities.
+    /// The place of the event that comes by the priorities.
     fn by_priority(&mut self, events: &[Event], moment: usize) -> usize {
         let first = self.greatest(events);
         let (Some(change), Some(event)) = (self.change_at(moment), events.get(first)) else {
             return first;
         };
-        self.lower(*event, change as u64);
+        self.set_priority(*event, change as u64);
         self.greatest(events)
+    }
+
+    /// Draws a priority for the next interrupt of a task, after this one.
+    fn renew(&mut self, rng: &mut Xoshiro256PlusPlus, event: Option<&Event>) {
+        if let Some(Event::Interrupt(t)) = event {
+            self.set_priority(Event::Interrupt(*t), any_priority(rng));
+        }
     }
 
     /// The place of the event that comes at this moment.
     fn place(&mut self, rng: &mut Xoshiro256PlusPlus, events: &[Event], moment: usize) -> usize {
+        if self.has_priorities && moment < self.length {
+            let place = self.by_priority(events, moment);
+            self.renew(rng, events.get(place));
+            return place;
+        }
         let steps = end_of_steps(events);
         if steps < events.len() && (steps == 0 || self.is_outside(moment)) {
             return any_outside(rng, events, steps);
         }
-        if !self.has_priorities || moment >= self.length {
-            return between(rng, 0, steps);
-        }
-        self.by_priority(events, moment)
+        between(rng, 0, steps)
     }
 
     /// The event that comes at this moment, of those that can come: steps, then interrupts, then
-    /// expiries. Each task that can step has a priority.
+    /// expiries. Each of them has a priority if `give_priorities` came before.
     pub fn next(
         &mut self,
         rng: &mut Xoshiro256PlusPlus,
