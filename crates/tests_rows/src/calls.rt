@@ -4,15 +4,18 @@
 //! Standard input has a line of calls, a text, a line `%`, a trace, a line `%` and an outside text.
 //! If a call finds no memory, the program prints `error memory in` and its name, with status 6.
 
+ghost use Rattle.sts_rules.specs.Refusal.{IsAccepted};
+
 use crate::budgets::budgets_of;
-use crate::failure::{Failure, in_assembling, in_reading, in_taking, tell, within};
+use crate::failure::{Failure, in_assembling, in_reading, in_taking, status, within, written};
 use crate::row::Row;
 use crate::whole::Run;
 use std::alloc::Global;
 use std::io;
 use sts_asm::assemble;
+use sts_budget::Budgets;
 use sts_cli::{Line, LineError, line};
-use sts_code::{Function, Program};
+use sts_code::{Function, Instr, Program};
 use sts_list::{list, spell};
 use sts_machine::{Machine, replay, run_alone};
 use sts_model::{End, Event};
@@ -39,19 +42,15 @@ fn in_verifying(answer: Result<Verified, VerifyError>) -> Result<Verified, Failu
     }
 }
 
-fn accepted(alloc: Global, row: &Row<'_>) -> Result<Verified, Failure> {
-    in_verifying(verify(alloc, program(alloc, row)?))
-}
-
-fn tell_end(rt: &HostRuntime, end: Option<End>) -> io::Result<()> {
-    match end {
+fn tell_end(rt: &HostRuntime, end: Option<End>) -> Result<(), Failure> {
+    written(match end {
         None => println!(rt; "running"),
         Some(End::Success(value)) => println!(rt; "success {value}"),
         Some(End::Failed(code)) => println!(rt; "failed {code}"),
-    }
+    })
 }
 
-fn tell_state(rt: &HostRuntime, state: PlainState) -> io::Result<()> {
+fn tell_state(rt: &HostRuntime, state: PlainState) -> Result<(), Failure> {
     match state {
         PlainState::Running => tell_end(rt, None),
         PlainState::Ended(end) => tell_end(rt, Some(end)),
@@ -60,59 +59,152 @@ fn tell_state(rt: &HostRuntime, state: PlainState) -> io::Result<()> {
             task,
             function,
             pc,
-        } => println!(rt; "fault {kind:?} task {task} in function {function} at {pc}"),
+        } => written(println!(rt; "fault {kind:?} task {task} in function {function} at {pc}")),
     }
+}
+
+/// Says how a run has ended, if it has, and in how many steps.
+fn tell_after(rt: &HostRuntime, end: Option<End>, steps: u64) -> Result<(), Failure> {
+    tell_end(rt, end)?;
+    written(println!(rt; "steps {steps}"))
 }
 
 fn taken(rt: &HostRuntime, alloc: Global, row: &Row<'_>) -> Result<(), Failure> {
     let mut reader = row.text;
     let bytes = in_taking(take(alloc, &mut reader, u64::MAX))?;
-    println!(rt; "bytes {}", bytes.len())?;
-    Ok(())
+    written(println!(rt; "bytes {}", bytes.len()))
 }
 
-fn assembled(rt: &HostRuntime, alloc: Global, row: &Row<'_>) -> Result<(), Failure> {
-    for function in program(alloc, row)?.functions() {
+fn traced(rt: &HostRuntime, alloc: Global, row: &Row<'_>) -> Result<(), Failure> {
+    let events = events(alloc, row)?;
+    written(println!(rt; "events {}", events.len()))
+}
+
+fn told_outside(rt: &HostRuntime, alloc: Global, row: &Row<'_>) -> Result<(), Failure> {
+    let dues = in_reading("read_outside", read_outside(alloc, row.outside))?;
+    written(println!(rt; "dues {}", dues.len()))
+}
+
+fn tell_sizes(rt: &HostRuntime, program: &Program) -> Result<(), Failure> {
+    for function in program.functions() {
         let name = function.name.as_str();
         println!(rt; "{name} has {} instructions", function.code.len())?;
     }
     Ok(())
 }
 
-fn listed(rt: &HostRuntime, alloc: Global, row: &Row<'_>) -> Result<(), Failure> {
-    let program = program(alloc, row)?;
-    let text = within("list", list(alloc, &program))?;
-    print!(rt; "{text}")?;
-    Ok(())
+fn listed(rt: &HostRuntime, alloc: Global, program: &Program) -> Result<(), Failure> {
+    let text = within("list", list(alloc, program))?;
+    written(print!(rt; "{text}"))
 }
 
 /// How many bytes have room for the words of all instructions of a row.
 const ROOM: usize = 4_096;
 
-/// Says the words of each instruction, once all of them are spelled.
-fn spelled(rt: &HostRuntime, alloc: Global, row: &Row<'_>) -> Result<(), Failure> {
-    let program = program(alloc, row)?;
-    let mut lines = within("room", String::with_capacity(alloc, ROOM))?;
+/// Adds a line with the words of an instruction.
+fn spell_one(
+    alloc: Global,
+    program: &Program,
+    instr: &Instr,
+    lines: &mut String,
+) -> Result<(), Failure> {
+    let words = within("spell", spell(alloc, instr, program))?;
+    within("room", writeln!(lines, "{words}"))
+}
+
+/// Adds a line with the words of each instruction.
+fn spell_each(alloc: Global, program: &Program, lines: &mut String) -> Result<(), Failure> {
     for function in program.functions() {
         for instr in &function.code {
-            let words = within("spell", spell(alloc, instr, &program))?;
-            within("room", lines.push_str(words.as_str()))?;
-            within("room", lines.push_str("\n"))?;
+            spell_one(alloc, program, instr, lines)?;
         }
     }
-    print!(rt; "{lines}")?;
     Ok(())
 }
 
-fn traced(rt: &HostRuntime, alloc: Global, row: &Row<'_>) -> Result<(), Failure> {
-    println!(rt; "events {}", events(alloc, row)?.len())?;
-    Ok(())
+/// Says the words of each instruction, once all of them are spelled.
+fn spelled(rt: &HostRuntime, alloc: Global, program: &Program) -> Result<(), Failure> {
+    let mut lines = within("room", String::with_capacity(alloc, ROOM))?;
+    spell_each(alloc, program, &mut lines)?;
+    written(print!(rt; "{lines}"))
 }
 
-fn told_outside(rt: &HostRuntime, alloc: Global, row: &Row<'_>) -> Result<(), Failure> {
-    let dues = in_reading("read_outside", read_outside(alloc, row.outside))?;
-    println!(rt; "dues {}", dues.len())?;
-    Ok(())
+fn started(rt: &HostRuntime, alloc: Global, program: &Program) -> Result<(), Failure> {
+    let plain = within("start", Plain::start(alloc, program))?;
+    tell_state(rt, plain.state())
+}
+
+/// Applies an event, and once more if there was no memory.
+fn applied_again(
+    rt: &HostRuntime,
+    alloc: Global,
+    plain: &mut Plain<'_>,
+    event: Event,
+) -> Result<(), Failure> {
+    let (state, steps) = (plain.state(), plain.steps());
+    if plain.apply(alloc, event).is_ok() {
+        return Ok(());
+    }
+    tell_refused(rt, plain.state() == state && plain.steps() == steps)?;
+    within("apply", plain.apply(alloc, event))
+}
+
+/// Applies events, and says what comes of them.
+fn apply_each(
+    rt: &HostRuntime,
+    alloc: Global,
+    plain: &mut Plain<'_>,
+    events: &[Event],
+) -> Result<(), Failure> {
+    for event in events {
+        applied_again(rt, alloc, plain, *event)?;
+    }
+    tell_state(rt, plain.state())?;
+    written(println!(rt; "steps {}", plain.steps()))
+}
+
+/// Applies events to the beginning of a program.
+fn apply_from_start(
+    rt: &HostRuntime,
+    alloc: Global,
+    program: &Program,
+    events: &[Event],
+) -> Result<(), Failure> {
+    let mut plain = within("start", Plain::start(alloc, program))?;
+    apply_each(rt, alloc, &mut plain, events)
+}
+
+fn applied(
+    rt: &HostRuntime,
+    alloc: Global,
+    program: &Program,
+    row: &Row<'_>,
+) -> Result<(), Failure> {
+    let events = events(alloc, row)?;
+    apply_from_start(rt, alloc, program, events.as_slice())
+}
+
+/// Makes a call on the program of a row.
+fn answer_for(
+    rt: &HostRuntime,
+    alloc: Global,
+    call: &str,
+    program: &Program,
+    row: &Row<'_>,
+) -> Result<(), Failure> {
+    match call {
+        "assemble" => tell_sizes(rt, program),
+        "list" => listed(rt, alloc, program),
+        "spell" => spelled(rt, alloc, program),
+        "start" => started(rt, alloc, program),
+        _ => applied(rt, alloc, program, row),
+    }
+}
+
+/// Assembles the text of a row, and makes a call on its program.
+fn assembled(rt: &HostRuntime, alloc: Global, call: &str, row: &Row<'_>) -> Result<(), Failure> {
+    let program = program(alloc, row)?;
+    answer_for(rt, alloc, call, &program, row)
 }
 
 fn are_same_functions(one: &Function, other: &Function) -> bool {
@@ -133,9 +225,9 @@ fn are_same(one: &Program, other: &Program) -> bool {
 }
 
 /// Says whether a call that found no memory left a value unchanged.
-fn tell_refused(rt: &HostRuntime, is_same: bool) -> io::Result<()> {
+fn tell_refused(rt: &HostRuntime, is_same: bool) -> Result<(), Failure> {
     let after = if is_same { "unchanged" } else { "changed" };
-    println!(rt; "refused, {after}")
+    written(println!(rt; "refused, {after}"))
 }
 
 /// Verifies a program, and once more if it comes back since memory ran out.
@@ -154,33 +246,116 @@ fn verified_again(
     }
 }
 
-fn verdict(rt: &HostRuntime, alloc: Global, row: &Row<'_>) -> Result<(), Failure> {
-    let same = program(alloc, row)?;
-    let verified = verified_again(rt, alloc, program(alloc, row)?, &same)?;
+/// Says the budgets of a function.
+fn tell_budgets(rt: &HostRuntime, function: &Function, most: Budgets) -> Result<(), Failure> {
+    let name = function.name.as_str();
+    written(println!(rt;
+        "{name} {} {} {} {}",
+        most.steps, most.tasks, most.scopes, most.binds
+    ))
+}
+
+/// Says the budgets of each function of an accepted program.
+fn tell_verdict(rt: &HostRuntime, verified: &Verified) -> Result<(), Failure> {
     for (i, function) in verified.program().functions().iter().enumerate() {
-        let name = function.name.as_str();
-        let most = verified.budgets(i);
-        println!(rt;
-            "{name} {} {} {} {}",
-            most.steps, most.tasks, most.scopes, most.binds
-        )?;
+        tell_budgets(rt, function, verified.budgets(i))?;
     }
     Ok(())
 }
 
+fn verdict_of(
+    rt: &HostRuntime,
+    alloc: Global,
+    program: Program,
+    same: &Program,
+) -> Result<(), Failure> {
+    let verified = verified_again(rt, alloc, program, same)?;
+    tell_verdict(rt, &verified)
+}
+
+fn verdict(rt: &HostRuntime, alloc: Global, row: &Row<'_>) -> Result<(), Failure> {
+    let same = program(alloc, row)?;
+    verdict_of(rt, alloc, program(alloc, row)?, &same)
+}
+
 /// Says the budgets of each function, as `budget` finds them.
-fn budgeted(rt: &HostRuntime, alloc: Global, row: &Row<'_>) -> Result<(), Failure> {
-    let verified = accepted(alloc, row)?;
-    let program = verified.program();
+fn budgeted(rt: &HostRuntime, alloc: Global, program: &Program) -> Result<(), Failure>
+    requires { IsAccepted program.now }
+{
     let budgets = budgets_of(alloc, program)?;
     for (function, most) in program.functions().iter().zip(&budgets) {
-        let name = function.name.as_str();
-        println!(rt;
-            "{name} {} {} {} {}",
-            most.steps, most.tasks, most.scopes, most.binds
-        )?;
+        tell_budgets(rt, function, *most)?;
     }
     Ok(())
+}
+
+fn replay_events(
+    rt: &HostRuntime,
+    alloc: Global,
+    verified: &Verified,
+    events: &[Event],
+) -> Result<(), Failure> {
+    let machine = within("replay", replay(alloc, verified, events))?;
+    tell_after(rt, machine.root_end(), machine.steps())
+}
+
+fn replayed(
+    rt: &HostRuntime,
+    alloc: Global,
+    verified: &Verified,
+    row: &Row<'_>,
+) -> Result<(), Failure> {
+    let events = events(alloc, row)?;
+    replay_events(rt, alloc, verified, events.as_slice())
+}
+
+fn ran_alone(rt: &HostRuntime, alloc: Global, verified: &Verified) -> Result<(), Failure> {
+    let end = within("run_alone", run_alone(alloc, verified))?;
+    tell_end(rt, Some(end))
+}
+
+/// Goes on with a run between two marks, and says how its root has ended.
+fn tell_run(rt: &HostRuntime, run: &mut impl Run) -> Result<(), Failure> {
+    println!(rt; "from here")?;
+    run.go_on();
+    println!(rt; "to here")?;
+    tell_end(rt, run.end())
+}
+
+/// A whole run on a machine that was prepared.
+fn prepared(rt: &HostRuntime, alloc: Global, verified: &Verified) -> Result<(), Failure> {
+    let mut machine = within("prepare", Machine::prepare(alloc, verified))?;
+    tell_run(rt, &mut machine)
+}
+
+/// A whole run in a book that was started.
+fn booked(rt: &HostRuntime, alloc: Global, verified: &Verified) -> Result<(), Failure> {
+    let mut book = within("book", Book::start(alloc, verified))?;
+    tell_run(rt, &mut book)
+}
+
+/// Makes a call on the accepted program of a row.
+fn answer_for_accepted(
+    rt: &HostRuntime,
+    alloc: Global,
+    call: &str,
+    verified: &Verified,
+    row: &Row<'_>,
+) -> Result<(), Failure> {
+    match call {
+        "budget" => budgeted(rt, alloc, verified.program()),
+        "prepare" => prepared(rt, alloc, verified),
+        "replay" => replayed(rt, alloc, verified, row),
+        "run_alone" => ran_alone(rt, alloc, verified),
+        "book" => booked(rt, alloc, verified),
+        _ => Err(Failure::Unfit("there is no such call")),
+    }
+}
+
+/// Verifies the program of a row, and makes a call on it.
+fn accepted(rt: &HostRuntime, alloc: Global, call: &str, row: &Row<'_>) -> Result<(), Failure> {
+    let verified = in_verifying(verify(alloc, program(alloc, row)?))?;
+    answer_for_accepted(rt, alloc, call, &verified, row)
 }
 
 /// How many scopes have room in the tree: one more than an accepted program has at once.
@@ -189,144 +364,67 @@ const SCOPES: u32 = 65_537;
 /// Makes a tree, and says for how many more tasks and scopes it has room.
 fn with_room(rt: &HostRuntime, alloc: Global) -> Result<(), Failure> {
     let tree: Tree<u8> = within("tree", Tree::with_room(alloc, 2, SCOPES))?;
-    println!(rt; "room {} {}", tree.task_room(), tree.scope_room())?;
-    Ok(())
+    written(println!(rt; "room {} {}", tree.task_room(), tree.scope_room()))
 }
 
 /// A command line that is right.
 const RIGHT: &[&str] = &["sts", "run", "text", "--workers", "3", "--trace", "journal"];
 
+/// Says what a command line asks for.
+fn tell_command(rt: &HostRuntime, command: Line<'_>) -> io::Result<()> {
+    match command {
+        Line::Run {
+            file,
+            workers,
+            outside: None,
+            trace: Some(trace),
+        } => println!(rt; "run {file} {workers} {trace}"),
+        _ => println!(rt; "another command"),
+    }
+}
+
 /// Says what a command line asks for, or why it asks for nothing.
 fn asked(rt: &HostRuntime, alloc: Global, words: &[&str]) -> Result<(), Failure> {
     match line(alloc, words) {
-        Ok(
-            Line::Run {
-                file,
-                workers,
-                outside: None,
-                trace: Some(trace),
-            },
-        ) => println!(rt; "run {file} {workers} {trace}")?,
-        Ok(_) => println!(rt; "another command")?,
-        Err(LineError::Help(_)) => println!(rt; "help")?,
-        Err(LineError::Usage(_)) => println!(rt; "a mistake")?,
-        Err(LineError::Memory) => return Err(Failure::Memory("line")),
+        Ok(command) => written(tell_command(rt, command)),
+        Err(LineError::Help(_)) => written(println!(rt; "help")),
+        Err(LineError::Usage(_)) => written(println!(rt; "a mistake")),
+        Err(LineError::Memory) => Err(Failure::Memory("line")),
     }
-    Ok(())
-}
-
-fn started(rt: &HostRuntime, alloc: Global, row: &Row<'_>) -> Result<(), Failure> {
-    let program = program(alloc, row)?;
-    let plain = within("start", Plain::start(alloc, &program))?;
-    tell_state(rt, plain.state())?;
-    Ok(())
-}
-
-/// Applies an event, and once more if there was no memory.
-fn applied_again(
-    rt: &HostRuntime,
-    alloc: Global,
-    plain: &mut Plain<'_>,
-    event: Event,
-) -> Result<(), Failure> {
-    let (state, steps) = (plain.state(), plain.steps());
-    if plain.apply(alloc, event).is_ok() {
-        return Ok(());
-    }
-    tell_refused(rt, plain.state() == state && plain.steps() == steps)?;
-    within("apply", plain.apply(alloc, event))
-}
-
-fn applied(rt: &HostRuntime, alloc: Global, row: &Row<'_>) -> Result<(), Failure> {
-    let program = program(alloc, row)?;
-    let events = events(alloc, row)?;
-    let mut plain = within("start", Plain::start(alloc, &program))?;
-    for event in &events {
-        applied_again(rt, alloc, &mut plain, *event)?;
-    }
-    tell_state(rt, plain.state())?;
-    println!(rt; "steps {}", plain.steps())?;
-    Ok(())
-}
-
-fn replayed(rt: &HostRuntime, alloc: Global, row: &Row<'_>) -> Result<(), Failure> {
-    let verified = accepted(alloc, row)?;
-    let events = events(alloc, row)?;
-    let machine = within("replay", replay(alloc, &verified, events.as_slice()))?;
-    tell_end(rt, machine.root_end())?;
-    println!(rt; "steps {}", machine.steps())?;
-    Ok(())
-}
-
-fn ran_alone(rt: &HostRuntime, alloc: Global, row: &Row<'_>) -> Result<(), Failure> {
-    let verified = accepted(alloc, row)?;
-    let end = within("run_alone", run_alone(alloc, &verified))?;
-    tell_end(rt, Some(end))?;
-    Ok(())
-}
-
-/// Goes on with a run between two marks, and says how its root has ended.
-fn tell_run(rt: &HostRuntime, run: &mut impl Run) -> Result<(), Failure> {
-    println!(rt; "from here")?;
-    run.go_on();
-    println!(rt; "to here")?;
-    tell_end(rt, run.end())?;
-    Ok(())
-}
-
-/// A whole run on a machine that was prepared.
-fn prepared(rt: &HostRuntime, alloc: Global, row: &Row<'_>) -> Result<(), Failure> {
-    let verified = accepted(alloc, row)?;
-    let mut machine = within("prepare", Machine::prepare(alloc, &verified))?;
-    tell_run(rt, &mut machine)
-}
-
-/// A whole run in a book that was started.
-fn booked(rt: &HostRuntime, alloc: Global, row: &Row<'_>) -> Result<(), Failure> {
-    let verified = accepted(alloc, row)?;
-    let mut book = within("book", Book::start(alloc, &verified))?;
-    tell_run(rt, &mut book)
 }
 
 /// Makes the call of a name on a row, and says what it answers.
 fn answer(rt: &HostRuntime, alloc: Global, call: &str, row: &Row<'_>) -> Result<(), Failure> {
     match call {
         "take" => taken(rt, alloc, row),
-        "assemble" => assembled(rt, alloc, row),
-        "list" => listed(rt, alloc, row),
-        "spell" => spelled(rt, alloc, row),
         "read_trace" => traced(rt, alloc, row),
         "read_outside" => told_outside(rt, alloc, row),
         "verify" => verdict(rt, alloc, row),
-        "budget" => budgeted(rt, alloc, row),
         "tree" => with_room(rt, alloc),
         "line" => asked(rt, alloc, RIGHT),
         "help" => asked(rt, alloc, &["sts", "--help"]),
         "mistake" => asked(rt, alloc, &["sts", "plane"]),
-        "start" => started(rt, alloc, row),
-        "apply" => applied(rt, alloc, row),
-        "prepare" => prepared(rt, alloc, row),
-        "replay" => replayed(rt, alloc, row),
-        "run_alone" => ran_alone(rt, alloc, row),
-        "book" => booked(rt, alloc, row),
-        _ => Err(Failure::Unfit("there is no such call")),
+        "assemble" | "list" | "spell" | "start" | "apply" => assembled(rt, alloc, call, row),
+        _ => accepted(rt, alloc, call, row),
     }
 }
 
-fn answered(rt: &HostRuntime) -> Result<(), Failure> {
-    let input = in_taking(take(rt.alloc(), &mut rt.reader(), u64::MAX))?;
-    let (calls, row) = Row::of(input.as_slice())?;
+/// Makes the calls of the first line of an input on the row after it.
+fn answer_each(rt: &HostRuntime, input: &[u8]) -> Result<(), Failure> {
+    let (calls, row) = Row::of(input)?;
     for call in calls.split_ascii_whitespace() {
         answer(rt, rt.alloc(), call, &row)?;
     }
     Ok(())
 }
 
+fn answered(rt: &HostRuntime) -> Result<(), Failure> {
+    let input = in_taking(take(rt.alloc(), &mut rt.reader(), u64::MAX))?;
+    answer_each(rt, input.as_slice())
+}
+
 /// Makes the calls that standard input names on the row that follows. Returns the status: 6 if memory
 /// ran out, 2 if the row doesn't fit a call, and 1 if a write failed.
 pub fn answer_all(rt: &HostRuntime) -> u8 {
-    match answered(rt) {
-        Ok(()) => 0,
-        Err(failure) => tell(rt, failure).unwrap_or(1),
-    }
+    status(rt, answered(rt))
 }

@@ -8,7 +8,7 @@ use sts_output::TakeError;
 use sts_trace::TraceError;
 
 /// Why a call has no answer.
-#[derive(Clone, Copy, Debug, PartialEq, Eq)]
+#[derive(Clone, Copy)]
 pub enum Failure {
     /// There was no memory in the call of this name.
     Memory(&'static str),
@@ -23,6 +23,18 @@ pub enum Failure {
 impl From<io::Error> for Failure {
     fn from(_error: io::Error) -> Failure {
         Failure::Write
+    }
+}
+
+/// Returns the answer of a write.
+///
+/// # Errors
+///
+/// The write failed.
+pub fn written(answer: io::Result<()>) -> Result<(), Failure> {
+    match answer {
+        Ok(()) => Ok(()),
+        Err(_) => Err(Failure::Write),
     }
 }
 
@@ -77,26 +89,33 @@ pub fn in_taking<T>(answer: Result<T, TakeError>) -> Result<T, Failure> {
     }
 }
 
-/// Says why a call has no answer. Returns the status: 6 if memory ran out or a thread was refused, 2 if
-/// the input doesn't fit the call, and 1 if a write failed.
-///
-/// # Errors
-///
-/// This write failed.
-pub fn tell<R: Print>(rt: &R, failure: Failure) -> io::Result<u8> {
+/// Says why a call has no answer.
+fn say<R: Print>(rt: &R, failure: Failure) -> io::Result<()> {
     match failure {
-        Failure::Memory(call) => {
-            println!(rt; "error memory in {call}")?;
-            Ok(6)
-        }
-        Failure::Threads => {
-            println!(rt; "error threads")?;
-            Ok(6)
-        }
-        Failure::Unfit(why) => {
-            println!(rt; "{why}")?;
-            Ok(2)
-        }
-        Failure::Write => Ok(1),
+        Failure::Memory(call) => println!(rt; "error memory in {call}"),
+        Failure::Threads => println!(rt; "error threads"),
+        Failure::Unfit(why) => println!(rt; "{why}"),
+        Failure::Write => Ok(()),
+    }
+}
+
+fn status_of(failure: Failure) -> u8 {
+    match failure {
+        Failure::Memory(_) | Failure::Threads => 6,
+        Failure::Unfit(_) => 2,
+        Failure::Write => 1,
+    }
+}
+
+/// Says why there is no answer, if there is none. Returns the status: 6 if memory ran out or a thread
+/// was refused, 2 if the input is none for the call, and 1 if a write failed.
+pub fn status<R: Print>(rt: &R, answer: Result<(), Failure>) -> u8 {
+    let Err(failure) = answer else {
+        return 0;
+    };
+    if say(rt, failure).is_ok() {
+        status_of(failure)
+    } else {
+        1
     }
 }

@@ -1,14 +1,38 @@
 //! Lines and traces in their short notation.
 
-use anyhow::{Context, Result};
+use crate::failure::{Failure, within};
 use std::io::Write;
 
+/// Pushes bytes of a table.
+///
+/// # Errors
+///
+/// There was no memory.
+pub fn push(text: &mut Vec<u8>, more: &str) -> Result<(), Failure> {
+    within("a table", text.extend_from_slice(more.as_bytes()))
+}
+
 /// Pushes the byte that two digits stand for, and what follows them.
-fn push_escaped(text: &mut Vec<u8>, escaped: &str) -> Result<()> {
-    let parts = escaped.split_at_checked(2);
-    let (code, rest) = parts.context("a code of two digits is missing")?;
-    text.push(u8::from_str_radix(code, 16)?)?;
-    text.extend_from_slice(rest.as_bytes())?;
+fn push_escaped(text: &mut Vec<u8>, escaped: &str) -> Result<(), Failure> {
+    let Some((code, rest)) = escaped.split_at_checked(2) else {
+        return Err(Failure::Unfit("a code of two digits is missing"));
+    };
+    let Ok(byte) = u8::from_str_radix(code, 16) else {
+        return Err(Failure::Unfit("a code has other characters than digits"));
+    };
+    match text.push(byte) {
+        Ok(()) => push(text, rest),
+        Err(_) => Err(Failure::Memory("a table")),
+    }
+}
+
+/// Pushes the parts of a line that `\` separates, each but the first with its code of two digits.
+fn push_parts(text: &mut Vec<u8>, line: &str) -> Result<(), Failure> {
+    let mut parts = line.split("\\");
+    push(text, parts.next().unwrap_or(""))?;
+    for escaped in parts {
+        push_escaped(text, escaped)?;
+    }
     Ok(())
 }
 
@@ -18,18 +42,12 @@ fn push_escaped(text: &mut Vec<u8>, escaped: &str) -> Result<()> {
 /// # Errors
 ///
 /// Out of memory, or a `\` that doesn't end the line and has no two digits after it.
-pub fn push_line(text: &mut Vec<u8>, line: &str) -> Result<()> {
-    let (line, end) = match line.strip_suffix("\\") {
-        Some(unended) => (unended, ""),
-        None => (line, "\n"),
+pub fn push_line(text: &mut Vec<u8>, line: &str) -> Result<(), Failure> {
+    let Some(unended) = line.strip_suffix("\\") else {
+        push_parts(text, line)?;
+        return push(text, "\n");
     };
-    let mut parts = line.split("\\");
-    text.extend_from_slice(parts.next().unwrap_or("").as_bytes())?;
-    for escaped in parts {
-        push_escaped(text, escaped)?;
-    }
-    text.extend_from_slice(end.as_bytes())?;
-    Ok(())
+    push_parts(text, unended)
 }
 
 /// Pushes lines that this separates.
@@ -37,42 +55,58 @@ pub fn push_line(text: &mut Vec<u8>, line: &str) -> Result<()> {
 /// # Errors
 ///
 /// As those of `push_line`.
-pub fn push_lines(text: &mut Vec<u8>, lines: &str, between: &str) -> Result<()> {
+pub fn push_lines(text: &mut Vec<u8>, lines: &str, between: &str) -> Result<(), Failure> {
     for line in lines.split(between) {
         push_line(text, line)?;
     }
     Ok(())
 }
 
+/// A number of a short trace.
+///
+/// # Errors
+///
+/// The word is no number.
+pub fn number(word: &str) -> Result<u32, Failure> {
+    match word.parse::<u32>() {
+        Ok(number) => Ok(number),
+        Err(_) => Err(Failure::Unfit("a number is missing")),
+    }
+}
+
 /// Pushes `count` lines, each a step of the task.
-fn push_steps(trace: &mut Vec<u8>, task: u32, count: u32) -> Result<()> {
+fn push_steps(trace: &mut Vec<u8>, task: u32, count: u32) -> Result<(), Failure> {
     for _ in 0..count {
         writeln!(trace, "step {task}")?;
     }
     Ok(())
 }
 
-/// Pushes the steps of one task, or of each task from one to another.
-fn push_tasks(trace: &mut Vec<u8>, steps: &str) -> Result<()> {
-    let (tasks, count) = steps.split_once("*").context("no steps")?;
-    let (first, last) = tasks.split_once("..").unwrap_or((tasks, tasks));
-    let count = count.parse::<u32>()?;
-    for task in first.parse::<u32>()?..=last.parse::<u32>()? {
+/// Pushes the steps of each task from one to another.
+fn push_tasks(trace: &mut Vec<u8>, first: u32, last: u32, count: u32) -> Result<(), Failure> {
+    for task in first..=last {
         push_steps(trace, task, count)?;
     }
     Ok(())
 }
 
-fn push_event(trace: &mut Vec<u8>, word: &str) -> Result<()> {
+/// Pushes the steps of one task, or of each task from one to another.
+fn push_turns(trace: &mut Vec<u8>, steps: &str) -> Result<(), Failure> {
+    let Some((tasks, count)) = steps.split_once("*") else {
+        return Err(Failure::Unfit("a word of a trace is no event"));
+    };
+    let (first, last) = tasks.split_once("..").unwrap_or((tasks, tasks));
+    push_tasks(trace, number(first)?, number(last)?, number(count)?)
+}
+
+fn push_event(trace: &mut Vec<u8>, word: &str) -> Result<(), Failure> {
     if let Some(task) = word.strip_prefix("i") {
-        writeln!(trace, "interrupt {task}")?;
-        return Ok(());
+        Ok(writeln!(trace, "interrupt {task}")?)
+    } else if let Some(scope) = word.strip_prefix("x") {
+        Ok(writeln!(trace, "expire {scope}")?)
+    } else {
+        push_turns(trace, word)
     }
-    if let Some(scope) = word.strip_prefix("x") {
-        writeln!(trace, "expire {scope}")?;
-        return Ok(());
-    }
-    push_tasks(trace, word)
 }
 
 /// Pushes the lines of a trace in its short notation. `0*5` is `step 0` five times, and `1..3*5` is
@@ -82,7 +116,7 @@ fn push_event(trace: &mut Vec<u8>, word: &str) -> Result<()> {
 /// # Errors
 ///
 /// Out of memory, or a word that is no event.
-pub fn push_events(trace: &mut Vec<u8>, short: &str) -> Result<()> {
+pub fn push_events(trace: &mut Vec<u8>, short: &str) -> Result<(), Failure> {
     for word in short.split_ascii_whitespace() {
         push_event(trace, word)?;
     }

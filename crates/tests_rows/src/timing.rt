@@ -24,18 +24,23 @@ fn timed(rt: &HostRuntime, tree: &mut Tree<u32>, subtasks: u32, count: u32) -> i
     Ok(nanos / u128::from(events.max(1)))
 }
 
-fn measure(rt: &HostRuntime, subtasks: u32) -> io::Result<()> {
-    let mut tree = Tree::with_room(rt.alloc(), subtasks.min(65535) + 1, 1)?;
+/// Times the rounds in a tree, and says what was born in it.
+fn measure_in(rt: &HostRuntime, tree: &mut Tree<u32>, subtasks: u32) -> io::Result<()> {
     let all = BIRTHS.saturating_sub(1).checked_div(subtasks).unwrap_or(0);
     let tenth = all / 10;
-    let first = timed(rt, &mut tree, subtasks, tenth)?;
-    let middle = timed(rt, &mut tree, subtasks, all.saturating_sub(2 * tenth))?;
-    let last = timed(rt, &mut tree, subtasks, tenth)?;
+    let first = timed(rt, tree, subtasks, tenth)?;
+    let middle = timed(rt, tree, subtasks, all.saturating_sub(2 * tenth))?;
+    let last = timed(rt, tree, subtasks, tenth)?;
     let (tasks, scopes) = (tree.tasks_born(), tree.scopes_born());
     println!(rt; "{subtasks} at once: {tasks} tasks and {scopes} scopes were born")?;
     eprintln!(rt;
         "{subtasks} at once: {first}, {middle}, {last} ns an event (first tenth, middle, last)"
     )
+}
+
+fn measure(rt: &HostRuntime, subtasks: u32) -> io::Result<()> {
+    let mut tree = Tree::with_room(rt.alloc(), subtasks.min(65535) + 1, 1)?;
+    measure_in(rt, &mut tree, subtasks)
 }
 
 fn measure_each(rt: &HostRuntime) -> io::Result<()> {

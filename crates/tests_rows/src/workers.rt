@@ -3,7 +3,7 @@
 //! There is room for what is printed and for the journal before the run begins. So no write fails,
 //! and a request that is refused later is one of the run.
 
-use crate::failure::{Failure, in_taking, tell, within};
+use crate::failure::{Failure, in_taking, status, within, written};
 use crate::row::Row;
 use std::alloc::Global;
 use std::io::{Input, Print};
@@ -40,36 +40,44 @@ fn tell_run<R: Print>(rt: &R, status: u8, printed: &[u8], journal: &[u8]) -> Res
     if let Some(failure) = failure_of(printed) {
         return Err(failure);
     }
-    print!(rt; "{printed}")?;
     let entries = journal.iter().filter(|byte| **byte == b'\n').count();
-    println!(rt; "status {status}, entries {entries}")?;
-    Ok(())
+    written(println!(rt; "{printed}status {status}, entries {entries}"))
+}
+
+/// Runs a row, with its journal and what it prints in these two.
+fn play_in<R: Print + Threads + Wait + Sync>(
+    rt: &R,
+    alloc: Global,
+    row: &Row<'_>,
+    journal: &mut Vec<u8>,
+    printed: &mut Vec<u8>,
+) -> Result<(), Failure> {
+    match play_run(rt, alloc, row.text, WORKERS, row.outside, journal, printed) {
+        Ok(status) => tell_run(rt, status, printed.as_slice(), journal.as_slice()),
+        Err(_) => Err(Failure::Unfit("a write failed")),
+    }
+}
+
+/// Runs the row of an input.
+fn play_row<R: Print + Threads + Wait + Sync>(
+    rt: &R,
+    alloc: Global,
+    input: &[u8],
+) -> Result<(), Failure> {
+    let (_, row) = Row::of(input)?;
+    let mut journal = room(alloc)?;
+    let mut printed = room(alloc)?;
+    play_in(rt, alloc, &row, &mut journal, &mut printed)
 }
 
 fn played<R: Input + Print + Threads + Wait + Sync>(rt: &R, alloc: Global) -> Result<(), Failure> {
     let input = in_taking(take(alloc, &mut rt.reader(), u64::MAX))?;
-    let (_, row) = Row::of(input.as_slice())?;
-    let (mut journal, mut printed) = (room(alloc)?, room(alloc)?);
-    match play_run(
-        rt,
-        alloc,
-        row.text,
-        WORKERS,
-        row.outside,
-        &mut journal,
-        &mut printed,
-    ) {
-        Ok(status) => tell_run(rt, status, printed.as_slice(), journal.as_slice()),
-        Err(_) => Err(Failure::Unfit("a write failed")),
-    }
+    play_row(rt, alloc, input.as_slice())
 }
 
 /// Runs the row that standard input has with two workers, and says what came of it. Returns the
 /// status: 6 if memory ran out or a thread was refused, 2 if the row doesn't fit, and 1 if a write
 /// failed.
 pub fn run_row<R: Input + Print + Threads + Wait + Sync>(rt: &R, alloc: Global) -> u8 {
-    match played(rt, alloc) {
-        Ok(()) => 0,
-        Err(failure) => tell(rt, failure).unwrap_or(1),
-    }
+    status(rt, played(rt, alloc))
 }
