@@ -123,7 +123,7 @@ impl Schedule {
         }
     }
 
-    /// Draws a schedule of some `length` events. Three in four have priorities. Of these a third
+    /// Draws a schedule of some `length` events. Three in four have priorities. A third of these
     /// leaves interrupts out, and a third expiries.
     ///
     /// # Errors

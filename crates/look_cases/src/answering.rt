@@ -41,7 +41,7 @@ fn ran(alloc: Global, program: &Program, text: &[u8], events: &[Event]) -> Resul
     run(alloc, program, text, watch.state(), watch.steps())
 }
 
-/// Returns an answer with nothing but the number of its case and the version.
+/// Returns an answer that has only the number of its case and the version.
 fn numbered(alloc: Global, number: u64) -> Result<Value, AllocError>
     ensures { IfOk result (λ v. view v ≡ def.answer_of number []) }
 {
