@@ -1,4 +1,5 @@
 pub mod Named
 pub mod Scope
+pub mod Stand
 pub mod Task
 pub mod Views

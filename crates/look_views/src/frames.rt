@@ -6,7 +6,8 @@ ghost use Rattle.sts_model.specs.Living as living;
 ghost use Rattle.sts_model.specs.World as model;
 ghost use Rattle.look_views.specs.Task as def;
 
-use serde_json::{Value, json};
+use look_cases::{Scalar, object_of, with_list};
+use serde_json::Value;
 use std::alloc::{AllocError, Global};
 use sts_world::Records;
 
@@ -36,7 +37,13 @@ fn operands(alloc: Global, values: &[i64]) -> Result<Vec<Value>, AllocError>
 fn binding(alloc: Global, key: u8, value: i64) -> Result<Value, AllocError>
     ensures { IfOk result (λ v. view v ≡ def.binding key value) }
 {
-    json!(in alloc; {"key": key, "value": value})
+    object_of(
+        alloc,
+        &[
+            ("key", Scalar::Count(key as u64)),
+            ("value", Scalar::Integer(value)),
+        ],
+    )
 }
 
 /// Returns the bound keys among these, with their values.
@@ -72,8 +79,17 @@ pub(crate) fn frame(alloc: Global, records: &Records, t: u32) -> Result<Value, A
     ensures { IfOk result (λ v. view v ≡ def.frame records.now t) }
 {
     let frame = records.frame(t);
-    let bound = bound(alloc, records, t)?;
-    let locals = integers(alloc, &frame.locals)?;
-    let operands = operands(alloc, frame.operands.as_slice())?;
-    json!(in alloc; {"bound": bound, "locals": locals, "operands": operands})
+    let shown = with_list(
+        alloc,
+        object_of(alloc, &[]),
+        "bound",
+        bound(alloc, records, t),
+    );
+    let shown = with_list(alloc, shown, "locals", integers(alloc, &frame.locals));
+    with_list(
+        alloc,
+        shown,
+        "operands",
+        operands(alloc, frame.operands.as_slice()),
+    )
 }

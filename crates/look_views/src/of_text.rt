@@ -1,6 +1,7 @@
 //! The views of a text's run as lines of JSON, or the line of a fault.
 
-ghost use Rattle.std.specs.Prelude.{◌≡◌, ◌≢◌, IfOk, Result, Err, false};
+ghost use Rattle.std.specs.Prelude.{◌≡◌, ◌≢◌, IfOk, Result, Err, codes, false};
+ghost use Rattle.serde_json.specs.Data.{member, no_members, object, put};
 ghost use Rattle.serde_json.specs.View.{view};
 ghost use Rattle.serde_json.specs.Written.{has_float};
 ghost use Rattle.sts_code.specs.Program.{Program as AnyProgram};
@@ -11,11 +12,11 @@ ghost use Rattle.sts_output.specs.Output.{Output as AnyOutput, Writes};
 ghost use Rattle.look_views.specs.Views as def;
 
 use crate::views::{JsonViews, VERSION, push_line};
-use look_cases::{text_fault, trace_fault};
+use look_cases::{Scalar, object_of, text_fault, trace_fault, with_member};
 use look_lines::{Form, Run, view_output, write_run};
 use look_names::Names;
 use look_options::ViewOptions;
-use serde_json::{Value, json};
+use serde_json::Value;
 use std::alloc::{AllocError, Global};
 use std::io::Write;
 use sts_asm::AsmError;
@@ -38,19 +39,28 @@ fn faulty(alloc: Global, value: &Value) -> Result<Output, AllocError>
     })
 }
 
+/// Returns a fault with the version of the lines.
+fn versioned(alloc: Global, key: &str, fault: Value) -> Result<Value, AllocError>
+    ensures { IfOk result (λ v. view v
+        ≡ object (put key.now (view fault) (member (codes "version") def.version no_members))) }
+{
+    let line = object_of(alloc, &[("version", Scalar::Count(VERSION))]);
+    with_member(alloc, line, key, Ok(fault))
+}
+
 fn text_line(alloc: Global, error: AsmError) -> Result<Value, AllocError>
     ensures { (read : Result AnyProgram AsmError) → FailsAt error error.kind read
         → IfOk result (λ v. (read ≡ Err error) × (view v ≡ def.text_line error)) }
 {
     let fault = text_fault(alloc, error)?;
-    json!(in alloc; {"text_fault": fault, "version": VERSION})
+    versioned(alloc, "text_fault", fault)
 }
 
 fn trace_line(alloc: Global, error: TraceError) -> Result<Value, AllocError>
     ensures { IfOk result (λ v. (error ≢ Memory) × (view v ≡ def.trace_line error)) }
 {
     let fault = trace_fault(alloc, error)?;
-    json!(in alloc; {"trace_fault": fault, "version": VERSION})
+    versioned(alloc, "trace_fault", fault)
 }
 
 /// Returns the line of a fault of a text. Running out of memory is no fault of it.

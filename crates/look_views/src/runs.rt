@@ -5,9 +5,9 @@ ghost use Rattle.serde_json.specs.View.{view};
 ghost use Rattle.look_views.specs.Views as def;
 
 use crate::named::{placed, with_name};
-use look_cases::ended;
+use look_cases::{Scalar, ended, object_of};
 use look_names::Names;
-use serde_json::{Value, json};
+use serde_json::Value;
 use std::alloc::{AllocError, Global};
 use sts_code::{Program, name_of};
 use sts_model::End;
@@ -29,14 +29,17 @@ fn named_end(alloc: Global, names: &Names<'_>, end: End, steps: u64) -> Result<V
 fn fault(alloc: Global, program: &Program, fault: Misstep, steps: u64) -> Result<Value, AllocError>
     ensures { IfOk result (λ v. view v ≡ def.fault program.now fault steps) }
 {
-    json!(in alloc; {
-        "fault": fault_word(fault.kind),
-        "function": name_of(program, fault.function),
-        "outcome": "fault",
-        "place": fault.pc,
-        "steps": steps,
-        "task": fault.task
-    })
+    object_of(
+        alloc,
+        &[
+            ("fault", Scalar::Text(fault_word(fault.kind))),
+            ("function", Scalar::Text(name_of(program, fault.function))),
+            ("outcome", Scalar::Text("fault")),
+            ("place", Scalar::Count(fault.pc as u64)),
+            ("steps", Scalar::Count(steps)),
+            ("task", Scalar::Count(fault.task as u64)),
+        ],
+    )
 }
 
 /// Returns the state of a run, and the steps that it took.
@@ -54,7 +57,13 @@ pub(crate) fn run(
     ensures { IfOk result (λ v. view v ≡ def.run names.now program.now state steps) }
 {
     match state {
-        PlainState::Running => json!(in alloc; {"outcome": "running", "steps": steps}),
+        PlainState::Running => object_of(
+            alloc,
+            &[
+                ("outcome", Scalar::Text("running")),
+                ("steps", Scalar::Count(steps)),
+            ],
+        ),
         PlainState::Ended(end) => named_end(alloc, names, end, steps),
         PlainState::Fault {
             kind,

@@ -7,9 +7,10 @@ ghost use Rattle.sts_model.specs.World as model;
 ghost use Rattle.look_views.specs.Scope as def;
 
 use crate::named::with_name;
+use look_cases::{Scalar, object_of, with_list, with_text};
 use look_lines::phase_word;
 use look_names::Names;
-use serde_json::{Value, json};
+use serde_json::Value;
 use std::alloc::{AllocError, Global};
 use sts_code::{Joiner, Pred};
 use sts_model::{Completion, End};
@@ -34,14 +35,16 @@ fn joiner_text(alloc: Global, joiner: Joiner) -> Result<String, AllocError>
 fn told_end(alloc: Global, names: &Names<'_>, told: Completion) -> Result<Value, AllocError>
     ensures { IfOk result (λ v. view v ≡ def.told_end names.now told) }
 {
-    let task = told.task;
+    let task = ("task", Scalar::Count(told.task as u64));
     match told.end {
         End::Success(value) => {
-            let end = json!(in alloc; {"outcome": "success", "task": task, "value": value})?;
+            let outcome = ("outcome", Scalar::Text("success"));
+            let end = object_of(alloc, &[outcome, task, ("value", Scalar::Integer(value))])?;
             with_name(alloc, end, "name", names.value(value))
         }
         End::Failed(code) => {
-            let end = json!(in alloc; {"code": code, "outcome": "failed", "task": task})?;
+            let outcome = ("outcome", Scalar::Text("failed"));
+            let end = object_of(alloc, &[("code", Scalar::Integer(code)), outcome, task])?;
             with_name(alloc, end, "name", names.value(code))
         }
     }
@@ -66,36 +69,32 @@ fn told_ends(
 fn brief(alloc: Global, records: &Records, s: u32) -> Result<Value, AllocError>
     ensures { IfOk result (λ v. view v ≡ def.brief s (model.scope_at records.now s)) }
 {
-    let joiner = joiner_text(alloc, records.joiner(s))?;
-    json!(in alloc; {
-        "cancelled": records.is_cancelled(s),
-        "expired": records.is_expired(s),
-        "joiner": joiner,
-        "may_expire": records.can_expire(s),
-        "owner": records.owner(s),
-        "phase": phase_word(records.phase(s)),
-        "scope": s,
-        "timed": records.is_timed(s)
-    })
+    let brief = object_of(
+        alloc,
+        &[
+            ("cancelled", Scalar::Flag(records.is_cancelled(s))),
+            ("expired", Scalar::Flag(records.is_expired(s))),
+            ("may_expire", Scalar::Flag(records.can_expire(s))),
+            ("owner", Scalar::Count(records.owner(s) as u64)),
+            ("phase", Scalar::Text(phase_word(records.phase(s)))),
+            ("scope", Scalar::Count(s as u64)),
+            ("timed", Scalar::Flag(records.is_timed(s))),
+        ],
+    );
+    with_text(
+        alloc,
+        brief,
+        "joiner",
+        joiner_text(alloc, records.joiner(s)),
+    )
 }
 
 /// Returns a scope with the ends that its joiner was told of.
 fn whole(alloc: Global, names: &Names<'_>, records: &Records, s: u32) -> Result<Value, AllocError>
     ensures { IfOk result (λ v. view v ≡ def.whole names.now s (model.scope_at records.now s)) }
 {
-    let joiner = joiner_text(alloc, records.joiner(s))?;
-    let told = told_ends(alloc, names, records.completions(s))?;
-    json!(in alloc; {
-        "cancelled": records.is_cancelled(s),
-        "expired": records.is_expired(s),
-        "joiner": joiner,
-        "may_expire": records.can_expire(s),
-        "owner": records.owner(s),
-        "phase": phase_word(records.phase(s)),
-        "scope": s,
-        "timed": records.is_timed(s),
-        "told": told
-    })
+    let told = told_ends(alloc, names, records.completions(s));
+    with_list(alloc, brief(alloc, records, s), "told", told)
 }
 
 fn scope(

@@ -4,14 +4,14 @@ ghost use Rattle.std.specs.Prelude.{◌≡◌, ◌<◌, IfOk, length, true};
 ghost use Rattle.serde_json.specs.View.{view, items_view, items_of};
 ghost use Rattle.sts_model.specs.Living as living;
 ghost use Rattle.sts_model.specs.World as model;
-ghost use Rattle.look_cases.specs.Json.{count_or_null};
 ghost use Rattle.look_views.specs.Task as def;
 
 use crate::frames::frame;
 use crate::named::{placed, with_name};
+use look_cases::{Scalar, object_of, widened, with_member};
 use look_lines::is_heard;
 use look_names::Names;
-use serde_json::{Value, json};
+use serde_json::Value;
 use std::alloc::{AllocError, Global};
 use sts_code::{Program, name_of};
 use sts_model::{End, Stand};
@@ -21,13 +21,19 @@ use sts_world::{Records, World};
 fn plain_state(alloc: Global, word: &str) -> Result<Value, AllocError>
     ensures { IfOk result (λ v. view v ≡ def.plain_state word.now) }
 {
-    json!(in alloc; {"is": word})
+    object_of(alloc, &[("is", Scalar::Text(word))])
 }
 
 fn waits(alloc: Global, word: &str, scope: u32) -> Result<Value, AllocError>
     ensures { IfOk result (λ v. view v ≡ def.waits word.now scope) }
 {
-    json!(in alloc; {"is": word, "scope": scope})
+    object_of(
+        alloc,
+        &[
+            ("is", Scalar::Text(word)),
+            ("scope", Scalar::Count(scope as u64)),
+        ],
+    )
 }
 
 /// Returns for which scope a task that can't step waits, and where.
@@ -51,14 +57,17 @@ fn ended(
 ) -> Result<Value, AllocError>
     ensures { IfOk result (λ v. view v ≡ def.ended names.now is_heard end) }
 {
+    let heard = ("heard", Scalar::Flag(is_heard));
     match end {
         None => Ok(Value::Null),
         Some(End::Success(value)) => {
-            let ended = json!(in alloc; {"heard": is_heard, "is": "success", "value": value})?;
+            let is = ("is", Scalar::Text("success"));
+            let ended = object_of(alloc, &[heard, is, ("value", Scalar::Integer(value))])?;
             with_name(alloc, ended, "name", names.value(value))
         }
         Some(End::Failed(code)) => {
-            let ended = json!(in alloc; {"code": code, "heard": is_heard, "is": "failed"})?;
+            let is = ("is", Scalar::Text("failed"));
+            let ended = object_of(alloc, &[("code", Scalar::Integer(code)), heard, is])?;
             with_name(alloc, ended, "name", names.value(code))
         }
     }
@@ -95,16 +104,6 @@ fn state(
     waiting(alloc, stand_at(world, program, t))
 }
 
-/// Returns the scope that a task is a subtask of, or null for the root.
-fn under(scope: Option<u32>) -> Value
-    ensures { view result ≡ count_or_null scope }
-{
-    match scope {
-        Some(scope) => Value::from(scope),
-        None => Value::Null,
-    }
-}
-
 fn brief(
     alloc: Global,
     names: &Names<'_>,
@@ -115,16 +114,26 @@ fn brief(
     requires { t < length world.now.tasks }
     ensures { IfOk result (λ v. view v ≡ def.brief names.now program.now world.now t) }
 {
-    let state = state(alloc, names, program, world, t)?;
     let records = world.records();
-    json!(in alloc; {
-        "function": name_of(program, records.function(t)),
-        "interrupted": records.flag(t),
-        "place": records.pc(t),
-        "state": state,
-        "task": t,
-        "under": under(records.parent(t))
-    })
+    let brief = object_of(
+        alloc,
+        &[
+            (
+                "function",
+                Scalar::Text(name_of(program, records.function(t))),
+            ),
+            ("interrupted", Scalar::Flag(records.flag(t))),
+            ("place", Scalar::Count(records.pc(t) as u64)),
+            ("task", Scalar::Count(t as u64)),
+            ("under", Scalar::MaybeCount(widened(records.parent(t)))),
+        ],
+    );
+    with_member(
+        alloc,
+        brief,
+        "state",
+        state(alloc, names, program, world, t),
+    )
 }
 
 /// Returns a living task with its operands, locals and bindings.
@@ -139,18 +148,8 @@ fn whole(
     requires lives { living.lives (model.task_at world.now t) ≡ true }
     ensures { IfOk result (λ v. view v ≡ def.whole names.now program.now world.now t) }
 {
-    let frame = frame(alloc, world.records(), t)?;
-    let state = state(alloc, names, program, world, t)?;
-    let records = world.records();
-    json!(in alloc; {
-        "frame": frame,
-        "function": name_of(program, records.function(t)),
-        "interrupted": records.flag(t),
-        "place": records.pc(t),
-        "state": state,
-        "task": t,
-        "under": under(records.parent(t))
-    })
+    let brief = brief(alloc, names, program, world, t);
+    with_member(alloc, brief, "frame", frame(alloc, world.records(), t))
 }
 
 fn plain_task(

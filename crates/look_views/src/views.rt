@@ -2,18 +2,22 @@
 
 ghost use Rattle.std.specs.Prelude.{◌≡◌, ◌++◌, OnOk, IfOk, false};
 ghost use Rattle.std.specs.String.{string_bytes};
+ghost use Rattle.serde_json.specs.Data.{Members, object};
 ghost use Rattle.serde_json.specs.View.{view};
 ghost use Rattle.serde_json.specs.Written.{has_float};
 ghost use Rattle.sts_trace.specs.Spelling.{event_text};
+ghost use Rattle.look_cases.specs.Objects.{Makes};
+ghost use Rattle.look_views.specs.Stand as stand;
 ghost use Rattle.look_views.specs.Views as def;
 
 use crate::runs::run;
 use crate::scopes::{open_scopes, scopes};
 use crate::tasks::{living_tasks, tasks};
+use look_cases::{Scalar, object_of, with_list, with_member, with_text};
 use look_lines::{Applied, View, Watch, closed, event_words, resting};
 use look_names::Names;
 use look_options::ViewOptions;
-use serde_json::{Value, json};
+use serde_json::Value;
 use std::alloc::{AllocError, Global};
 use std::fmt::Write;
 use sts_model::Event;
@@ -26,53 +30,66 @@ pub const VERSION: u64 = 1;
 fn not_shown(alloc: Global, records: &Records) -> Result<Value, AllocError>
     ensures { IfOk result (λ v. view v ≡ def.not_shown records.now) }
 {
-    json!(in alloc; {"scopes": closed(records), "tasks": resting(records)})
+    object_of(
+        alloc,
+        &[
+            ("scopes", Scalar::Count(closed(records) as u64)),
+            ("tasks", Scalar::Count(resting(records) as u64)),
+        ],
+    )
 }
 
-/// Returns the view of a machine after this number of events, with all tasks and scopes.
-fn whole_state(
+/// Adds to an object how the run stands, and all tasks and scopes.
+fn with_whole(
     alloc: Global,
     names: &Names<'_>,
-    n: usize,
     watch: &Watch<'_>,
     full: bool,
+    value: Result<Value, AllocError>,
 ) -> Result<Value, AllocError>
-    ensures { IfOk result (λ v. view v ≡ def.whole_state names.now full n watch.now) }
+    ensures { (ms : Members) → Makes (object ms) value
+        → Makes (object (stand.with_whole names.now full watch.now ms)) result }
 {
-    let state = run(alloc, names, watch.program(), watch.state(), watch.steps())?;
-    let scopes = scopes(alloc, names, full, watch.world().records())?;
-    let tasks = tasks(alloc, names, watch.program(), full, watch.world())?;
-    json!(in alloc; {
-        "after": n,
-        "run": state,
-        "scopes": scopes,
-        "tasks": tasks,
-        "version": VERSION
-    })
+    let state = run(alloc, names, watch.program(), watch.state(), watch.steps());
+    let value = with_member(alloc, value, "run", state);
+    let scopes = scopes(alloc, names, full, watch.world().records());
+    let value = with_list(alloc, value, "scopes", scopes);
+    let tasks = tasks(alloc, names, watch.program(), full, watch.world());
+    with_list(alloc, value, "tasks", tasks)
 }
 
-/// Returns the same with only the tasks that live and the scopes that are open.
-fn living_state(
+/// Adds to an object how the run stands, and only the tasks that live and the scopes that are open.
+fn with_living(
     alloc: Global,
     names: &Names<'_>,
-    n: usize,
     watch: &Watch<'_>,
     full: bool,
+    value: Result<Value, AllocError>,
 ) -> Result<Value, AllocError>
-    ensures { IfOk result (λ v. view v ≡ def.living_state names.now full n watch.now) }
+    ensures { (ms : Members) → Makes (object ms) value
+        → Makes (object (stand.with_living names.now full watch.now ms)) result }
 {
-    let others = not_shown(alloc, watch.world().records())?;
-    let state = run(alloc, names, watch.program(), watch.state(), watch.steps())?;
-    let scopes = open_scopes(alloc, names, full, watch.world().records())?;
-    let tasks = living_tasks(alloc, names, watch.program(), full, watch.world())?;
-    json!(in alloc; {
-        "after": n,
-        "not_shown": others,
-        "run": state,
-        "scopes": scopes,
-        "tasks": tasks,
-        "version": VERSION
-    })
+    let others = not_shown(alloc, watch.world().records());
+    let value = with_member(alloc, value, "not_shown", others);
+    let state = run(alloc, names, watch.program(), watch.state(), watch.steps());
+    let value = with_member(alloc, value, "run", state);
+    let scopes = open_scopes(alloc, names, full, watch.world().records());
+    let value = with_list(alloc, value, "scopes", scopes);
+    let tasks = living_tasks(alloc, names, watch.program(), full, watch.world());
+    with_list(alloc, value, "tasks", tasks)
+}
+
+/// Returns an object with the number of a view's last event.
+fn numbered(alloc: Global, n: usize) -> Result<Value, AllocError>
+    ensures { IfOk result (λ v. view v ≡ object (stand.numbered n)) }
+{
+    object_of(
+        alloc,
+        &[
+            ("after", Scalar::Count(n as u64)),
+            ("version", Scalar::Count(VERSION)),
+        ],
+    )
 }
 
 /// Returns the view of a machine after this number of events.
@@ -85,10 +102,11 @@ fn state_view(
 ) -> Result<Value, AllocError>
     ensures { IfOk result (λ v. view v ≡ def.state_view names.now wanted n watch.now) }
 {
+    let value = numbered(alloc, n);
     if wanted.living {
-        living_state(alloc, names, n, watch, wanted.full)
+        with_living(alloc, names, watch, wanted.full, value)
     } else {
-        whole_state(alloc, names, n, watch, wanted.full)
+        with_whole(alloc, names, watch, wanted.full, value)
     }
 }
 
@@ -101,56 +119,19 @@ fn event_string(alloc: Global, event: Event) -> Result<String, AllocError>
     Ok(text)
 }
 
-/// Returns the view of a machine after an event, with all tasks and scopes.
-fn whole_event(
-    alloc: Global,
-    names: &Names<'_>,
-    applied: Applied,
-    watch: &Watch<'_>,
-    full: bool,
-) -> Result<Value, AllocError>
-    ensures { IfOk result (λ v. view v ≡ def.whole_event names.now full applied watch.now) }
+/// Returns an object with an event, its number and whether it counted.
+fn applied_event(alloc: Global, applied: Applied) -> Result<Value, AllocError>
+    ensures { IfOk result (λ v. view v ≡ object (stand.applied_event applied)) }
 {
-    let event = event_string(alloc, applied.event)?;
-    let state = run(alloc, names, watch.program(), watch.state(), watch.steps())?;
-    let scopes = scopes(alloc, names, full, watch.world().records())?;
-    let tasks = tasks(alloc, names, watch.program(), full, watch.world())?;
-    json!(in alloc; {
-        "after": applied.number,
-        "counts": applied.is_counted,
-        "event": event,
-        "run": state,
-        "scopes": scopes,
-        "tasks": tasks,
-        "version": VERSION
-    })
-}
-
-/// Returns the same with only the tasks that live and the scopes that are open.
-fn living_event(
-    alloc: Global,
-    names: &Names<'_>,
-    applied: Applied,
-    watch: &Watch<'_>,
-    full: bool,
-) -> Result<Value, AllocError>
-    ensures { IfOk result (λ v. view v ≡ def.living_event names.now full applied watch.now) }
-{
-    let event = event_string(alloc, applied.event)?;
-    let others = not_shown(alloc, watch.world().records())?;
-    let state = run(alloc, names, watch.program(), watch.state(), watch.steps())?;
-    let scopes = open_scopes(alloc, names, full, watch.world().records())?;
-    let tasks = living_tasks(alloc, names, watch.program(), full, watch.world())?;
-    json!(in alloc; {
-        "after": applied.number,
-        "counts": applied.is_counted,
-        "event": event,
-        "not_shown": others,
-        "run": state,
-        "scopes": scopes,
-        "tasks": tasks,
-        "version": VERSION
-    })
+    let value = object_of(
+        alloc,
+        &[
+            ("after", Scalar::Count(applied.number as u64)),
+            ("counts", Scalar::Flag(applied.is_counted)),
+            ("version", Scalar::Count(VERSION)),
+        ],
+    );
+    with_text(alloc, value, "event", event_string(alloc, applied.event))
 }
 
 /// Returns the view of a machine after an event.
@@ -163,10 +144,11 @@ fn event_view(
 ) -> Result<Value, AllocError>
     ensures { IfOk result (λ v. view v ≡ def.event_view names.now wanted applied watch.now) }
 {
+    let value = applied_event(alloc, applied);
     if wanted.living {
-        living_event(alloc, names, applied, watch, wanted.full)
+        with_living(alloc, names, watch, wanted.full, value)
     } else {
-        whole_event(alloc, names, applied, watch, wanted.full)
+        with_whole(alloc, names, watch, wanted.full, value)
     }
 }
 
