@@ -11,7 +11,7 @@ use Rattle.look_views.specs.Scope.{open_scopes, scopes}
 use Rattle.look_views.specs.Task.{living_tasks, tasks}
 use Rattle.look_views.specs.Views.{not_shown, run, version}
 
--- with how the run stands
+-- with the state of the run
 abbrev pub with_run : List ℕ → Watched → Members → Members
 with_run text m ms = put (codes "run") (run text m.program (shown m.state) m.steps) ms
 

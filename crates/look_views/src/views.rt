@@ -39,7 +39,7 @@ fn not_shown(alloc: Global, records: &Records) -> Result<Value, AllocError>
     )
 }
 
-/// Adds to an object how the run stands, and all tasks and scopes.
+/// Adds to an object the state of the run, and all tasks and scopes.
 fn with_whole(
     alloc: Global,
     names: &Names<'_>,
@@ -58,7 +58,7 @@ fn with_whole(
     with_list(alloc, value, "tasks", tasks)
 }
 
-/// Adds to an object how the run stands, and only the tasks that live and the scopes that are open.
+/// Adds to an object the state of the run, the tasks that live, and the scopes that are open.
 fn with_living(
     alloc: Global,
     names: &Names<'_>,
