@@ -295,8 +295,10 @@ fn replay_events(
     verified: &Verified,
     events: &[Event],
 ) -> Result<(), Failure> {
-    let machine = within("replay", replay(alloc, verified, events))?;
-    tell_after(rt, machine.root_end(), machine.steps())
+    match replay(alloc, verified, events) {
+        Ok(machine) => tell_after(rt, machine.root_end(), machine.steps()),
+        Err(_) => Err(Failure::Memory("replay")),
+    }
 }
 
 fn replayed(
@@ -324,14 +326,18 @@ fn tell_run(rt: &HostRuntime, run: &mut impl Run) -> Result<(), Failure> {
 
 /// A whole run on a machine that was prepared.
 fn prepared(rt: &HostRuntime, alloc: Global, verified: &Verified) -> Result<(), Failure> {
-    let mut machine = within("prepare", Machine::prepare(alloc, verified))?;
-    tell_run(rt, &mut machine)
+    match Machine::prepare(alloc, verified) {
+        Ok(mut machine) => tell_run(rt, &mut machine),
+        Err(_) => Err(Failure::Memory("prepare")),
+    }
 }
 
 /// A whole run in a book that was started.
 fn booked(rt: &HostRuntime, alloc: Global, verified: &Verified) -> Result<(), Failure> {
-    let mut book = within("book", Book::start(alloc, verified))?;
-    tell_run(rt, &mut book)
+    match Book::start(alloc, verified) {
+        Ok(mut book) => tell_run(rt, &mut book),
+        Err(_) => Err(Failure::Memory("book")),
+    }
 }
 
 /// Makes a call on the accepted program of a row.
