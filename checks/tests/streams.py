@@ -55,6 +55,7 @@ LONG = 3.5  # the seconds of a search that says more than once how far it is
 TOO_LONG, NO_MEMORY, NO_FILE = ("error A8 line 0\n", 3), ("error memory\n", 6), ("error file\n", 6)
 EXPLAINED_TOO_LONG = ("error A8\nthe text has more than 1048576 bytes\n", 3)
 JSON_TOO_LONG = ('{"text_fault":{"fault":"A8","line":0},"version":1}\n', 3)
+NO_MAIN = ("error A9 C5\nthe text must end with a function main 0, without needs\n", 3)
 FAILED = ("", 6)
 END = ("success 50\nsteps 24\n", 0)
 RUN_OF_SUM = (
@@ -242,8 +243,10 @@ def closed(program, look, folder):
                 is_kept = after.read() == "kept\n"
             yield f"its file: {what}", answer(program, ["replay", SUM, made]) if is_read else is_kept, END if is_read else True
         for stream in streams:
-            for (name, *words), _ in makers(program, look, f"/dev/{('stdin', 'stdout', 'stderr')[stream]}"):
-                yield f"{words}, {streams} closed", answer(name, words, **around), FAILED if 1 in streams else NO_FILE
+            for (name, *words), is_reader in makers(program, look, f"/dev/{('stdin', 'stdout', 'stderr')[stream]}"):
+                # (the input is empty, and a faulty text has no trace to write)
+                right = NO_MAIN if name == look and is_reader and 0 not in streams else NO_FILE
+                yield f"{words}, {streams} closed", answer(name, words, **around), FAILED if 1 in streams else right
         for name, *words in reading:
             yield f"{words}, {streams} closed", answer(name, words, **around), FAILED if 1 in streams else answer(name, words)
         with open(nothing) as given:

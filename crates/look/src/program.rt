@@ -122,6 +122,7 @@ fn on_explain<S: Sources, W: Write>(
 /// Writes what was found of the ends of a text. No end has the number that was asked for, so no file
 /// of a trace is made.
 fn on_listing_alone<S: Sinks, W: Write>(
+    alloc: Global,
     sinks: &mut S,
     path: &str,
     file: &str,
@@ -136,7 +137,13 @@ fn on_listing_alone<S: Sinks, W: Write>(
         × Writes (W.contents out.old) (W.contents out.new) s o) }
 {
     match spared(sinks, file, path, None) {
-        Ok(()) => written(out, listing.output.bytes.as_slice(), listing.output.status),
+        Ok(()) => {
+            // (no event is written)
+            let mut trace: Vec<u8> = Vec::new(alloc);
+            let mut failure = None;
+            let status = write_listing(listing, &mut trace, out, &mut failure)?;
+            Ok(status)
+        }
         Err(error) => file_failed(error, out, notes),
     }
 }
@@ -186,7 +193,7 @@ fn on_listing<S: Sinks, W: Write>(
         × Writes (W.contents out.old) (W.contents out.new) s o) }
 {
     if listing.trace.is_empty() {
-        on_listing_alone(sinks, path, file, listing, out, notes)
+        on_listing_alone(alloc, sinks, path, file, listing, out, notes)
     } else {
         on_listing_and_trace(alloc, sinks, path, file, listing, out, notes)
     }
