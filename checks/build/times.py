@@ -19,7 +19,7 @@ from checks import kit
 from checks.programs import ROOT
 
 TICK = os.sysconf("SC_CLK_TCK")
-OF_A_CRATE = 4 << 30  # the bytes that are kept free for the proof of a crate; the largest one takes some 3 GB
+OF_A_CRATE = 4 << 30  # the bytes that are free for each proof of a crate; the largest takes 4.3 GB, most take less than 2.5
 KINDS = ["proofs", "tests", "edits"]
 
 
