@@ -3,8 +3,9 @@ use Rattle.std.proofs.Common.{◌≡◌, ℕ, ◌<◌, ◌⊎◌, inl, inr, List
 use Rattle.std.proofs.Common.{false, cond, ◌||◌, Option, Some, None, Ok, find, refl, sym, ap}
 use Rattle.std.proofs.Common.{◌∙◌}
 use Rattle.std.specs.List.{list_any}
-use Rattle.std.proofs.lemmas.Bool.{leb-false, not-false, or_parts}
-use Rattle.std.proofs.lemmas.Slice.Eq.{bytes_eq-Decides}
+use Rattle.std.proofs.lemmas.Bool.{leb-false, or_parts}
+use Rattle.sts_types.proofs.AmongLemmas.{none_passes}
+use Rattle.sts_types.proofs.PromisingLemmas.{not_other}
 use Rattle.sts_code.specs.Program.{Program, routine}
 use Rattle.sts_code.specs.declared.instr.Instr.{Instr}
 use Rattle.sts_rules.specs.declared.typing.Cause.{Cause}
@@ -39,14 +40,6 @@ none_holds t [] c e h = absurd h
 none_holds t (x ∷ xs) c e (inl same) = ap t (sym same) ∙ (not_found t x xs e).0
 none_holds t (x ∷ xs) c e (inr h) = none_holds t xs c (not_found t x xs e).1 h
 
-none_passes : (t : ℕ → Bool) (xs : List ℕ) (x : ℕ) → list_any t xs ≡ false → Among xs x → t x ≡ false
-none_passes t [] x e a = absurd a
-none_passes t (y ∷ ys) x e (inl same) = ap t (sym same) ∙ (or_parts (t y) (list_any t ys) e).0
-none_passes t (y ∷ ys) x e (inr a) = none_passes t ys x (or_parts (t y) (list_any t ys) e).1 a
-
-same_loops : (code : List Instr) (hs : List ℕ) (to : ℕ) → is_other_loop code hs to ≡ false → around code to ≡ hs
-same_loops code hs to e = (bytes_eq-Decides (around code to) hs).0 (not-false _ e)
-
 pub record Allowed (p : Program) (f pc : ℕ) (i : Instr) (s : TypeState) (out : List (ℕ × TypeState)) : Type 0 where
   pub is : out ≡ follows p (routine p f).code pc i s
   pub inside : (to : ℕ) → Among (targets i ++ next_place pc i ++ skipped_to (routine p f).code pc i) to → to < length (routine p f).code
@@ -80,8 +73,8 @@ allowed p f pc i s out e =
       inside = λ to a. leb-false (length code) to (none_passes _ (targets i ++ next_place pc i ++ skipped_to code pc i) to c3 a);
       later = λ to a. leb-false to pc (none_passes _ (targets i) to c4 a);
       matched = m'.0;
-      around_named = λ to a. same_loops code (heads s.loops) to (none_passes _ (targets i ++ skipped_to code pc i) to m'.1 a);
-      around_next = λ to a. same_loops code (open_after pc i (heads s.loops)) to (none_passes _ (next_place pc i) to m.1 a);
+      around_named = λ to a. not_other code (heads s.loops) to (none_passes _ (targets i ++ skipped_to code pc i) to m'.1 a);
+      around_next = λ to a. not_other code (open_after pc i (heads s.loops)) to (none_passes _ (next_place pc i) to m.1 a);
       ordered = c13;
       nested = c14;
       legal = c12;

@@ -1,12 +1,14 @@
 -- The place in a well-typed function gives the names of the open entries, and a loop closes nothing
 -- that was opened before it.
 use Rattle.std.proofs.Common.{◌≡◌, ℕ, suc, ◌+◌, ◌<◌, ◌≤◌, ◌⊎◌, inl, inr, List, [], ◌∷◌, ◌++◌}
-use Rattle.std.proofs.Common.{length, drop, map, Bool, true, false, cond, not, ◌&&◌, ◌||◌, ◌==◌}
+use Rattle.std.proofs.Common.{length, drop, map, Bool, true, false, cond, not, ◌||◌, ◌==◌}
 use Rattle.std.proofs.Common.{Option, Some, None, refl, sym, ap, ◌∙◌, subst, arith, option_map}
 use Rattle.std.proofs.Common.{option_to_list, slice_get, nat_le}
 use Rattle.std.specs.List.{list_any}
 use Rattle.std.proofs.lemmas.Bool.{cases_lt, leb-false, eqb-true, not-false, or_parts}
 use Rattle.std.proofs.lemmas.List.{length-map}
+use Rattle.sts_types.proofs.RoomLemmas.{is_owned}
+use Rattle.laws_words.proofs.BoolLemmas.{other_false}
 use Rattle.sts_code.specs.Program.{Program, routine, instr_at}
 use Rattle.sts_code.specs.declared.instr.Instr.{Instr}
 use Rattle.sts_code.specs.declared.instr.Instr.TheVariants.{Times}
@@ -15,7 +17,6 @@ use Rattle.sts_code.specs.declared.instr.Instr.TheVariants.{Unbind}
 use Rattle.sts_rules.specs.declared.typing.TypedLoop.{TypedLoop}
 use Rattle.sts_rules.specs.declared.typing.TypedEntry.{TypedEntry}
 use Rattle.sts_rules.specs.declared.typing.TypedEntry.TheVariants.{Scope, Binding}
-use Rattle.sts_rules.specs.declared.typing.SlotKind.{SlotKind}
 use Rattle.sts_rules.specs.declared.typing.SlotKind.TheVariants as slot
 use Rattle.sts_rules.specs.Flow.{Leads, Reaches, first, then}
 use Rattle.sts_rules.specs.TypeState.{TypeState, heads, kind, scope_in}
@@ -40,16 +41,6 @@ use Rattle.sts_budget.specs.TypedNames.{names}
 
 -- ---- one instruction
 
--- a slot kind that isn't lent is own, if it is one of these two
-own_of : (k : SlotKind) → not (is_own k || is_lent k) ≡ false → is_lent k ≡ false → is_own k ≡ true
-own_of slot.Own a b = refl
-own_of _ a b = absurd (cc)
-
--- the slot holds the task's own scope, and the test of that scope fails
-own_passes : (a b : Bool) → a ≡ true → a && b ≡ false → b ≡ false
-own_passes true b e h = h
-own_passes false b e h = absurd (cc)
-
 some_entry : (t : TypedEntry → Bool) (es : List TypedEntry) → innermost t es ≡ true → 0 < length (names es)
 some_entry t [] e = absurd (cc)
 some_entry t (x ∷ es) e = omega (arith, length-map es name)
@@ -69,11 +60,11 @@ has_scope (Scope r ∷ es) x e = by (r.slot == x) refl (has_scope es x)
 
 -- the close of a scope of the task's own
 own_slot : (s : TypeState) (x : ℕ) → not (is_own (kind s x) || is_lent (kind s x)) || false ≡ false → is_lent (kind s x) ≡ false → is_own (kind s x) ≡ true
-own_slot s x a b = own_of (kind s x) (or_parts (not (is_own (kind s x) || is_lent (kind s x))) false a).0 b
+own_slot s x a b = is_owned (kind s x) (or_parts (not (is_own (kind s x) || is_lent (kind s x))) false a).0 b
 
 closes : (s : TypeState) (x : ℕ) → not (is_own (kind s x) || is_lent (kind s x)) || false ≡ false → is_lent (kind s x) ≡ false → breaks_structure (Close x) s ≡ false → (innermost (is_scope_in x) s.entries ≡ true) × (is_held s ≡ false)
 closes s x a b e =
-    let h = own_passes (is_own (kind s x)) (not (innermost (is_scope_in x) s.entries) || is_held s) (own_slot s x a b) e in
+    let h = other_false (is_own (kind s x)) (not (innermost (is_scope_in x) s.entries) || is_held s) e (own_slot s x a b) in
     let n = or_parts (not (innermost (is_scope_in x) s.entries)) (is_held s) h in
     (not-false _ n.0, n.1)
 
@@ -82,7 +73,7 @@ unbinds s e = let n = or_parts (not (innermost is_binding s.entries)) (is_held s
 
 -- if no cause holds, the names fit the instruction
 fits_names : (p : Program) (i : Instr) (s : TypeState) → breaks_structure i s ≡ false → is_illegal p.profile i s ≡ false → has_wrong_slot i s ≡ false → is_strangers i s ≡ false → FitsNames i (names s.entries)
-fits_names p (Fork x g h) s ordered legal right own = has_scope s.entries x (not-false _ (own_passes (is_own (kind s x)) (not (passes is_opened (scope_in s.entries x))) (own_slot s x right own) legal))
+fits_names p (Fork x g h) s ordered legal right own = has_scope s.entries x (not-false _ (other_false (is_own (kind s x)) (not (passes is_opened (scope_in s.entries x))) legal (own_slot s x right own)))
 fits_names p (Close x) s ordered legal right own = some_entry (is_scope_in x) s.entries (closes s x right own ordered).0
 fits_names p Unbind s ordered legal right own = some_entry is_binding s.entries (unbinds s ordered).0
 fits_names p _ s ordered legal right own = tt

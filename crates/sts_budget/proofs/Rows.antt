@@ -4,10 +4,11 @@ use Rattle.std.proofs.Common.{set, get_or, refl, sym, ap, ◌∙◌, subst, arit
 use Rattle.std.proofs.Common.{get_or-set_same, get_or-set_other, length-set}
 use Rattle.std.proofs.Math.Seq.{take-suc}
 use Rattle.std.proofs.lemmas.Bool.{cases_eq}
+use Rattle.sts_types.proofs.AmongLemmas.{among_left, among_right}
 use Rattle.sts_rules.specs.ControlPaths.{Among}
 use Rattle.sts_budget.specs.Row.{IsRaised, IsOver}
 use Rattle.sts_budget.specs.Table.{read, IsRaisedAt, IsSent, IsStopped}
-use Rattle.sts_budget.proofs.Sorts.{among_of, among_left, among_right}
+use Rattle.sts_budget.proofs.Sorts.{among_of}
 use Rattle.sts_budget.proofs.Forward.{among_cases}
 use Rattle.sts_budget.proofs.Sorts.{among_at}
 

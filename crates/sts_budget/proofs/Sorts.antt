@@ -3,6 +3,7 @@
 use Rattle.std.proofs.Common.{◌≡◌, ℕ, ◌+◌, ◌-◌, ◌⊎◌, inl, inr, List, [], ◌∷◌, ◌++◌, drop, map, true}
 use Rattle.std.proofs.Common.{false, cond, ◌==◌, Option, Some, None, refl, sym, ap, ◌∙◌, subst}
 use Rattle.std.proofs.Common.{slice_set, zero, suc, ◌<◌, length, get_or, arith}
+use Rattle.sts_types.proofs.AmongLemmas.{among_left}
 use Rattle.sts_code.specs.Program.{Program}
 use Rattle.sts_code.specs.declared.instr.Instr.{Instr}
 use Rattle.sts_code.specs.declared.instr.Instr.TheVariants.{Push, Pop, Dup, Swap, Load, Store, Add}
@@ -77,15 +78,6 @@ pub among_of : (xs ys : List ℕ) (to : ℕ) → Among (xs ++ ys) to → Among x
 among_of [] ys to a = inr a
 among_of (x ∷ xs) ys to (inl e) = inl (inl e)
 among_of (x ∷ xs) ys to (inr a) = elim (among_of xs ys to a) [ inl b ↦ inl (inr b) | inr b ↦ inr b ]
-
-pub among_left : (xs ys : List ℕ) (to : ℕ) → Among xs to → Among (xs ++ ys) to
-among_left [] ys to a = absurd a
-among_left (x ∷ xs) ys to (inl e) = inl e
-among_left (x ∷ xs) ys to (inr a) = inr (among_left xs ys to a)
-
-pub among_right : (xs ys : List ℕ) (to : ℕ) → Among ys to → Among (xs ++ ys) to
-among_right [] ys to a = a
-among_right (x ∷ xs) ys to a = inr (among_right xs ys to a)
 
 pub among_at : (xs : List ℕ) (i d : ℕ) → i < length xs → Among xs (get_or xs i d)
 among_at [] i d lt = absurd (omega arith)

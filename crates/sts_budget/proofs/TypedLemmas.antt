@@ -8,6 +8,8 @@ use Rattle.std.specs.List.{filter, range_with_len}
 use Rattle.std.proofs.lemmas.Bool.{and_parts, cases_eq, cases_lt, leb-true, le-leb, eqb-true}
 use Rattle.std.proofs.lemmas.List.{get_or_past, reverse-append}
 use Rattle.std.proofs.lemmas.Bool.{not-false}
+use Rattle.sts_types.proofs.AmongLemmas.{among_left, among_right}
+use Rattle.sts_types.proofs.PromisingLemmas.{heads_dropped}
 use Rattle.sts_code.specs.Program.{Program, routine, instr_at}
 use Rattle.sts_code.specs.declared.instr.Instr.{Instr}
 use Rattle.sts_code.specs.declared.instr.Instr.TheVariants.{Times, Next, Ret}
@@ -25,8 +27,7 @@ use Rattle.sts_rules.specs.declared.budget.Budgets.{Budgets}
 use Rattle.sts_rules.specs.Budget.{skeleton, shape_of}
 use Rattle.sts_budget.specs.Layout.{names_after}
 use Rattle.sts_budget.proofs.Sorts.{Sort, is_times as times_sort, is_next as next_sort}
-use Rattle.sts_budget.proofs.Sorts.{is_end as end_sort, goes_on, GoesOn, sort, among_of, among_left}
-use Rattle.sts_budget.proofs.Sorts.{among_right}
+use Rattle.sts_budget.proofs.Sorts.{is_end as end_sort, goes_on, GoesOn, sort, among_of}
 use Rattle.sts_budget.proofs.Allowed.{Allowed, allowed}
 use Rattle.sts_budget.proofs.Match.{match_is_next, times_is}
 use Rattle.sts_budget.specs.Structured.{IsStructured}
@@ -67,10 +68,6 @@ among_next pc i to a = by (falls_through i) a
     by true (inl e) = sym e
     by true (inr out_of) = absurd out_of
     by false out_of = absurd out_of
-
-heads_dropped : (ls : List TypedLoop) → heads (drop 1 ls) ≡ drop 1 (heads ls)
-heads_dropped [] = refl
-heads_dropped (l ∷ ls) = refl
 
 -- ---- loops round a place
 

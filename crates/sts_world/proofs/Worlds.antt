@@ -1,13 +1,13 @@
 -- The counters after each change of the tasks and scopes.
 use Rattle.std.proofs.Common.{◌≡◌, pos, subst, count_by, take, ℕ, zero, suc, ◌+◌, ◌-◌, ◌<◌, ◌≤◌}
 use Rattle.std.proofs.Common.{nat_lt, List, [], ◌∷◌, ◌++◌, length, map, Bool, true, false, cond}
-use Rattle.std.proofs.Common.{not, Option, Some, None, inl, inr, ◌⊎◌, ◌&&◌, refl, ap, sym, ◌∙◌}
+use Rattle.std.proofs.Common.{not, Option, Some, None, inl, inr, ◌⊎◌, refl, ap, sym, ◌∙◌}
 use Rattle.std.proofs.Common.{arith, get_or, set}
 use Rattle.std.proofs.Math.Seq.{map-set_same, take-append_seam}
 use Rattle.std.proofs.lemmas.List.{map-set, map-append, get_or-map, get_or_past, get_or-set_same}
 use Rattle.std.proofs.lemmas.List.{length-map, length-append}
 use Rattle.std.proofs.lemmas.Bool.{cases_lt}
-use Rattle.std.proofs.Math.Bool.{and-false}
+use Rattle.std.proofs.Math.Bool.{and-false, and-true}
 use Rattle.sts_code.specs.Program.{Program}
 use Rattle.sts_code.specs.declared.limits.TheConstants.{MAX_STANDING}
 use Rattle.sts_code.specs.declared.instr.Joiner.{Joiner}
@@ -83,15 +83,11 @@ born_open w s e = by_bound (cases_lt s (length w.scopes))
     by_bound (inl h) = h
     by_bound (inr h) = let shut : true ≡ false = ap is_shut (sym (get_or_past w.scopes s no_scope h)) ∙ e in cc
 
-and_true : (b : Bool) → b && true ≡ b
-and_true true = refl
-and_true false = refl
-
 pub kept_child : (p : Program) (w v : World) (fs : List Family) (ts : List Tallied) (n m t : ℕ) (f : Frame) (s g : ℕ) (h : Option ℕ) → v ≡ fork_task p w t f s g h → s < length w.scopes → is_shut (scope_at w s) ≡ false → n < MAX_STANDING → IsKept (lines w) fs ts n m → IsKept (lines v) (set fs s (with_child (get_or fs s no_family) (length w.tasks) (not (scope_at w s).cancelled))) ts (n + 1) m
 unfolding fork_task
 kept_child p w v fs ts n m t f s g h e bound open_now room k =
     let born : World = record w { tasks = w.tasks ++ subtask_of p w f s g ∷ [] } in
-    let alive : lives (subtask_of p w f s g) ≡ not (scope_at w s).cancelled = and_true (not (scope_at w s).cancelled) in
+    let alive : lives (subtask_of p w f s g) ≡ not (scope_at w s).cancelled = and-true (not (scope_at w s).cancelled) in
     let one_more : lines born ≡ record (lines w) { tasks = map line w.tasks ++ record { scope = Some s; lives = not (scope_at w s).cancelled } ∷ [] } = rw (map-append, alive) refl in
     let after : lines v ≡ record (lines w) { tasks = map line w.tasks ++ record { scope = Some s; lives = not (scope_at w s).cancelled } ∷ [] } = ap lines e ∙ same_task born t _ refl ∙ one_more in
     let as_many : length (map line w.tasks) ≡ length w.tasks = length-map w.tasks line in
