@@ -7,7 +7,7 @@ use Rattle.std.proofs.lemmas.List.Sums.{sum_by-append}
 use Rattle.std.proofs.lemmas.List.Folds.{sum_by-replicate}
 use Rattle.std.proofs.lemmas.Option.{slice_get-get_or}
 use Rattle.laws_words.proofs.ListLemmas.{drop_past}
-use Rattle.sts_repeats.specs.Spread.{spread}
+use Rattle.sts_repeats.specs.Spread.{spread, changed}
 use Rattle.sts_repeats.specs.declared.runs.Run.{Run}
 
 -- the values of one run
@@ -102,20 +102,13 @@ set_in runs at i before run x e few sum =
     ∙ ap (λ l. front ++ (l ++ back)) (set_same run.more before run.value x few)
 
 -- the runs after such a change
-pub with_in : {X : Type 0} (runs : List (Run X)) (at i before : ℕ) (run : Run X) (x u w : X) (a b c d : List X) → slice_get runs i ≡ Some run → before ≤ run.more → length (spread (take i runs)) + before ≡ at → u ≡ run.value → w ≡ run.value → a ≡ spread (take i runs) ++ replicate before u → b ≡ a ++ x ∷ [] → c ≡ b ++ replicate (run.more - before) w → d ≡ c ++ spread (drop (i + 1) runs) → d ≡ set (spread runs) at x
-with_in runs at i before run x u w a b c d e few sum p q f g h k =
-    let v = run.value in
-    let front = spread (take i runs) in
-    let back = spread (drop (suc i) runs) in
-    let y = replicate before v in
-    let z = replicate (run.more - before) v in
+pub with_in : {X : Type 0} (runs : List (Run X)) (at i before : ℕ) (run : Run X) (x : X) (a b c : List X) → slice_get runs i ≡ Some run → before ≤ run.more → length (spread (take i runs)) + before ≡ at → a ≡ spread (take i runs) → b ≡ a ++ changed run before x → c ≡ b ++ spread (drop (i + 1) runs) → c ≡ set (spread runs) at x
+with_in runs at i before run x a b c e few sum f g h =
     let next : i + 1 ≡ suc i = omega arith in
-    let f2 : a ≡ front ++ y = f ∙ ap (λ o. front ++ replicate before o) p in
-    let h2 : c ≡ b ++ z = h ∙ ap (λ o. b ++ replicate (run.more - before) o) q in
-    k ∙ ap (λ n. c ++ spread (drop n runs)) next
-    ∙ ap (λ l. l ++ back) (h2 ∙ ap (λ l. l ++ z) (g ∙ ap (λ l. l ++ x ∷ []) f2))
-    ∙ ap (λ l. l ++ back) (append_assoc (front ++ y) (x ∷ []) z ∙ append_assoc front y (x ∷ z))
-    ∙ append_assoc front (y ++ x ∷ z) back
+    let back = spread (drop (suc i) runs) in
+    h ∙ ap (λ n. b ++ spread (drop n runs)) next
+    ∙ ap (λ l. l ++ back) (g ∙ ap (λ l. l ++ changed run before x) f)
+    ∙ append_assoc (spread (take i runs)) (changed run before x) back
     ∙ sym (set_in runs at i before run x e few sum)
 
 -- ---- the last run made longer

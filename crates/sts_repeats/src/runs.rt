@@ -3,7 +3,7 @@
 ghost use Rattle.std.specs.Prelude.{◌≡◌, ◌<◌, ◌≤◌, ◌+◌, ◌-◌, ◌^◌, [], ◌∷◌, ◌++◌, length, replicate};
 ghost use Rattle.std.specs.Prelude.{slice_set, count_by, cond, Bool, IfSome, IfOk, OnOk};
 ghost use Rattle.std.specs.Fn.{FnReturnsAt};
-ghost use Rattle.sts_repeats.specs.Spread.{spread, IsAt};
+ghost use Rattle.sts_repeats.specs.Spread.{spread, changed, IsAt};
 
 use std::alloc::{AllocError, Global};
 use sts_same::copied::{Copied, copy_all};
@@ -165,6 +165,23 @@ pub fn pushed<T: Same + Copied>(
     Ok(after)
 }
 
+/// Appends a run's values with another one at an index.
+fn push_with<T: Same + Copied>(
+    alloc: Global,
+    after: &mut Vec<Run<T>>,
+    run: &Run<T>,
+    before: usize,
+    value: T,
+) -> Result<(), AllocError>
+    requires { before ≤ run.now.more }
+    ensures { OnOk result (spread after.new.items
+        ≡ spread after.old.items ++ changed run.now before value) }
+{
+    push_equal(after, run.value.copied(alloc)?, before)?;
+    push_run(after, value, 0)?;
+    push_equal(after, run.value.copied(alloc)?, run.more - before)
+}
+
 /// The runs with another value at an index.
 pub fn with<T: Same + Copied>(
     alloc: Global,
@@ -176,11 +193,8 @@ pub fn with<T: Same + Copied>(
     ensures { IfOk result (λ after. spread after.items ≡ slice_set (spread runs.now) at value) }
 {
     let (i, before) = place_of(runs, at);
-    let run = &runs[i];
     let mut after = copy_all(alloc, &runs[..i])?;
-    push_equal(&mut after, run.value.copied(alloc)?, before)?;
-    push_run(&mut after, value, 0)?;
-    push_equal(&mut after, run.value.copied(alloc)?, run.more - before)?;
+    push_with(alloc, &mut after, &runs[i], before, value)?;
     push_runs(alloc, &mut after, &runs[i + 1..])?;
     Ok(after)
 }
