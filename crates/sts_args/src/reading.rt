@@ -1,8 +1,8 @@
 //! Reads a command line.
 
 ghost use Rattle.std.specs.Prelude.{◌≡◌, ◌↔◌, ◌≤◌, ◌&&◌, Ok, IfOk, IfErr, map, option_map};
-ghost use Rattle.std.specs.Prelude.{is_some, Some, codes, Bool, false, length, ◌∷◌, [], IfSome};
-ghost use Rattle.clap.specs.Words.{first_of, rows_of, found_of, kind_of, subcommand_rows_of};
+ghost use Rattle.std.specs.Prelude.{None, List, is_some, Some, codes, Bool, false, length, ◌∷◌, [], IfSome};
+ghost use Rattle.clap.specs.Words.{Row, first_of, rows_of, found_of, kind_of, subcommand_rows_of};
 ghost use Rattle.sts_args.specs.declared.asked.Line.TheVariants.{Joined};
 ghost use Rattle.sts_args.specs.Asked.{Asks, HasWorkers, IsGiven, IsLineOf, asked, given, options};
 ghost use Rattle.sts_args.specs.Asked.{options_at, takes_trace, workers_at, workers_written};
@@ -128,6 +128,23 @@ fn asked_of<'a>(
     }
 }
 
+/// `plain` or `replay` of a text and a trace, if that is the name of the command.
+fn with_trace<'a>(name: &'a str, file: &'a str, trace: &'a str) -> Option<asked::Line<'a>>
+    ensures given { IfSome result (λ l. (rows : List Row)
+        → first_of (codes "FILE") rows ≡ Some file.now
+        → first_of (codes "TRACE") rows ≡ Some trace.now → IsGiven (name.now, rows) l) }
+    ensures workers { IfSome result HasWorkers }
+    ensures lacks { result ≡ None → takes_trace name.now ≡ false }
+{
+    if name == "plain" {
+        Some(asked::Line::Plain { file, trace })
+    } else if name == "replay" {
+        Some(asked::Line::Replay { file, trace })
+    } else {
+        None
+    }
+}
+
 /// `plain` or `replay` of a text, with the trace that it was given.
 fn replay_of<'a>(
     alloc: Global,
@@ -141,13 +158,12 @@ fn replay_of<'a>(
     ensures lacks { IfErr result (BlamesUnless (takes_trace name.now
         && is_some (first_of (codes "TRACE") (rows_of (found_of inner.now))))) }
 {
-    let trace = trace_of(alloc, inner)?;
-    if name == "plain" {
-        Ok(asked::Line::Plain { file, trace })
-    } else if name == "replay" {
-        Ok(asked::Line::Replay { file, trace })
-    } else {
-        Err(unknown(alloc))
+    let Some(trace) = text_of(inner, "TRACE") else {
+        return Err(unknown(alloc));
+    };
+    match with_trace(name, file, trace) {
+        Some(line) => Ok(line),
+        None => Err(unknown(alloc)),
     }
 }
 
