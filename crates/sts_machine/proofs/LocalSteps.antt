@@ -3,6 +3,7 @@
 use Rattle.std.proofs.Common.{◌≡◌, ℕ, zero, suc, ◌+◌, ◌<◌, ◌≤◌, List, [], ◌∷◌, ◌++◌, Bool, true, false, Option, Some, None, refl, sym, ◌∙◌, ap, subst, length, arith, get_or, set, cond, slice_get, append_assoc, append-nil, get_or-set_same}
 use Rattle.std.specs.Prelude.{option_map, unwrap_or, is_some}
 use Rattle.std.proofs.lemmas.List.{set-set, set-get_or}
+use Rattle.laws_words.proofs.ListLemmas.{read_within}
 use Rattle.sts_code.specs.Program.{Program, routine}
 use Rattle.sts_code.specs.declared.instr.Instr.{Instr}
 use Rattle.sts_code.specs.declared.instr.Instr.TheVariants.{Join, Close}
@@ -69,11 +70,6 @@ here v t e = by (get_or v.tasks t None) refl e
     by None at e = absurd (cc)
     by (Some x) at e = so x at x.alive refl e
 
-inside : {X : Type 0} (xs : List (Option X)) (i : ℕ) (x : X) → get_or xs i None ≡ Some x → i < length xs
-inside [] i x e = absurd (cc)
-inside (o ∷ xs) zero x e = omega arith
-inside (o ∷ xs) (suc i) x e = let h = inside xs i x e in omega (arith, h)
-
 -- the task at another frame
 abbrev framed : LiveTask → Alive → Frame → LiveTask
 framed x a f = record x { alive = Some (record a { frame = f }) }
@@ -88,7 +84,7 @@ written v t f h =
 there : (v : Live) (t : ℕ) (f : Frame) (h : Here v t) → get_or (with_live_frame v t f).tasks t None ≡ Some (framed h.task h.alive f)
 there v t f h =
     ap (λ (w : Live). get_or w.tasks t None) (written v t f h)
-    ∙ get_or-set_same v.tasks t (Some (framed h.task h.alive f)) None (inside v.tasks t h.task h.at)
+    ∙ get_or-set_same v.tasks t (Some (framed h.task h.alive f)) None (read_within v.tasks t h.task h.at)
 
 pub lives-framed : (v : Live) (t : ℕ) (f : Frame) → lives_in v t ≡ true → lives_in (with_live_frame v t f) t ≡ true
 lives-framed v t f e = ap (λ o. is_some (unwrap_or o no_live_task).alive) (there v t f (here v t e))

@@ -7,7 +7,6 @@ use Rattle.sts_env.specs.Environments.{Records, IsWhole, keys_of, list_of, NotIn
 use Rattle.sts_env.specs.declared.env.Env.{Env}
 use Rattle.sts_env.specs.Sharing.{IsUnshared}
 use Rattle.sts_env.proofs.UnsharedLemmas.{front_is_unshared}
-use Rattle.sts_tree.specs.declared.record.ScopeNode.{ScopeNode}
 use Rattle.sts_tree.proofs.HoldingLemmas.{map_at}
 use Rattle.sts_model.specs.Misuse.{is_binding, innermost}
 use Rattle.sts_model.specs.Local.{operand, steps}
@@ -24,7 +23,7 @@ use Rattle.sts_store.proofs.Views.{with_running, Elsewhere}
 use Rattle.sts_store.proofs.Keeping.{kept_running}
 use Rattle.sts_store.proofs.Shared.{bind_shares, unbind_shares, instead}
 use Rattle.sts_store.proofs.Unsharing.{sharing_of, unshared, no_holder, no_keeper}
-use Rattle.sts_store.proofs.Housed.{housed}
+use Rattle.sts_store.proofs.Housed.{housed, kept_of}
 use Rattle.sts_store.proofs.Environments.{some_bound}
 
 -- ---- the structure list
@@ -84,9 +83,6 @@ module _ (m : Parts) (is : IsStore m) (t : ℕ) (r q : Running) (d : Records) (a
   held_of : (u : ℕ) (l : Running) → get_or m.frames.slots u None ≡ Some l → get_or (holders m) u None ≡ Some (holder_of l)
   held_of u l e = map_at holder_of m.frames.slots u ∙ ap (option_map holder_of) e
 
-  kept_of : (s : ℕ) (k : ScopeNode Env) → get_or m.tree.scopes s None ≡ Some k → get_or (keepers m) s None ≡ Some (keeper_of k)
-  kept_of s k e = map_at keeper_of m.tree.scopes s ∙ ap (option_map keeper_of) e
-
   pub whole_here : IsWhole m.chains r.env
   whole_here = is.shared.shares.whole t (holder_of r) held
 
@@ -96,7 +92,7 @@ module _ (m : Parts) (is : IsStore m) (t : ℕ) (r q : Running) (d : Records) (a
   bound_elsewhere others =
       record {
         tasks = λ u l ne e. (others l.env (is.shared.shares.whole u (holder_of l) (held_of u l e))).list;
-        scopes = λ s k e. (others k.environment (is.shared.shares.kept s (keeper_of k) (kept_of s k e))).list;
+        scopes = λ s k e. (others k.environment (is.shared.shares.kept s (keeper_of k) (kept_of m s k e))).list;
       }
 
   pub bound_store : (key : ℕ) (value : ℤ) → IsWhole d q.env → PutsRecord m.chains d r.env q.env → ((other : Env) → IsWhole m.chains other → Stays m.chains d other) → q.frame.entries ≡ entry.Binding key value ∷ r.frame.entries → IsStore (with_running m t q d)
@@ -181,7 +177,7 @@ module _ (m : Parts) (is : IsStore m) (t : ℕ) (r q : Running) (d : Records) (a
     unbound_elsewhere =
         record {
           tasks = λ v l ne e. (tasks_stay v (holder_of l) ne (held_of v l e)).list;
-          scopes = λ s k e. (scopes_stay s (keeper_of k) (kept_of s k e)).list;
+          scopes = λ s k e. (scopes_stay s (keeper_of k) (kept_of m s k e)).list;
         }
 
     pub unbound_store : IsStore (with_running m t q d)

@@ -2,7 +2,7 @@
 use Rattle.std.proofs.Common.{◌≡◌, ℕ, List, [], ◌∷◌, None, refl, sym, ◌∙◌, ap, get_or, cond}
 use Rattle.sts_model.specs.Living.{is_in}
 use Rattle.sts_model.specs.declared.record.Slot.{Slot}
-use Rattle.sts_model.specs.declared.record.Slot.TheVariants.{Empty, Own, Lent, Sub}
+use Rattle.sts_model.specs.declared.record.Slot.TheVariants.{Empty, Sub}
 use Rattle.laws_live.specs.Effect.{is_live_of, live_cleared}
 use Rattle.laws_live.specs.Reading.{live_task_at}
 use Rattle.sts_store.specs.Closing.{home_in, is_slot_of, slots_cleared}

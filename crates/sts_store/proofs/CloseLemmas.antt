@@ -12,12 +12,12 @@ use Rattle.sts_model.specs.declared.event.Phase.TheVariants.{Closing}
 use Rattle.sts_model.specs.declared.record.Entry.{Entry}
 use Rattle.sts_model.specs.declared.record.Frame.{Frame}
 use Rattle.sts_model.specs.declared.record.Slot.{Slot}
-use Rattle.sts_model.specs.declared.record.Slot.TheVariants.{Empty, Own, Lent, Sub}
+use Rattle.sts_model.specs.declared.record.Slot.TheVariants.{Empty, Sub}
 use Rattle.laws_live.specs.Cancelling.{live_raise, live_marked, live_cancel}
 use Rattle.laws_live.specs.Effect.{is_live_of, live_cleared, live_gone, live_closed, live_close, without}
 use Rattle.laws_live.specs.Reading.{live_scope_at, live_task_at, live_any_lives, is_live_living, lives_in, alive_at, no_live_task, scope_in, with_live_frame, with_live_phase}
 use Rattle.laws_live.specs.Order.{InOrder, IsOwned}
-use Rattle.sts_store.proofs.Flags.{set_again}
+use Rattle.laws_words.proofs.ListLemmas.{set_again}
 
 -- ---- tasks with their flags set
 

@@ -1,6 +1,7 @@
 -- The flag of a living task is set or cleared, and its frame may be written after that.
-use Rattle.std.proofs.Common.{◌≡◌, ℕ, zero, suc, List, [], ◌∷◌, Bool, Some, None, refl, sym, ◌∙◌, ap, get_or, set}
+use Rattle.std.proofs.Common.{◌≡◌, ℕ, Bool, Some, None, refl, sym, ◌∙◌, ap, get_or, set}
 use Rattle.std.specs.Prelude.{option_map}
+use Rattle.laws_words.proofs.ListLemmas.{put_there, set_again}
 use Rattle.sts_env.specs.declared.env.Env.{Env}
 use Rattle.sts_tree.specs.Forest.{Forest}
 use Rattle.sts_model.specs.Live.{Live, LiveTask, Alive}
@@ -13,19 +14,13 @@ use Rattle.sts_store.specs.Parts.{Parts, live_of, beside, unseen_of}
 use Rattle.sts_store.specs.Stored.{IsStore}
 use Rattle.sts_store.proofs.Views.{Lived, changed, alive_of, with_running, frame_seen}
 use Rattle.sts_store.proofs.Keeping.{kept_task, live_seen, store_seen, rest_seen, same_stand}
-use Rattle.sts_store.proofs.Shared.{here}
-
-pub set_again : {T : Type 0} (xs : List T) (k : ℕ) (x y : T) → set (set xs k x) k y ≡ set xs k y
-set_again [] k x y = refl
-set_again (z ∷ xs) zero x y = refl
-set_again (z ∷ xs) (suc k) x y = ap (λ l. z ∷ l) (set_again xs k x y)
 
 -- two changes of one living task are one
 pub twice : (v : Live) (t : ℕ) (task : LiveTask) (first then both : Alive → Alive) → task_in v t ≡ Some task → changed then (changed first task) ≡ changed both task → with_alive (with_alive v t first) t then ≡ with_alive v t both
 twice v t task first then both at same =
     let once : set v.tasks t (option_map (changed first) (get_or v.tasks t None)) ≡ set v.tasks t (Some (changed first task)) = ap (λ o. set v.tasks t (option_map (changed first) o)) at in
     ap (λ l. record v { tasks = set l t (option_map (changed then) (get_or l t None)) }) once
-    ∙ ap (λ o. record v { tasks = set (set v.tasks t (Some (changed first task))) t (option_map (changed then) o) }) (here v.tasks t task (changed first task) at)
+    ∙ ap (λ o. record v { tasks = set (set v.tasks t (Some (changed first task))) t (option_map (changed then) o) }) (put_there v.tasks t task (changed first task) at)
     ∙ ap (λ l. record v { tasks = l }) (set_again v.tasks t (Some (changed first task)) (Some (changed then (changed first task))))
     ∙ ap (λ x. record v { tasks = set v.tasks t (Some x) }) same
     ∙ sym (ap (λ o. record v { tasks = set v.tasks t (option_map (changed both) o) }) at)

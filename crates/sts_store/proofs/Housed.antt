@@ -2,6 +2,7 @@
 use Rattle.std.proofs.Common.{◌≡◌, ℕ, ◌<◌, true, false, Option, Some, None, refl, sym, ◌∙◌, ap, subst, get_or}
 use Rattle.std.specs.Prelude.{option_map, is_some}
 use Rattle.std.proofs.lemmas.Option.{same_Some}
+use Rattle.laws_words.proofs.OptionLemmas.{some_mapped}
 use Rattle.sts_env.specs.declared.env.Env.{Env}
 use Rattle.sts_tree.specs.declared.record.TaskNode.{TaskNode}
 use Rattle.sts_tree.specs.declared.record.ScopeNode.{ScopeNode}
@@ -18,12 +19,8 @@ use Rattle.sts_store.proofs.Views.{lives_is}
 use Rattle.sts_store.proofs.Seeing.{home_is, scope_of}
 use Rattle.sts_store.proofs.Unsharing.{AreHoused}
 
-some_seen : {A B : Type 0} (f : A → B) (o : Option A) → is_some (option_map f o) ≡ is_some o
-some_seen f None = refl
-some_seen f (Some x) = refl
-
 -- the part that is kept of an open scope
-kept_of : (m : Parts) (s : ℕ) (x : ScopeNode Env) → get_or m.tree.scopes s None ≡ Some x → get_or (keepers m) s None ≡ Some (keeper_of x)
+pub kept_of : (m : Parts) (s : ℕ) (x : ScopeNode Env) → get_or m.tree.scopes s None ≡ Some x → get_or (keepers m) s None ≡ Some (keeper_of x)
 kept_of m s x e = map_at keeper_of m.tree.scopes s ∙ ap (option_map keeper_of) e
 
 -- the scope of a task
@@ -39,7 +36,7 @@ home_seen m t =
 
 module _ (m : Parts) (is : IsStore m) (order : InOrder (live_of m)) where
   pub holds : (u : ℕ) → is_some (get_or (holders m) u None) ≡ lives_in (live_of m) u
-  holds u = ap (λ (o : Option Holder). is_some o) (map_at holder_of m.frames.slots u) ∙ some_seen holder_of (get_or m.frames.slots u None) ∙ is.alive u ∙ sym (lives_is m u)
+  holds u = ap (λ (o : Option Holder). is_some o) (map_at holder_of m.frames.slots u) ∙ some_mapped holder_of (get_or m.frames.slots u None) ∙ is.alive u ∙ sym (lives_is m u)
 
   owner_seen : (s : ℕ) (x : ScopeNode Env) → get_or m.tree.scopes s None ≡ Some x → (live_scope_at (live_of m) s).owner ≡ x.owner
   owner_seen s x e = ap (λ (y : LiveScope). y.owner) (scope_there (beside m) m.tree s x e)

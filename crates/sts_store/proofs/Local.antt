@@ -1,7 +1,7 @@
 -- A local instruction keeps the structure list.
 use Rattle.std.proofs.Common.{◌≡◌, List, [], ◌∷◌, Bool, true, false, refl, nat_eq, cond, nat_le}
 use Rattle.sts_code.specs.declared.instr.Instr.{Instr}
-use Rattle.sts_code.specs.declared.instr.Instr.TheVariants.{Push, Pop, Dup, Swap, Load, Store, Add, Sub, Mul, Lt, Eq, Div, Jmp, Jz, Times, Next}
+use Rattle.sts_code.specs.declared.instr.Instr.TheVariants.{Div, Times, Next}
 use Rattle.std.specs.Ordering.{int_eq}
 use Rattle.std.proofs.Common.{pos}
 use Rattle.sts_model.specs.Local.{local, turns, clipped, operand}

@@ -8,15 +8,15 @@ use Rattle.sts_model.specs.Misuse.{is_binding}
 use Rattle.sts_store.specs.Sharing.{Shares, Holder, Keeper, keys_kept, inherited, home_at, behind}
 use Rattle.sts_store.proofs.Shared.{by_place, there, instead, instead_here, instead_there}
 
+less : (a b : ℕ) → suc a ≡ suc b → a ≡ b
+less a b q = omega (arith, q)
+
 -- an element at r of a list with one more element is the new one, or was there before
 by_new : {X : Type 0} (Q : ℕ → X → Type 0) (xs : List (Option X)) (y : X) → Q (length xs) y → ((r : ℕ) (z : X) → r ≢ length xs → get_or xs r None ≡ Some z → Q r z) → (r : ℕ) (z : X) → get_or (xs ++ Some y ∷ []) r None ≡ Some z → Q r z
 by_new Q [] y one others zero z e = subst (Q zero) (same_Some y z e) one
 by_new Q [] y one others (suc r) z e = cc
 by_new Q (x ∷ xs) y one others zero z e = others zero z (λ q. cc) e
 by_new Q (x ∷ xs) y one others (suc r) z e = by_new (λ i. Q (suc i)) xs y one (λ i w ne. others (suc i) w (λ q. ne (less i (length xs) q))) r z e
-  where
-    less : (a b : ℕ) → suc a ≡ suc b → a ≡ b
-    less a b q = omega (arith, q)
 
 old_at : {X : Type 0} (xs : List (Option X)) (y : X) (r : ℕ) → r ≢ length xs → get_or (xs ++ Some y ∷ []) r None ≡ get_or xs r None
 old_at [] y zero ne = absurd (ne refl)
@@ -35,9 +35,6 @@ held (o ∷ xs) zero zero x e = cc
 held (o ∷ xs) zero (suc r) x e = ((λ q. cc), e)
 held (o ∷ xs) (suc s) zero x e = ((λ q. cc), e)
 held (o ∷ xs) (suc s) (suc r) x e = let p = held xs s r x e in ((λ q. p.0 (less r s q)), p.1)
-  where
-    less : (a b : ℕ) → suc a ≡ suc b → a ≡ b
-    less a b q = omega (arith, q)
 
 module _ {c : Records} {hs : List (Option Holder)} {ks : List (Option Keeper)} {os : List (Option (Option ℕ))} {own outside : ℕ → List ℕ} where
   pub open_shares : Shares c hs ks os own outside → (t : ℕ) (h g : Holder) → get_or hs t None ≡ Some h → g.env ≡ h.env → count_by is_binding g.entries ≡ count_by is_binding h.entries → behind (length ks) g.entries ≡ h.entries → ((r : ℕ) → r ≢ length ks → behind r g.entries ≡ behind r h.entries) → ((u r : ℕ) → home_at os u ≡ Some r → r ≢ length ks) → Shares c (set hs t (Some g)) (ks ++ Some (record { owner = t; kept = h.env }) ∷ []) os own (instead outside (length ks) (own t))

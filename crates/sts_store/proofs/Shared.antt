@@ -3,6 +3,7 @@ use Rattle.std.proofs.Common.{◌≡◌, ◌≢◌, ℕ, zero, suc, ◌≤◌, L
 use Rattle.std.proofs.lemmas.Bool.Decides.{nat_tests}
 use Rattle.std.specs.Prelude.{count_by}
 use Rattle.std.proofs.lemmas.Option.{same_Some}
+use Rattle.laws_words.proofs.ListLemmas.{put_there}
 use Rattle.sts_env.specs.Environments.{Records, IsWhole, keys_of, record_at, NotIn, Stays}
 use Rattle.sts_env.specs.declared.env.Env.{Env}
 use Rattle.sts_env.proofs.UnsharedLemmas.{not_front}
@@ -11,11 +12,6 @@ use Rattle.sts_model.specs.Misuse.{is_binding}
 use Rattle.sts_store.specs.Sharing.{Shares, Holder, Keeper, keys_kept, inherited, home_at, behind}
 
 -- ---- look-ups
-
-pub here : {X : Type 0} (xs : List (Option X)) (t : ℕ) (x y : X) → get_or xs t None ≡ Some x → get_or (set xs t (Some y)) t None ≡ Some y
-here [] t x y e = cc
-here (o ∷ xs) zero x y e = refl
-here (o ∷ xs) (suc t) x y e = here xs t x y e
 
 pub there : {X : Type 0} (xs : List (Option X)) (t u : ℕ) (o : Option X) → u ≢ t → get_or (set xs t o) u None ≡ get_or xs u None
 there [] t u o ne = refl
@@ -41,7 +37,7 @@ by_place P xs t x y at one others u z e = by (nat_eq u t) refl
     by : (b : Bool) → nat_eq u t ≡ b → P u z
     by true q =
         let same : u ≡ t = grind (arith, nat_tests) in
-        let is : y ≡ z = same_Some y z (sym (here xs t x y at) ∙ subst (λ i. get_or (set xs t (Some y)) i None ≡ Some z) same e) in
+        let is : y ≡ z = same_Some y z (sym (put_there xs t x y at) ∙ subst (λ i. get_or (set xs t (Some y)) i None ≡ Some z) same e) in
         subst (λ i. P i z) (sym same) (subst (P t) is one)
     by false q = let ne : u ≢ t = grind (arith, nat_tests) in others u z ne (sym (there xs t u (Some y) ne) ∙ e)
 

@@ -6,7 +6,7 @@ use Rattle.sts_env.specs.declared.env.Env.{Env}
 use Rattle.sts_tree.specs.Forest.{Forest}
 use Rattle.sts_tree.specs.declared.record.ScopeNode.{ScopeNode}
 use Rattle.sts_model.specs.declared.event.Stand.{Stand}
-use Rattle.sts_model.specs.declared.event.Stand.TheVariants.{Free, AtJoin, AtClose}
+use Rattle.sts_model.specs.declared.event.Stand.TheVariants.{Free}
 use Rattle.sts_model.specs.Live.{Live, LiveScope}
 use Rattle.sts_model.specs.Living.{is_closed}
 use Rattle.laws_live.specs.Cancelling.{live_cancel}

@@ -1,7 +1,7 @@
 -- Which answers of `join` push something.
 use Rattle.std.proofs.Common.{◌≡◌, ℕ, ℤ, false, Some, refl}
 use Rattle.sts_code.specs.declared.instr.Joiner.{Joiner}
-use Rattle.sts_code.specs.declared.instr.Joiner.TheVariants.{AllSucceed, AnySucceeds, AwaitOk, AwaitAll, Until}
+use Rattle.sts_code.specs.declared.instr.Joiner.TheVariants.{AwaitAll}
 use Rattle.sts_model.specs.declared.event.Verdict.TheVariants as verdict
 use Rattle.sts_model.specs.Told.{Told, result_told}
 use Rattle.sts_code.specs.Facts.{is_await_all}

@@ -19,6 +19,8 @@ use Rattle.sts_tree.specs.Forest.{Forest, closed, is_of, opened, subtask, asks, 
 use Rattle.sts_tree.specs.Forest.{any_lives}
 use Rattle.sts_tree.specs.declared.record.TaskNode.{TaskNode}
 use Rattle.sts_tree.specs.declared.record.ScopeNode.{ScopeNode}
+use Rattle.laws_words.proofs.ListLemmas.{set_again}
+use Rattle.sts_tree.proofs.BirthLemmas.{suc_more}
 use Rattle.sts_tree.proofs.HoldingLemmas.{map_at, inside_of}
 use Rattle.sts_tree.specs.Ending as ending
 use Rattle.sts_tree.specs.Ending.{gone, ended, asks_in, asks_told}
@@ -34,19 +36,12 @@ use Rattle.laws_live.specs.Effect.{without, live_gone, live_told, live_ended, li
 use Rattle.sts_store.specs.View.{Beside, alive_of, task_seen, scope_seen, tasks_from, view_of}
 use Rattle.sts_store.specs.Agreeing.{at_end, TaskAt, ScopeAt, WordsAgree, decided}
 
-suc_more : (n k : ℕ) → n + suc k ≡ suc n + k
-suc_more n k = omega arith
-
 zero_more : (n : ℕ) → n + 0 ≡ n
 zero_more n = omega arith
 
 from_zero : (n : ℕ) → 0 + n ≡ n
 from_zero n = omega arith
 
-set_again : {T : Type 0} → (xs : List T) (k : ℕ) (x y : T) → set (set xs k x) k y ≡ set xs k y
-set_again [] k x y = refl
-set_again (z ∷ xs) zero x y = refl
-set_again (z ∷ xs) (suc k) x y = ap (λ l. z ∷ l) (set_again xs k x y)
 
 either : (a b c d : Bool) → (a || b || c || d) ≡ ((a || b) || c || d)
 either true b c d = refl

@@ -1,5 +1,5 @@
-use Rattle.std.proofs.Common.{◌+◌, ◌<◌, ◌^◌, length, false, Bool, true, refl, pos, ap, sym, ◌≡◌, ◌∙◌, ◌∷◌, [], arith, rules, w64}
-use mir.Val.{SFits, bool_byte, to_z, of_z}
+use Rattle.std.proofs.Common.{◌+◌, ◌<◌, ◌^◌, length, false, ap, sym, ◌≡◌, ◌∙◌, ◌∷◌, [], arith, rules, w64}
+use mir.Val.{SFits, to_z, of_z}
 use Rattle.std.proofs.lemmas.Int.{to_z-of_z}
 use Rattle.std.proofs.lemmas.Option.{same_Some}
 use Rattle.sts_model.specs.Local.{steps, truth}
