@@ -17,7 +17,6 @@ use Rattle.sts_code.specs.declared.instr.Instr.TheVariants.{Unbind}
 use Rattle.sts_rules.specs.declared.typing.TypedLoop.{TypedLoop}
 use Rattle.sts_rules.specs.declared.typing.TypedEntry.{TypedEntry}
 use Rattle.sts_rules.specs.declared.typing.TypedEntry.TheVariants.{Scope, Binding}
-use Rattle.sts_rules.specs.declared.typing.SlotKind.TheVariants as slot
 use Rattle.sts_rules.specs.Flow.{Leads, Reaches, first, then}
 use Rattle.sts_rules.specs.TypeState.{TypeState, heads, kind, scope_in}
 use Rattle.sts_rules.specs.Around.{next_place, around}

@@ -8,7 +8,7 @@ use Rattle.std.proofs.lemmas.List.{get_or-set_same, get_or-set_other}
 use Rattle.std.proofs.lemmas.List.Sums.{sum_by-cons, sum_by-le-sum_by, count_by-le-length}
 use Rattle.sts_model.specs.Living.{is_in}
 use Rattle.sts_world.specs.Lines.{Line}
-use Rattle.sts_world.specs.Kept.{births_from, births, count_in, lives_in, stands, no_line}
+use Rattle.sts_world.specs.Kept.{births_from, births, count_in, stands, no_line}
 
 -- what a test counts as
 abbrev pub as_one : {X : Type 0} → (X → Bool) → X → ℕ

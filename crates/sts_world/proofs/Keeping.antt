@@ -5,7 +5,7 @@ use Rattle.std.proofs.Common.{◌⊎◌, eqb, refl, ap, sym, ◌∙◌, arith, g
 use Rattle.std.proofs.lemmas.Bool.{eqb-true, eqb-false, eq-eqb, cases_lt}
 use Rattle.std.proofs.lemmas.List.{get_or-set_same, get_or-set_other, get_or_append_left}
 use Rattle.std.proofs.lemmas.List.{length-append, length-set, append-nil, get_or_past}
-use Rattle.std.proofs.lemmas.List.Sums.{sum_by-set, sum_by_push, count_by-le-length}
+use Rattle.std.proofs.lemmas.List.Sums.{sum_by-set, sum_by_push}
 use Rattle.std.proofs.lemmas.List.Sums.{get_or-le-sum_by}
 use Rattle.sts_model.specs.Living.{is_in}
 use Rattle.sts_code.specs.declared.instr.Joiner.{Joiner}

@@ -1,13 +1,13 @@
 -- The used parts of a frame, and the whole frame.
 use Rattle.std.proofs.Common.{◌≡◌, ℕ, suc, ◌-◌, ◌≤◌, List, [], ◌∷◌, length, take, drop, reverse}
-use Rattle.std.proofs.Common.{replicate, get_or, Bool, true, false, refl, ap, arith, ◌∙◌, ◌&&◌, sym}
+use Rattle.std.proofs.Common.{replicate, get_or, true, refl, ap, arith, ◌∙◌, sym}
 use Rattle.std.proofs.lemmas.Bool.{and_parts}
 use Rattle.std.specs.List.{list_all}
 use Rattle.std.proofs.lemmas.List.{length-reverse, reverse-reverse, take_rest}
 use Rattle.std.proofs.Math.Seq.{take-length}
 use Rattle.sts_model.proofs.ListLemmas.{reverse_take}
 use Rattle.sts_model.specs.declared.record.Slot.{Slot}
-use Rattle.sts_model.specs.declared.record.Slot.TheVariants.{Empty, Own, Lent, Sub}
+use Rattle.sts_model.specs.declared.record.Slot.TheVariants.{Empty}
 use Rattle.sts_model.specs.Misuse.{is_empty}
 
 one_empty : (x : Slot) → is_empty x ≡ true → x ≡ Empty

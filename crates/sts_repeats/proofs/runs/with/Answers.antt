@@ -2,7 +2,7 @@ use Rattle.std.proofs.Common.{◌≡◌, ◌≤◌, ◌<◌, ◌+◌, ◌++◌, 
 use Rattle.std.specs.Prelude.{slice_get}
 use Rattle.std.proofs.lemmas.Option.{slice_get-get_or, slice_get_within}
 use Rattle.std.proofs.lemmas.Slice.{between_to_end}
-use Rattle.sts_repeats.specs.Spread.{spread, changed}
+use Rattle.sts_repeats.specs.Spread.{spread}
 use Rattle.sts_repeats.proofs.RunLemmas.{with_in}
 use Rattle.sts_repeats.proofs.runs.with.Goals as goal
 

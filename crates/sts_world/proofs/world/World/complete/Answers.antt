@@ -1,8 +1,8 @@
-use Rattle.std.proofs.Common.{◌≡◌, ◌<◌, ◌∙◌, ap, sym, length, true, Some, arith, slice_index_or}
+use Rattle.std.proofs.Common.{◌≡◌, ◌<◌, ◌∙◌, ap, sym, length, arith, slice_index_or}
 use Rattle.std.proofs.lemmas.List.{get_or_default}
 use Rattle.sts_joiners.specs.Tallied.{Tallied, with_end}
 use Rattle.sts_model.specs.Effect.{ended, told}
-use Rattle.sts_model.specs.Living.{lives, ends}
+use Rattle.sts_model.specs.Living.{ends}
 use Rattle.sts_model.specs.World.{World, task_at, scope_at, with_scope, with_task}
 use Rattle.sts_model.specs.Told.{cancels_told}
 use Rattle.sts_world.specs.Kept.{no_family, no_tally}
