@@ -1,9 +1,9 @@
 //! The search.
 
 ghost use Rattle.std.specs.Prelude.{◌≡◌, ◌<◌, length, true, IfOk, IfSome, IsNone, OnOk, fold};
-ghost use Rattle.std.specs.Prelude.{slice_index_or};
+ghost use Rattle.std.specs.Prelude.{slice_index_or, None, [], ◌∷◌};
 ghost use Rattle.ends_search.specs.Search.{IsAmong, IsSpace, IsKept, Grows, LeadsInto, Follows};
-ghost use Rattle.ends_search.specs.Search.{CanAt, IsWay, state_at, states_of};
+ghost use Rattle.ends_search.specs.Search.{CanAt, IsWay, no_origin, state_at, states_of};
 
 use crate::index::Index;
 use crate::machine::StateMachine;
@@ -295,6 +295,33 @@ fn expand<S: StateMachine>(
     Ok(is_there)
 }
 
+/// Notes how the first state was found, in a search that has noted nothing.
+fn note_first<S: StateMachine>(
+    alloc: Global,
+    setting: &S::Setting,
+    space: &mut Space<S>,
+) -> Result<(), AllocError>
+    requires origins { space.old.origins.items ≡ [] }
+    requires marks { space.old.marks.items ≡ [] }
+    ensures first { OnOk result (space.new.first ≡ space.old.first) }
+    ensures closed { OnOk result (space.new.closed ≡ space.old.closed) }
+    ensures kept { OnOk result (space.new.kept.items ≡ space.old.kept.items) }
+    ensures marks { OnOk result (space.new.marks.items ≡ None ∷ []) }
+    ensures origins { OnOk result (space.new.origins.items
+        ≡ record no_origin { is_last = S.last space.old.first } ∷ []) }
+{
+    let hash = space.first.hash(alloc, setting)?;
+    space.index.add(alloc, hash)?;
+    space.events_behind.push(0)?;
+    space.marks.push(None)?;
+    space.origins.push(Origin {
+        parent: 0,
+        event: Event::Step(0),
+        is_last: space.first.is_last(),
+    })?;
+    Ok(())
+}
+
 /// A search that has found its first state. It keeps at most `most` states, and at least this one.
 ///
 /// # Errors
@@ -311,29 +338,19 @@ pub fn begin<S: StateMachine>(
         (S.alike setting.now) S.last r.first r.origins.items r.closed
         r.kept.items r.marks.items) }
 {
-    let mut origins = Vec::new(alloc);
-    let mut marks = Vec::new(alloc);
-    let mut index = Index::new(alloc)?;
-    index.add(alloc, first.hash(alloc, setting)?)?;
-    let mut events_behind = Vec::new(alloc);
-    events_behind.push(0)?;
-    marks.push(None)?;
-    origins.push(Origin {
-        parent: 0,
-        event: Event::Step(0),
-        is_last: first.is_last(),
-    })?;
-    Ok(Space {
+    let mut space = Space {
         first,
-        origins,
+        origins: Vec::new(alloc),
         closed: 0,
         most,
         is_full: false,
         kept: Vec::new(alloc),
-        marks,
-        events_behind,
-        index,
-    })
+        marks: Vec::new(alloc),
+        events_behind: Vec::new(alloc),
+        index: Index::new(alloc)?,
+    };
+    note_first(alloc, setting, &mut space)?;
+    Ok(space)
 }
 
 /// The search after `count` more states were expanded. It stops earlier if no state or no room is
