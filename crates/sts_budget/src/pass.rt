@@ -149,6 +149,7 @@ pub(crate) fn own_step(resource: Resource) -> u32
 }
 
 /// The sums that the end of a loop hands on.
+#[inline(always)]
 fn loop_values<const N: usize>(pass: &Pass<'_>, best: &[Row<N>], pc: usize) -> Values<N>
     requires in_code { pc < length pass.now.code.now }
     requires head { head_in pass.now.layout.now pc < length pass.now.code.now }

@@ -51,6 +51,7 @@ pub(crate) fn values_after<const N: usize>(
 }
 
 /// The sums after a loop: those at its head, and `turns` times those of a turn.
+#[inline(always)]
 pub(crate) fn values_of_loop<const N: usize>(
     turns: u16,
     own: u32,

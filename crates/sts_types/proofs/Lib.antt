@@ -15,4 +15,5 @@ pub mod PromisingLemmas
 pub mod Ranges
 pub mod RoomLemmas
 pub mod SimpleLemmas
+pub mod Stacks
 pub mod Visiting

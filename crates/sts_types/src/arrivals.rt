@@ -25,9 +25,9 @@ use sts_rules::filled;
 /// that differs from it only in that number.
 #[derive(Clone, Copy)]
 pub(crate) struct Mark {
-    // (A byte in its place would leave seven before `like`. A read after a move waits for those.)
-    pub(crate) height: usize,
-    pub(crate) like: usize,
+    // (A byte in its place would leave three before `like`. A read after a move waits for those.)
+    pub(crate) height: u32,
+    pub(crate) like: u32,
 }
 
 /// The typestates that have arrived at each place, and the current typestate.
@@ -41,7 +41,7 @@ pub(crate) struct Arrivals {
     state: TypeState,
     /// The index of a kept typestate that differs from the current one only in its number of
     /// operands.
-    like: usize,
+    like: u32,
     /// The typestate of the place that was loaded last.
     start: Mark,
     recent: Recent,
@@ -73,7 +73,8 @@ fn are_same(kept: &[TypeState], a: Mark, b: Mark) -> bool
     requires b { b.like < length kept.now }
     ensures { IsTrue result ↔ (state_of kept.now a ≡ state_of kept.now b) }
 {
-    a.height == b.height && (a.like == b.like || kept[a.like].is_like(&kept[b.like]))
+    a.height == b.height
+        && (a.like == b.like || kept[a.like as usize].is_like(&kept[b.like as usize]))
 }
 
 /// The typestates at a place after one more has arrived.
@@ -92,7 +93,7 @@ fn merged(kept: &[TypeState], before: Arrival<Mark>, mark: Mark) -> Arrival<Mark
 }
 
 /// The index of the kept typestate that a place refers to, or else `like`.
-fn near(marks: &Vec<Arrival<Mark>>, place: usize, like: usize) -> usize
+fn near(marks: &Vec<Arrival<Mark>>, place: usize, like: u32) -> u32
     requires { place < length marks.now.items }
     ensures { (n : ℕ) → All (IsMarked n) marks.now.items → like < n → result < n }
 {
@@ -104,15 +105,17 @@ fn near(marks: &Vec<Arrival<Mark>>, place: usize, like: usize) -> usize
 
 /// Keeps a typestate at the end. It is written where it is kept, so it isn't moved.
 #[inline(never)]
-fn keep_new(kept: &mut Vec<TypeState>, state: &TypeState) -> Result<usize, AllocError>
+fn keep_new(kept: &mut Vec<TypeState>, state: &TypeState) -> Result<u32, AllocError>
     ensures like { IfOk result (λ at. (at < length kept.new.items) ×
         (state_of kept.new.items (record { height = state.now.height; like = at }) ≡
         state.now)) }
     ensures more { (added : List TypeState) × (kept.new.items ≡ kept.old.items ++ added) }
 {
-    let count = kept.len();
+    let Ok(count) = u32::try_from(kept.len()) else {
+        return Err(AllocError);
+    };
     kept.push(TypeState::default())?;
-    kept[count].copy_from(state);
+    kept[count as usize].copy_from(state);
     Ok(count)
 }
 
@@ -120,11 +123,11 @@ fn keep_new(kept: &mut Vec<TypeState>, state: &TypeState) -> Result<usize, Alloc
 /// `near`, that at `like`, or the last one of the same look. Answers the index of the kept one.
 fn keep(
     kept: &mut Vec<TypeState>,
-    near: usize,
-    like: usize,
+    near: u32,
+    like: u32,
     recent: &mut Recent,
     state: &TypeState,
-) -> Result<usize, AllocError>
+) -> Result<u32, AllocError>
     requires near { near < length kept.old.items }
     requires like { like < length kept.old.items }
     ensures like { IfOk result (λ at. (at < length kept.new.items) ×
@@ -132,15 +135,15 @@ fn keep(
         state.now)) }
     ensures more { (added : List TypeState) × (kept.new.items ≡ kept.old.items ++ added) }
 {
-    if kept[near].is_like(state) {
+    if kept[near as usize].is_like(state) {
         return Ok(near);
     }
-    if near != like && kept[like].is_like(state) {
+    if near != like && kept[like as usize].is_like(state) {
         return Ok(like);
     }
     let look = look_of(state);
     let guess = recent.kept_with(look);
-    if guess < kept.len() && kept[guess].is_like(state) {
+    if (guess as usize) < kept.len() && kept[guess as usize].is_like(state) {
         return Ok(guess);
     }
     let new = keep_new(kept, state)?;
@@ -150,7 +153,7 @@ fn keep(
 
 /// Makes the typestate of this mark the current one. The current one is like the kept typestate at
 /// `like`.
-fn come_to(state: &mut TypeState, like: &mut usize, kept: &[TypeState], mark: Mark)
+fn come_to(state: &mut TypeState, like: &mut u32, kept: &[TypeState], mark: Mark)
     requires mark { IsMarked (length kept.now) (Arrival.One mark) }
     requires hand { state.old ≡ state_of kept.now
         (record { height = state.old.height; like = like.old }) }
@@ -158,7 +161,7 @@ fn come_to(state: &mut TypeState, like: &mut usize, kept: &[TypeState], mark: Ma
     ensures like { like.new ≡ mark.like }
 {
     if mark.like != *like {
-        state.copy_from(&kept[mark.like]);
+        state.copy_from(&kept[mark.like as usize]);
         *like = mark.like;
     }
     state.set_height(mark.height as u8);
@@ -181,7 +184,7 @@ impl Arrivals {
         let mut kept = Vec::with_capacity(alloc, places)?;
         kept.push(first.copy())?;
         let start = Mark {
-            height: first.height() as usize,
+            height: first.height() as u32,
             like: 0,
         };
         let mut marks = filled(alloc, places, Arrival::Nothing)?;
@@ -247,7 +250,7 @@ impl Arrivals {
         ensures start { self.new.start ≡ self.old.start }
     {
         let place = place as usize;
-        let height = height as usize;
+        let height = height as u32;
         let like = self.like;
         self.marks[place] = merged(
             self.kept.as_slice(),
@@ -278,12 +281,12 @@ impl Arrivals {
             ) {
                 Ok(like) => self.like = like,
                 Err(error) => {
-                    self.state.copy_from(&self.kept[self.like]);
+                    self.state.copy_from(&self.kept[self.like as usize]);
                     return Err(error);
                 }
             }
             let place = to as usize;
-            let height = self.state.height() as usize;
+            let height = self.state.height() as u32;
             let like = self.like;
             self.marks[place] = merged(
                 self.kept.as_slice(),
@@ -301,7 +304,7 @@ impl Arrivals {
             ≡ Arrival.One self.now.state) }
     {
         let here = Mark {
-            height: self.state.height() as usize,
+            height: self.state.height() as u32,
             like: self.like,
         };
         match self.marks[place as usize] {

@@ -18,7 +18,7 @@ const SLOTS: usize = 8;
 /// where.
 #[derive(Drop)]
 pub(crate) struct Recent {
-    kept: Vec<usize>,
+    kept: Vec<u32>,
 }
 
 /// A number for the content of a slot.
@@ -70,7 +70,7 @@ impl Recent {
     }
 
     /// The index of the typestate that was kept last with this look.
-    pub(crate) fn kept_with(&self, look: usize) -> usize {
+    pub(crate) fn kept_with(&self, look: usize) -> u32 {
         if look < self.kept.len() {
             self.kept[look]
         } else {
@@ -79,7 +79,7 @@ impl Recent {
     }
 
     /// The typestate at this index was kept, and has this look.
-    pub(crate) fn note(&mut self, look: usize, like: usize) {
+    pub(crate) fn note(&mut self, look: usize, like: u32) {
         if look < self.kept.len() {
             self.kept[look] = like;
         }

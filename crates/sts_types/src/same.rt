@@ -1,18 +1,27 @@
 //! Copies and comparisons of stacks.
 
-ghost use Rattle.std.specs.Prelude.{◌≡◌, ◌↔◌, IsTrue, length, drop, reverse};
+ghost use Rattle.std.specs.Prelude.{◌≡◌, ◌<◌, ◌+◌, ◌-◌, ◌∷◌, ◌↔◌, IsTrue, length, drop, reverse};
 
 use sts_model::Stack;
 use sts_rules::{SlotKind, TypedEntry, TypedLoop};
+
+/// The value above this many values.
+#[inline(always)]
+fn above<T: Copy + Default + Drop, const N: usize>(stack: &Stack<T, N>, below: usize) -> T
+    requires { below < length stack.now }
+    ensures { result ∷ drop (length stack.now - below) stack.now ≡
+        drop (length stack.now - (below + 1)) stack.now }
+{
+    stack.as_slice()[below]
+}
 
 /// Takes over the loops of another stack.
 pub(crate) fn copy_loops(copy: &mut Stack<TypedLoop, 8>, stack: &Stack<TypedLoop, 8>)
     ensures { copy.new ≡ stack.now }
 {
     copy.drop_top(copy.len());
-    let len = stack.len();
-    for i in 0..len {
-        copy.push(stack.get_or(len - 1 - i, TypedLoop::default()));
+    for i in 0..stack.len() {
+        copy.push(above(stack, i));
     }
 }
 
@@ -21,9 +30,8 @@ pub(crate) fn copy_entries(copy: &mut Stack<TypedEntry, 16>, stack: &Stack<Typed
     ensures { copy.new ≡ stack.now }
 {
     copy.drop_top(copy.len());
-    let len = stack.len();
-    for i in 0..len {
-        copy.push(stack.get_or(len - 1 - i, TypedEntry::default()));
+    for i in 0..stack.len() {
+        copy.push(above(stack, i));
     }
 }
 

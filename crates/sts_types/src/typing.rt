@@ -63,7 +63,7 @@ impl Typing {
         requires { pc < length self.now.states }
         ensures { result.now ≡ (slice_index_or self.now.states pc def.none).entries }
     {
-        self.kept[mark_in(self.marks[pc]).like].entries()
+        self.kept[mark_in(self.marks[pc]).like as usize].entries()
     }
 
     /// The `times` of the innermost loop around a place, if there is one.
