@@ -141,6 +141,7 @@ fn is_unbound(records: &Records, t: u32, instr: Instr) -> bool
 }
 
 /// Does the frame alone show that operands or loops are misused?
+#[inline(always)]
 fn misuses_frame(program: &Program, frame: &Frame, instr: Instr) -> bool
     ensures { result ≡ (misuse.lacks_operands program.now frame.now instr
         || misuse.overflows program.now frame.now instr
