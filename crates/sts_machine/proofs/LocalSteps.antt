@@ -1,7 +1,7 @@
 -- A local instruction is a step of its task that only changes its frame. A slice is such a step,
 -- instruction by instruction.
 use Rattle.std.proofs.Common.{◌≡◌, ℕ, zero, suc, ◌+◌, ◌<◌, ◌≤◌, List, [], ◌∷◌, ◌++◌, Bool, true, false, Option, Some, None, refl, sym, ◌∙◌, ap, subst, length, arith, get_or, set, cond, slice_get, append_assoc, append-nil, get_or-set_same}
-use Rattle.std.specs.Prelude.{option_map, unwrap_or, is_some}
+use Rattle.std.specs.Prelude.{option_map, unwrap_or, is_some, ◌==◌}
 use Rattle.std.proofs.lemmas.List.{set-set, set-get_or}
 use Rattle.laws_words.proofs.ListLemmas.{read_within}
 use Rattle.sts_code.specs.Program.{Program, routine}
@@ -129,6 +129,26 @@ free : (v : Live) (t : ℕ) (i : Instr) → is_local i ≡ true → live_stand_a
 free v t (Join x failed timeout interrupted) e = cc
 free v t (Close x) e = cc
 free v t i e = refl
+
+-- the first of some local instructions in a row
+record First (is : List Instr) (f : Frame) : Type 0 where
+  pub instr : Instr
+  pub at : slice_get is f.pc ≡ Some instr
+  pub is_local : is_local instr ≡ true
+
+first : (is : List Instr) (f : Frame) (n : ℕ) (g : Frame) → locals is f (suc n) ≡ Some g → First is f
+first is f zero g e =
+    let l = last is (locals is f zero) g e in
+    let same : l.frame ≡ f = sym (same_Some f l.frame l.before) in
+    record { instr = l.instr; at = ap (λ (h : Frame). slice_get is h.pc) (sym same) ∙ l.at; is_local = l.is_local }
+first is f (suc n) g e = let l = last is (locals is f (suc n)) g e in first is f n l.frame l.before
+
+-- a task that did local instructions was at no scope before
+pub was-free : (p : Program) (v : Live) (t n : ℕ) (g : Frame) → (n == 0) ≡ false → locals (code p (alive_at v t).frame) (alive_at v t).frame n ≡ Some g → live_stand_at p v t ≡ Free
+was-free p v t zero g some e = cc
+was-free p v t (suc n) g some e =
+    let i = first (code p (alive_at v t).frame) (alive_at v t).frame n g e in
+    ap (live_stand_at_instr v t) i.at ∙ free v t i.instr i.is_local
 
 -- a living task at a local instruction
 pub record AtLocal (p : Program) (v : Live) (t : ℕ) (f : Frame) (i : Instr) : Type 0 where

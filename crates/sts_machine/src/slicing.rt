@@ -110,7 +110,8 @@ impl<'p> Machine<'p> {
         let program = self.verified.program();
         let code = code(program, self.store.frame(task));
         let done = self.store.run_local(program, code, task, limit);
-        say_stand(&mut self.store, program, task, true);
+        // A task that has done one was at no scope.
+        say_stand(&mut self.store, program, task, done == 0);
         self.steps += u64::from(done);
         done
     }

@@ -1,1 +1,3 @@
 pub mod Forks
+pub mod Locals
+pub mod Stands

@@ -1,7 +1,8 @@
 //! Tests for misuse, and the fault that they find.
 
-ghost use Rattle.std.specs.Prelude.{◌≡◌, ◌<◌, length, true};
+ghost use Rattle.std.specs.Prelude.{◌≡◌, ◌<◌, ℕ, ◌||◌, length, true};
 ghost use Rattle.sts_model.specs.Living as living;
+ghost use Rattle.sts_model.specs.Local as local;
 ghost use Rattle.sts_model.specs.Misuse as misuse;
 ghost use Rattle.sts_model.specs.World as def;
 
@@ -11,7 +12,7 @@ use crate::frame_tests::{
 use sts_code::{
     Instr, Joiner, MAX_BIRTHS, MAX_ENTRIES, MAX_OPERANDS, MAX_STANDING, Profile, Program, can_fail,
 };
-use sts_frames::{instr_at, slot};
+use sts_frames::{instr_at, is_local, slot};
 use sts_model::{End, Fault, Frame, Slot};
 use sts_world::{Records, World};
 
@@ -139,22 +140,48 @@ fn is_unbound(records: &Records, t: u32, instr: Instr) -> bool
     }
 }
 
-fn misuses_operand(world: &World, program: &Program, frame: &Frame, instr: Instr) -> bool
-    ensures { result ≡ misuse.misuses_operand program.now world.now frame.now instr }
+/// Does the frame alone show that operands or loops are misused?
+#[inline(always)]
+fn misuses_frame(program: &Program, frame: &Frame, instr: Instr) -> bool
+    ensures { result ≡ (misuse.lacks_operands program.now frame.now instr
+        || misuse.overflows program.now frame.now instr
+        || misuse.breaks_loop program.now frame.now instr) }
 {
     lacks_operands(program, frame, instr)
         || overflows(program, frame, instr)
         || breaks_loop(program, frame, instr)
+}
+
+fn misuses_operand(world: &World, program: &Program, frame: &Frame, instr: Instr) -> bool
+    ensures { result ≡ misuse.misuses_operand program.now world.now frame.now instr }
+{
+    misuses_frame(program, frame, instr)
         || has_wrong_slot(frame, instr)
         || misjoins(world.records(), frame, instr)
         || has_no_room(world, frame, instr)
+}
+
+/// The fault of a local instruction. It misuses neither a slot nor a scope nor the structure list.
+#[tactic(auto, using(crate::proofs::Locals::local_fault))]
+fn local_fault(program: &Program, frame: &Frame, instr: Instr) -> Option<Fault>
+    requires { local.is_local instr ≡ true }
+    ensures { (w : def.World) (t : ℕ)
+        → result ≡ misuse.fault_of program.now w t frame.now instr }
+{
+    if misuses_frame(program, frame, instr) {
+        Some(Fault::Operand)
+    } else {
+        None
+    }
 }
 
 /// The fault of an instruction, the first kind that applies.
 fn fault_of(world: &World, program: &Program, t: u32, frame: &Frame, instr: Instr) -> Option<Fault>
     ensures { result ≡ misuse.fault_of program.now world.now t frame.now instr }
 {
-    if misuses_operand(world, program, frame, instr) {
+    if is_local(instr) {
+        local_fault(program, frame, instr)
+    } else if misuses_operand(world, program, frame, instr) {
         Some(Fault::Operand)
     } else if is_strangers(frame, instr) {
         Some(Fault::WrongThread)

@@ -1,6 +1,8 @@
 //! A state of the plain machine, without the number of its steps.
 
-ghost use Rattle.std.specs.Prelude.{◌≡◌, ◌&&◌, true, OnOk, OnErr, IfOk, IfSome, IsNone};
+ghost use Rattle.std.specs.Prelude.{◌≡◌, ◌<◌, ◌&&◌, length, true, OnOk, OnErr, IfOk, IfSome, IsNone};
+ghost use Rattle.sts_model.specs.Living as living;
+ghost use Rattle.sts_model.specs.Misuse as misuse;
 ghost use Rattle.sts_model.specs.World as def;
 ghost use Rattle.sts_model.specs.Run as run;
 ghost use Rattle.sts_model.specs.Waiting as waiting;
@@ -9,11 +11,11 @@ ghost use Rattle.sts_plain.specs.Seen.{shown, is_fault, state_of};
 use crate::misstep::{Misstep, PlainState};
 use crate::misuses::misuse;
 use crate::perform::act;
-use crate::stand::can_step;
+use crate::stand::step_stand;
 use std::alloc::{AllocError, Global};
 use std::marker::Model;
 use sts_code::Program;
-use sts_model::Event;
+use sts_model::{Event, Fault, Stand};
 use sts_world::World;
 
 /// A state of the plain machine.
@@ -33,21 +35,37 @@ impl Model for Position {
     ghost view = { λ p. state_of p.misstep p.world };
 }
 
-/// Takes a step of a task that can step. Answers the fault, if the step is one.
+/// The fault of a step of a living task that stands there. At a `join` there is none.
+#[tactic(auto, using(crate::proofs::Stands::joins_well))]
+fn misuse_at(world: &World, program: &Program, t: u32, stand: Stand) -> Option<Fault>
+    requires born { t < length world.now.tasks }
+    requires lives { living.lives (def.task_at world.now t) ≡ true }
+    requires stand { stand ≡ waiting.stand_at program.now world.now t }
+    ensures { result ≡ misuse.misuse program.now world.now t }
+{
+    match stand {
+        Stand::AtJoin(_) => None,
+        _ => misuse(world, program, t),
+    }
+}
+
+/// Takes a step of a task that can step and stands there. Answers the fault, if the step is one.
 fn step(
     world: &mut World,
     alloc: Global,
     program: &Program,
     t: u32,
+    stand: Stand,
 ) -> Result<Option<Misstep>, AllocError>
-    requires { waiting.can_step program.now world.old t ≡ true }
+    requires can { waiting.can_step program.now world.old t ≡ true }
+    requires stand { stand ≡ waiting.stand_at program.now world.old t }
     ensures ok { IfOk result (λ m. state_of m world.new ≡ run.step program.now world.old t) }
     ensures err { OnErr result (world.new ≡ world.old) }
 {
     if !world.records().lives(t) {
         return Ok(None);
     }
-    match misuse(world, program, t) {
+    match misuse_at(world, program, t, stand) {
         Some(kind) => {
             let frame = world.records().frame(t);
             Ok(Some(Misstep {
@@ -119,13 +137,13 @@ impl Position {
             return Ok(false);
         }
         match event {
-            Event::Step(t) => {
-                let can = can_step(&self.world, program, t);
-                if can {
-                    self.misstep = step(&mut self.world, alloc, program, t)?;
+            Event::Step(t) => match step_stand(&self.world, program, t) {
+                None => Ok(false),
+                Some(stand) => {
+                    self.misstep = step(&mut self.world, alloc, program, t, stand)?;
+                    Ok(true)
                 }
-                Ok(can)
-            }
+            },
             Event::Interrupt(t) => {
                 self.world.interrupt(t);
                 Ok(false)

@@ -1,6 +1,6 @@
 //! Whether a task is at a `join` or a `close`, and whether it can step.
 
-ghost use Rattle.std.specs.Prelude.{◌≡◌, ◌<◌, length, true};
+ghost use Rattle.std.specs.Prelude.{◌≡◌, ◌<◌, IfSome, is_some, length, true};
 ghost use Rattle.sts_model.specs.Living as living;
 ghost use Rattle.sts_model.specs.Waiting as waiting;
 ghost use Rattle.sts_model.specs.World as def;
@@ -60,9 +60,26 @@ fn can_go(world: &World, t: u32, stand: Stand) -> bool
     }
 }
 
+/// Where a task stands that can step, or `None` if it can't.
+#[inline(always)]
+pub(crate) fn step_stand(world: &World, program: &Program, t: u32) -> Option<Stand>
+    ensures can { is_some result ≡ waiting.can_step program.now world.now t }
+    ensures stand { IfSome result (λ stand. stand ≡ waiting.stand_at program.now world.now t) }
+{
+    if !world.records().lives(t) {
+        return None;
+    }
+    let stand = stand_at(world, program, t);
+    if can_go(world, t, stand) {
+        Some(stand)
+    } else {
+        None
+    }
+}
+
 /// Can the task step?
 pub fn can_step(world: &World, program: &Program, t: u32) -> bool
     ensures { result ≡ waiting.can_step program.now world.now t }
 {
-    world.records().lives(t) && can_go(world, t, stand_at(world, program, t))
+    step_stand(world, program, t).is_some()
 }

@@ -132,12 +132,8 @@ module _ {E : Type 0} where
           rw k (ap over_of (get_or-set_same f.scopes s (Some d) None inside) ∙ over ∙ ap over_of (sym is))
       by false q = ap over_of (get_or-set_other f.scopes s r (Some d) None (grind (arith, nat_tests)))
 
-  pub phase_tree : (f : Forest E) (s : ℕ) (c d : ScopeNode E) → IsTree f → get_or f.scopes s None ≡ Some c → d.owner ≡ c.owner → d.expired ≡ c.expired → d.cancelled ≡ c.cancelled → IsTree (with_scope f s d)
-  phase_tree f s c d is at owner expired cancelled =
-      record {
-        ready = λ u. is.ready u ∙ sym (by (get_or f.tasks u None));
-        owned = owned_scope f s c d is.owned at owner;
-      }
+  pub steps_marks : (f : Forest E) (s u : ℕ) (c d : ScopeNode E) → get_or f.scopes s None ≡ Some c → d.expired ≡ c.expired → d.cancelled ≡ c.cancelled → can_step (with_scope f s d) u ≡ can_step f u
+  steps_marks f s u c d at expired cancelled = by (get_or f.tasks u None)
     where
       go : (flag : Bool) (stand : Stand) → can_go (with_scope f s d) flag stand ≡ can_go f flag stand
       go flag Free = refl
@@ -147,6 +143,13 @@ module _ {E : Type 0} where
       by : (o : Option TaskNode) → step_of (with_scope f s d) o ≡ step_of f o
       by None = refl
       by (Some z) = ap (λ b. z.lives && b) (go z.flag z.stand)
+
+  pub phase_tree : (f : Forest E) (s : ℕ) (c d : ScopeNode E) → IsTree f → get_or f.scopes s None ≡ Some c → d.owner ≡ c.owner → d.expired ≡ c.expired → d.cancelled ≡ c.cancelled → IsTree (with_scope f s d)
+  phase_tree f s c d is at owner expired cancelled =
+      record {
+        ready = λ u. is.ready u ∙ sym (steps_marks f s u c d at expired cancelled);
+        owned = owned_scope f s c d is.owned at owner;
+      }
 
   -- the ready list doesn't change who owns what
   pub owned_seen : (f g : Forest E) → seen g ≡ seen f → Owned f → Owned g

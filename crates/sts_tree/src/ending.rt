@@ -18,6 +18,8 @@ pub struct Ended {
     pub waiter: u32,
     /// Was the task in the ready list?
     pub was_ready: bool,
+    /// Does another subtask of the scope live?
+    pub others: bool,
 }
 
 /// Keeps the end of a subtask as its state, and tells the joiner of its scope. In a cancelled scope

@@ -399,6 +399,8 @@ impl<E: Drop> Forest<E> {
             result.asks ≡ ending.asks_ended self.old x end }
         ensures waiter { (x : AnyTask) → slice_index_or self.old.tasks t None ≡ Some x →
             result.waiter ≡ ending.waiter self.old t x }
+        ensures others { (x : AnyTask) → slice_index_or self.old.tasks t None ≡ Some x →
+            result.others ≡ ending.lives_beside self.new x.scope }
         ensures ready { result.was_ready ≡ has t self.old.ready }
     {
         let task = &mut self.tasks.held.at(t as usize).task;
@@ -409,6 +411,7 @@ impl<E: Drop> Forest<E> {
                 asks: false,
                 waiter: t,
                 was_ready,
+                others: false,
             };
         };
         let row = self.scopes.at(s as usize);
@@ -418,6 +421,7 @@ impl<E: Drop> Forest<E> {
             asks,
             waiter: row.scope.owner,
             was_ready,
+            others: row.living.first.is_some(),
         }
     }
 

@@ -136,6 +136,10 @@ impl<E: Drop> Tree<E> {
             is_ready: ended.was_ready,
         };
         settle_at(&mut self.forest, t, place);
+        // While another subtask lives, the owner waits as before.
+        if ended.others {
+            return ended.asks;
+        }
         settle(&mut self.forest, ended.waiter);
         ended.asks
     }

@@ -2,10 +2,11 @@ use Rattle.std.proofs.Common.{◌≡◌, ◌++◌, true, refl, sym, ◌∙◌, a
 use Rattle.sts_model.specs.World.{code}
 use Rattle.sts_frames.specs.Locals.{AreSafe, locals}
 use Rattle.laws_live.specs.Waiting.{live_can_step}
-use Rattle.sts_store.specs.Parts.{frame_of}
+use Rattle.sts_store.specs.Parts.{frame_of, live_of, stand_in}
 use Rattle.sts_machine.specs.Machine.{Seen}
 use Rattle.sts_machine.specs.Slice.{steps_of}
 use Rattle.sts_machine.proofs.Cutting.{are_safe}
+use Rattle.sts_machine.proofs.LocalSteps.{was-free}
 use Rattle.sts_machine.proofs.Putting.{in_order, lawful, others_there, put_back, put_on, reached, stands_there}
 use Rattle.sts_machine.proofs.Turning.{alive, runs_well}
 use Rattle.sts_machine.proofs.machine.Machine.run_here.Goals as goal
@@ -45,6 +46,19 @@ say_stand-requires-clause-others c =
     let done = ap (λ is. locals is (frame_of m t) c.run_local-done.result) (sym own) ∙ c.run_local-done.ensures.local in
     let g = put_on p m n c.self.invariant t (alive p m n c.self.invariant t can) f c.run_local-done.result done in
     others_there c.run_local-done.new.self g c.run_local-done.ensures.live c.program-program.result.now c.program-program.ensures.value c.run_local-done.ensures.unseen
+
+pub say_stand-requires-clause-free : goal.say_stand-requires-clause-free
+say_stand-requires-clause-free c = λ some.
+    let p = c.self.inside.verified.now in
+    let m = c.self.inside.store in
+    let n = c.self.inside.steps in
+    let t = c.args.task in
+    let can = subst (λ (s : Seen). live_can_step s.program s.live t ≡ true) (sym c.self.view_is) c.requires in
+    let own = c.code-code.ensures.value ∙ ap (λ q. code q c.frame.result.now) c.program-program.ensures.value ∙ ap (code p) c.frame.ensures in
+    let done = ap (λ is. locals is (frame_of m t) c.run_local-done.result) (sym own) ∙ c.run_local-done.ensures.local in
+    ap (λ u. stand_in u t) c.run_local-done.ensures.unseen
+    ∙ c.self.invariant.standing t (alive p m n c.self.invariant t can)
+    ∙ was-free p (live_of m) t c.run_local-done.result (frame_of c.run_local-done.new.self t) some done
 
 pub overflow_add-self : goal.overflow_add-self
 overflow_add-self c =

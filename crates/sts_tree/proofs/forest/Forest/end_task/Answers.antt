@@ -1,9 +1,10 @@
-use Rattle.std.proofs.Common.{◌≡◌, refl, sym, ◌∙◌, ap, arith, cond, false, Some, None, get_or, set}
+use Rattle.std.proofs.Common.{◌≡◌, refl, sym, ◌∙◌, ap, arith, cond, false, Some, None, get_or, set, get_or-set_same, is_some}
 use Rattle.sts_tree.specs.Ending.{ended_in}
 use Rattle.sts_tree.specs.Forest.{families_of, family_of, ready_of, is_of}
 use Rattle.sts_tree.specs.Stored.{tasks_of, link_at}
 use Rattle.sts_tree.specs.declared.record.TaskNode.{TaskNode}
 use Rattle.sts_tree.proofs.BirthLemmas.{births_few}
+use Rattle.sts_tree.proofs.HoldingLemmas.{inside_of}
 use Rattle.sts_tree.proofs.Counts.{count_kept}
 use Rattle.sts_tree.proofs.Ends.{leaves, spare}
 use Rattle.sts_tree.proofs.Removing.{none_of, ends_alone, row_stands, living_with, EndsIn, ends_in}
@@ -23,6 +24,12 @@ returns-in_default-clause-ended g c x is =
     let own = own_task c.self.inside.tasks.held.slots c.args.t c.at.result.now x c.at.ensures.value (rw (← c.self.view_is) at is) in
     let none = ap (λ (y : TaskNode). y.scope) (sym own) ∙ none_of c.at.result.now.task.scope (λ s e. c.in_default.not-Some s e) in
     (rw (← c.self.view_is) (seen_is _ _ _ (w.tasks ∙ (rw own refl)) w.keys_are)) ∙ sym (ap (λ o. ended_in c.args.self.now c.args.t x c.args.end o) none)
+
+pub returns-in_default-clause-others : goal.returns-in_default-clause-others
+returns-in_default-clause-others g c x is =
+    let own = own_task c.self.inside.tasks.held.slots c.args.t c.at.result.now x c.at.ensures.value (rw (← c.self.view_is) at is) in
+    let none = ap (λ (y : TaskNode). y.scope) (sym own) ∙ none_of c.at.result.now.task.scope (λ s e. c.in_default.not-Some s e) in
+    rw none refl
 
 pub returns-clause-ready : goal.returns-clause-ready
 returns-clause-ready g c = rw (← c.self.view_is) (c.self.invariant.flags c.args.t c.at.result.now.task (task_at c.self.inside.tasks.held.slots c.args.t c.at.result.now c.at.ensures.value))
@@ -78,3 +85,14 @@ returns-clause-ended g c x is =
     let state = c.tell-asks.ensures.state ∙ ap (λ (y : TaskNode). cond c.at-row.result.now.scope.cancelled y.state (Some c.args.end)) own in
     (rw (← c.self.view_is, a.tasks, a.keys_are, scopes, c.unlink-row.ensures.rest.room, c.unlink-row.ensures.rest.keys, own) refl)
     ∙ is_ended c.args.self.now c.args.t c.in-Some.s x c.args.end c.tell-asks.new.state c.at-row.result.now.scope c.tell-asks.new.scope (ap (λ (y : TaskNode). y.scope) (sym own) ∙ c.in-Some.is) there state c.tell-asks.ensures.scope
+
+pub returns-clause-others : goal.returns-clause-others
+returns-clause-others g c x is =
+    let a = after g c in
+    let own = own_task c.self.inside.tasks.held.slots c.args.t c.at.result.now x c.at.ensures.value (rw (← c.self.view_is) at is) in
+    let scope : x.scope ≡ Some c.in-Some.s = ap (λ (y : TaskNode). y.scope) (sym own) ∙ c.in-Some.is in
+    let f = family_at c.self.inside.scopes.slots c.in-Some.s c.at-row.result.now c.at-row.ensures.value in
+    let row = family_of (record c.at-row.result.now { scope = c.tell-asks.new.scope; living = c.unlink-row.result }) in
+    let there = get_or-set_same (families_of c.self.inside.scopes.slots) c.in-Some.s (Some row) None (inside_of (families_of c.self.inside.scopes.slots) c.in-Some.s (λ n. let q = sym f ∙ n in cc)) in
+    let first = (a.is.living c.in-Some.s row there).first in
+    rw scope (c.is_some.ensures ∙ ap is_some first)
