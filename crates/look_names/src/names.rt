@@ -111,7 +111,11 @@ fn value_names<'t>(
 }
 
 /// Returns the functions of a text with their lines, or none if the text has a fault.
-fn outline_of<'t>(alloc: Global, text: &'t [u8]) -> Result<Outline<'t>, AllocError>
+///
+/// # Errors
+///
+/// Memory ran out.
+pub fn outline_of<'t>(alloc: Global, text: &'t [u8]) -> Result<Outline<'t>, AllocError>
     ensures { IfOk result (λ o. o ≡ def.outline_of text.now) }
 {
     match outlined(alloc, text) {

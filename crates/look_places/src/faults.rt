@@ -7,6 +7,7 @@ ghost use Rattle.look_places.specs.Faults as def;
 
 use crate::heads::{failing, head_line, is_of_head};
 use crate::marks::Source;
+use look_names::Said;
 use look_text::say;
 use std::alloc::{AllocError, Global};
 use sts_asm::{AsmError, AsmKind, Outline, outlined};
@@ -70,7 +71,7 @@ pub(crate) fn fault_line(
 }
 
 /// ` C4`, of a failed check
-fn say_check(alloc: Global, out: &mut Vec<u8>, kind: AsmKind) -> Result<(), AllocError>
+fn say_check(alloc: Global, out: &mut Vec<u8>, kind: AsmKind) -> Said
     ensures { OnOk result (out.new.items ≡ out.old.items ++ check_words kind) }
 {
     match kind {

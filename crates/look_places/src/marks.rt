@@ -7,9 +7,9 @@ ghost use Rattle.sts_asm.specs.Source.{line_at as line_of_text};
 ghost use Rattle.look_names.specs.Names.{line_name};
 ghost use Rattle.look_places.specs.Marks as def;
 
-use look_names::Names;
+use look_names::{Names, Said};
 use look_text::say;
-use std::alloc::{AllocError, Global};
+use std::alloc::Global;
 use std::marker::Model;
 use sts_output::line_at;
 use sts_text::digits_up_to;
@@ -138,40 +138,32 @@ fn is_place(name: &[u8]) -> bool
     !file.is_empty() && digits_up_to(line, u32::MAX).is_some()
 }
 
-/// `FILE:LINE:COLUMN`
-fn say_plain_mark(
-    alloc: Global,
-    out: &mut Vec<u8>,
-    source: &Source<'_, '_>,
-    line: u32,
-) -> Result<(), AllocError>
-    ensures { OnOk result (out.new.items ≡ out.old.items ++ def.plain_mark source.now line) }
-{
-    let column = column_at(source.text(), line);
-    let place = format!(in alloc; ":{line}:{column}")?;
-    say(out, source.file())?;
-    say(out, place.as_str())
-}
+impl Source<'_, '_> {
+    /// `FILE:LINE:COLUMN`
+    fn say_plain_mark(&self, alloc: Global, out: &mut Vec<u8>, line: u32) -> Said
+        ensures { OnOk result (out.new.items ≡ out.old.items ++ def.plain_mark self.now line) }
+    {
+        let column = column_at(self.text(), line);
+        let place = format!(in alloc; ":{line}:{column}")?;
+        say(out, self.file())?;
+        say(out, place.as_str())
+    }
 
-/// Appends the place of the line of this number: its name, if that is a place.
-///
-/// # Errors
-///
-/// Memory ran out; `out` may then have a part of it.
-pub(crate) fn say_mark(
-    alloc: Global,
-    out: &mut Vec<u8>,
-    source: &Source<'_, '_>,
-    line: u32,
-) -> Result<(), AllocError>
-    ensures { OnOk result (out.new.items ≡ out.old.items ++ def.mark source.now line) }
-{
-    match source.name(line) {
-        None => say_plain_mark(alloc, out, source, line),
-        Some(name) => if is_place(name.as_bytes()) {
-            say(out, name)
-        } else {
-            say_plain_mark(alloc, out, source, line)
+    /// Appends the place of the line of this number: its name, if that is a place.
+    ///
+    /// # Errors
+    ///
+    /// Memory ran out; `out` may then have a part of it.
+    pub(crate) fn say_mark(&self, alloc: Global, out: &mut Vec<u8>, line: u32) -> Said
+        ensures { OnOk result (out.new.items ≡ out.old.items ++ def.mark self.now line) }
+    {
+        match self.name(line) {
+            None => self.say_plain_mark(alloc, out, line),
+            Some(name) => if is_place(name.as_bytes()) {
+                say(out, name)
+            } else {
+                self.say_plain_mark(alloc, out, line)
+            }
         }
     }
 }

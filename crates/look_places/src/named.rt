@@ -7,7 +7,7 @@ ghost use Rattle.sts_text.specs.Words.{lines};
 ghost use Rattle.look_places.specs.Named as def;
 
 use crate::explained::explained;
-use look_names::Names;
+use look_names::{Names, Said};
 use look_refusal::Explanation;
 use look_text::say;
 use std::alloc::{AllocError, Global};
@@ -48,7 +48,7 @@ fn number_in(word: &[u8]) -> Option<u32>
 }
 
 /// ` (NAME)`, if the line of the number that a word begins with has a name.
-fn say_name(out: &mut Vec<u8>, names: &Names<'_>, word: &[u8]) -> Result<(), AllocError>
+fn say_name(out: &mut Vec<u8>, names: &Names<'_>, word: &[u8]) -> Said
     ensures { OnOk result (out.new.items ≡ out.old.items ++ def.name_by names.now word.now) }
 {
     let Some(line) = number_in(word) else {
@@ -62,12 +62,7 @@ fn say_name(out: &mut Vec<u8>, names: &Names<'_>, word: &[u8]) -> Result<(), All
     say(out, ")")
 }
 
-fn say_name_if(
-    out: &mut Vec<u8>,
-    names: &Names<'_>,
-    is_number: bool,
-    word: &[u8],
-) -> Result<(), AllocError>
+fn say_name_if(out: &mut Vec<u8>, names: &Names<'_>, is_number: bool, word: &[u8]) -> Said
     ensures { OnOk result (out.new.items
         ≡ out.old.items ++ def.name_if names.now is_number word.now) }
 {
@@ -79,7 +74,7 @@ fn say_name_if(
 }
 
 /// Appends the names of the lines that these words mention.
-fn say_names<'a>(out: &mut Vec<u8>, names: &Names<'_>, words: Words<'a>) -> Result<(), AllocError>
+fn say_names<'a>(out: &mut Vec<u8>, names: &Names<'_>, words: Words<'a>) -> Said
     ensures { OnOk result (out.new.items
         ≡ out.old.items ++ def.names_in names.now false words.entry) }
 {
@@ -92,7 +87,7 @@ fn say_names<'a>(out: &mut Vec<u8>, names: &Names<'_>, words: Words<'a>) -> Resu
     Ok(())
 }
 
-fn say_line(out: &mut Vec<u8>, names: &Names<'_>, line: &[u8]) -> Result<(), AllocError>
+fn say_line(out: &mut Vec<u8>, names: &Names<'_>, line: &[u8]) -> Said
     ensures { OnOk result (out.new.items ≡ out.old.items ++ def.named_line names.now line.now) }
 {
     out.extend_from_slice(line)?;
@@ -100,7 +95,7 @@ fn say_line(out: &mut Vec<u8>, names: &Names<'_>, line: &[u8]) -> Result<(), All
     say(out, "\n")
 }
 
-fn say_line_if(out: &mut Vec<u8>, names: &Names<'_>, line: &[u8]) -> Result<(), AllocError>
+fn say_line_if(out: &mut Vec<u8>, names: &Names<'_>, line: &[u8]) -> Said
     ensures { OnOk result (out.new.items ≡ out.old.items ++ def.named_if names.now line.now) }
 {
     if line.is_empty() {
@@ -111,7 +106,7 @@ fn say_line_if(out: &mut Vec<u8>, names: &Names<'_>, line: &[u8]) -> Result<(), 
 }
 
 /// Appends lines, each with the names of the lines that it mentions.
-fn say_lines(out: &mut Vec<u8>, names: &Names<'_>, told: &[u8]) -> Result<(), AllocError>
+fn say_lines(out: &mut Vec<u8>, names: &Names<'_>, told: &[u8]) -> Said
     ensures { OnOk result (out.new.items
         ≡ out.old.items ++ def.named_lines names.now (lines told.now)) }
 {

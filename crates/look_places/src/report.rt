@@ -14,11 +14,8 @@ ghost use Rattle.look_places.specs.Reports as def;
 use crate::explained::explained;
 use crate::faults::{fault_code, fault_line};
 use crate::marks::Source;
-use crate::reporting::say_reported;
-use crate::rules::{outline_of, say_rules};
-use crate::ways::say_ways;
 use look_accepted::{Note, all_notes};
-use look_names::Names;
+use look_names::{Names, outline_of};
 use look_refusal::Explanation;
 use look_text::fault_lines;
 use std::alloc::{AllocError, Global};
@@ -46,10 +43,9 @@ fn faulty(
     let mut explained = Vec::new(alloc);
     fault_lines(alloc, &mut explained, error, source.text())?;
     let mut bytes = Vec::new(alloc);
-    say_reported(
+    source.say_reported(
         alloc,
         &mut bytes,
-        source,
         line,
         code.as_slice(),
         explained.as_slice(),
@@ -85,10 +81,9 @@ fn refusal_lines(
     let code = format!(in alloc; "V{number}")?;
     let line = source.line_of(function, pc);
     let mut bytes = Vec::new(alloc);
-    say_reported(
+    source.say_reported(
         alloc,
         &mut bytes,
-        source,
         line,
         code.as_bytes(),
         told.bytes.as_slice(),
@@ -111,7 +106,7 @@ fn refused(
     let printed = explained(alloc, source.text())?;
     let told = whole(printed)?;
     let mut bytes = refusal_lines(alloc, source, function, pc, cause, &told)?;
-    say_ways(alloc, &mut bytes, source, program, function, pc, cause)?;
+    source.say_ways(alloc, &mut bytes, program, function, pc, cause)?;
     Ok(Explanation { bytes, status: 4 })
 }
 
@@ -126,7 +121,7 @@ fn rules_report(
 {
     let outline = outline_of(alloc, source.text())?;
     let mut bytes = Vec::new(alloc);
-    say_rules(alloc, &mut bytes, source, &outline, program, notes)?;
+    source.say_rules(alloc, &mut bytes, &outline, program, notes)?;
     Ok(Explanation { bytes, status: 0 })
 }
 

@@ -4,126 +4,112 @@ ghost use Rattle.std.specs.Prelude.{◌≡◌, ◌++◌, OnOk};
 ghost use Rattle.sts_text.specs.Words.{lines};
 ghost use Rattle.look_places.specs.Reports as def;
 
-use crate::marks::{Source, say_mark};
+use crate::marks::Source;
+use look_names::Said;
 use look_text::say;
-use std::alloc::{AllocError, Global};
+use std::alloc::Global;
 use sts_text::cut_at_newline;
 
-/// `FILE:LINE:COLUMN: V13: what to do`
-fn say_problem(
-    alloc: Global,
-    out: &mut Vec<u8>,
-    source: &Source<'_, '_>,
-    line: u32,
-    code: &[u8],
-    message: &[u8],
-) -> Result<(), AllocError>
-    ensures { OnOk result (out.new.items
-        ≡ out.old.items ++ def.problem source.now line code.now message.now) }
-{
-    say_mark(alloc, out, source, line)?;
-    say(out, ": ")?;
-    out.extend_from_slice(code)?;
-    say(out, ": ")?;
-    out.extend_from_slice(message)?;
-    say(out, "\n")
-}
-
-/// Appends `FILE:LINE:COLUMN: note: WORDS`.
-///
-/// # Errors
-///
-/// Memory ran out; `out` may then have a part of it.
-pub(crate) fn say_note(
-    alloc: Global,
-    out: &mut Vec<u8>,
-    source: &Source<'_, '_>,
-    line: u32,
-    words: &[u8],
-) -> Result<(), AllocError>
-    ensures { OnOk result (out.new.items ≡ out.old.items ++ def.note source.now line words.now) }
-{
-    say_mark(alloc, out, source, line)?;
-    say(out, ": note: ")?;
-    out.extend_from_slice(words)?;
-    say(out, "\n")
-}
-
-fn say_note_if(
-    alloc: Global,
-    out: &mut Vec<u8>,
-    source: &Source<'_, '_>,
-    line: u32,
-    words: &[u8],
-) -> Result<(), AllocError>
-    ensures { OnOk result (out.new.items
-        ≡ out.old.items ++ def.note_if source.now line words.now) }
-{
-    if words.is_empty() {
-        Ok(())
-    } else {
-        say_note(alloc, out, source, line, words)
+impl Source<'_, '_> {
+    /// `FILE:LINE:COLUMN: V13: what to do`
+    fn say_problem(
+        &self,
+        alloc: Global,
+        out: &mut Vec<u8>,
+        line: u32,
+        code: &[u8],
+        message: &[u8],
+    ) -> Said
+        ensures { OnOk result (out.new.items
+            ≡ out.old.items ++ def.problem self.now line code.now message.now) }
+    {
+        self.say_mark(alloc, out, line)?;
+        say(out, ": ")?;
+        out.extend_from_slice(code)?;
+        say(out, ": ")?;
+        out.extend_from_slice(message)?;
+        say(out, "\n")
     }
-}
 
-/// A note for each line that has a byte.
-fn say_notes(
-    alloc: Global,
-    out: &mut Vec<u8>,
-    source: &Source<'_, '_>,
-    line: u32,
-    words: &[u8],
-) -> Result<(), AllocError>
-    ensures { OnOk result (out.new.items
-        ≡ out.old.items ++ def.notes source.now line (lines words.now)) }
-{
-    let mut rest = words;
-    while let Some((one, after)) = cut_at_newline(rest) {
-        say_note_if(alloc, out, source, line, one)?;
-        rest = after;
+    /// Appends `FILE:LINE:COLUMN: note: WORDS`.
+    ///
+    /// # Errors
+    ///
+    /// Memory ran out; `out` may then have a part of it.
+    pub(crate) fn say_note(&self, alloc: Global, out: &mut Vec<u8>, line: u32, words: &[u8]) -> Said
+        ensures { OnOk result (out.new.items
+            ≡ out.old.items ++ def.note self.now line words.now) }
+    {
+        self.say_mark(alloc, out, line)?;
+        say(out, ": note: ")?;
+        out.extend_from_slice(words)?;
+        say(out, "\n")
     }
-    say_note_if(alloc, out, source, line, rest)
-}
 
-/// The first line says what to do, and each other one is a note.
-fn say_below(
-    alloc: Global,
-    out: &mut Vec<u8>,
-    source: &Source<'_, '_>,
-    line: u32,
-    code: &[u8],
-    words: &[u8],
-) -> Result<(), AllocError>
-    ensures { OnOk result (out.new.items
-        ≡ out.old.items ++ def.below source.now line code.now (lines words.now)) }
-{
-    match cut_at_newline(words) {
-        None => say_problem(alloc, out, source, line, code, words),
-        Some((message, more)) => {
-            say_problem(alloc, out, source, line, code, message)?;
-            say_notes(alloc, out, source, line, more)
+    fn say_note_if(&self, alloc: Global, out: &mut Vec<u8>, line: u32, words: &[u8]) -> Said
+        ensures { OnOk result (out.new.items
+            ≡ out.old.items ++ def.note_if self.now line words.now) }
+    {
+        if words.is_empty() {
+            Ok(())
+        } else {
+            self.say_note(alloc, out, line, words)
         }
     }
-}
 
-/// Appends the lines of an explanation, as editors read them. Its first line says where it is.
-///
-/// # Errors
-///
-/// Memory ran out; `out` may then have a part of them.
-pub(crate) fn say_reported(
-    alloc: Global,
-    out: &mut Vec<u8>,
-    source: &Source<'_, '_>,
-    line: u32,
-    code: &[u8],
-    explained: &[u8],
-) -> Result<(), AllocError>
-    ensures { OnOk result (out.new.items
-        ≡ out.old.items ++ def.reported source.now line code.now (lines explained.now)) }
-{
-    match cut_at_newline(explained) {
-        None => Ok(()),
-        Some((_, rest)) => say_below(alloc, out, source, line, code, rest),
+    /// A note for each line that has a byte.
+    fn say_notes(&self, alloc: Global, out: &mut Vec<u8>, line: u32, words: &[u8]) -> Said
+        ensures { OnOk result (out.new.items
+            ≡ out.old.items ++ def.notes self.now line (lines words.now)) }
+    {
+        let mut rest = words;
+        while let Some((one, after)) = cut_at_newline(rest) {
+            self.say_note_if(alloc, out, line, one)?;
+            rest = after;
+        }
+        self.say_note_if(alloc, out, line, rest)
+    }
+
+    /// The first line says what to do, and each other one is a note.
+    fn say_below(
+        &self,
+        alloc: Global,
+        out: &mut Vec<u8>,
+        line: u32,
+        code: &[u8],
+        words: &[u8],
+    ) -> Said
+        ensures { OnOk result (out.new.items
+            ≡ out.old.items ++ def.below self.now line code.now (lines words.now)) }
+    {
+        match cut_at_newline(words) {
+            None => self.say_problem(alloc, out, line, code, words),
+            Some((message, more)) => {
+                self.say_problem(alloc, out, line, code, message)?;
+                self.say_notes(alloc, out, line, more)
+            }
+        }
+    }
+
+    /// Appends the lines of an explanation, as editors read them. Its first line says where it is.
+    ///
+    /// # Errors
+    ///
+    /// Memory ran out; `out` may then have a part of them.
+    pub(crate) fn say_reported(
+        &self,
+        alloc: Global,
+        out: &mut Vec<u8>,
+        line: u32,
+        code: &[u8],
+        explained: &[u8],
+    ) -> Said
+        ensures { OnOk result (out.new.items
+            ≡ out.old.items ++ def.reported self.now line code.now (lines explained.now)) }
+    {
+        match cut_at_newline(explained) {
+            None => Ok(()),
+            Some((_, rest)) => self.say_below(alloc, out, line, code, rest),
+        }
     }
 }

@@ -3,7 +3,7 @@ use Rattle.sts_rules.specs.Refusal.{IsTypeRefusal}
 use Rattle.sts_rules.specs.declared.typing.Cause.TheVariants.{StatesDiffer}
 use Rattle.look_refusal.proofs.TellLemmas.{type_refusal}
 use Rattle.look_places.specs.Reports.{added, meeting_notes, meets}
-use Rattle.look_places.proofs.ways.say_met.Goals as goal
+use Rattle.look_places.proofs.marks.Source.say_met.Goals as goal
 
 pub returns-in-None : goal.returns-in-None
 returns-in-None c =
@@ -12,6 +12,6 @@ returns-in-None c =
 
 pub returns-in_ok-say_meeting-in-Some : goal.returns-in_ok-say_meeting-in-Some
 returns-in_ok-say_meeting-in-Some c =
-    added (meeting_notes c.args.source.now c.args.function c.in-Some.meeting)
+    added (meeting_notes c.args.self.now c.args.function c.in-Some.meeting)
     (meets c.in-Some.meeting (rw c.in-Some.is at c.in_ok-find_meeting.ensures))
     c.in_ok-say_meeting-in-Some.ensures
