@@ -5,8 +5,8 @@ ghost use Rattle.look_accepted.specs.Lines as def;
 
 use crate::notes::Note;
 use crate::reliance::Reliance;
-use look_text::{say, say_place};
-use std::alloc::{AllocError, Global};
+use look_text::{Said, say, say_place};
+use std::alloc::Global;
 use sts_asm::Outline;
 use sts_code::{Program, name_of};
 
@@ -31,7 +31,7 @@ fn say_note(
     outline: &Outline<'_>,
     program: &Program,
     note: Note,
-) -> Result<(), AllocError>
+) -> Said
     ensures { OnOk result (out.new.items
         ≡ out.old.items ++ def.note_line outline.now program.now note) }
 {
@@ -52,7 +52,7 @@ pub fn note_lines(
     outline: &Outline<'_>,
     program: &Program,
     notes: &[Note],
-) -> Result<(), AllocError>
+) -> Said
     ensures { OnOk result (out.new.items
         ≡ out.old.items ++ def.note_lines outline.now program.now notes.now) }
 {

@@ -1,5 +1,7 @@
 -- The word at which a program check fails.
-use Rattle.std.proofs.Common.{◌≡◌, ℕ, zero, suc, ◌+◌, ◌<◌, List, [], ◌∷◌, ◌++◌, Bool, true, false, slice_get, take, drop, refl, sym, ap, ◌∙◌, append_assoc, arith}
+use Rattle.std.proofs.Common.{◌≡◌, ℕ, zero, suc, ◌+◌, ◌<◌, List, [], ◌∷◌, ◌++◌, Bool, true, false, slice_get, take, drop, length, refl, sym, ap, ◌∙◌, append_assoc, arith}
+use Rattle.std.proofs.Math.Seq.{take-append_seam}
+use Rattle.std.proofs.lemmas.List.{append-nil}
 use Rattle.std.specs.Prelude.{Some, None, Option, option_map, ◌||◌, if◌then◌else◌, codes}
 use Rattle.std.specs.List.{list_any}
 use Rattle.std.specs.Str.{bytes_eq}
@@ -47,6 +49,12 @@ failed_said test wanted there word words left told said before was more now whol
     end ∙ ap (λ (w : Expected). more ++ stop_words (first_wrong w word)) other
     ∙ ap (λ (x : List ℕ). x ++ last) (g ∙ ap (λ (x : List ℕ). x ++ said) old ∙ ap (λ (x : List ℕ). before ++ x) same)
     ∙ append_assoc before told last ∙ ap (λ (x : List ℕ). before ++ x) line
+
+-- no word fails, and the words are taken back
+pub nothing_said : (before told said now : List ℕ) (start : ℕ) (whole : Option Stop) → said ≡ before ++ told → start ≡ length before → now ≡ take start said → [] ≡ said_if (codes "at") whole → now ≡ before ++ wrong_line whole
+nothing_said before told said now start whole e s t none =
+    t ∙ ap (λ (n : ℕ). take n said) s ∙ ap (take (length before)) e ∙ take-append_seam before told ∙ sym (append-nil before)
+    ∙ ap (λ (x : List ℕ). before ++ x) (none ∙ at_line whole)
 
 -- ---- earlier functions
 

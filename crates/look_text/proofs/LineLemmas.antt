@@ -1,10 +1,12 @@
 -- Texts that are appended in a row (for callers too), and a wrong word after others.
-use Rattle.std.proofs.Common.{◌≡◌, ℕ, List, [], ◌∷◌, ◌++◌, true, sym, ap, ◌∙◌, append_assoc}
-use Rattle.std.specs.Prelude.{if◌then◌else◌, Some, codes}
+use Rattle.std.proofs.Common.{◌≡◌, ℕ, List, [], ◌∷◌, ◌++◌, Bool, true, refl, sym, ap, ◌∙◌, append_assoc}
+use Rattle.std.specs.Prelude.{if◌then◌else◌, Some, codes, option_map, slice_get}
 use Rattle.std.proofs.lemmas.List.{append-nil}
+use Rattle.sts_asm.specs.declared.fault.AsmKind.TheVariants.{UnknownWord, DuplicateLabel}
 use Rattle.sts_list.specs.Spelling.{after_spaces}
 use Rattle.look_text.specs.declared.wanted.Expected.{Expected}
-use Rattle.look_text.specs.Wanted.{Stop, stop, behind, fits, after}
+use Rattle.look_text.specs.declared.wanted.Expected.TheVariants.{NewLabel}
+use Rattle.look_text.specs.Wanted.{Stop, stop, behind, fits, after, first_wrong, in_place_of, wrong_place}
 use Rattle.look_text.specs.Wrong.{bracketed, expected_words, wanted_words, stop_words}
 
 -- three texts are appended in a row
@@ -37,3 +39,12 @@ one_word_said wanted next word words left before space after_word e f n g h =
 -- one text more
 pub said_on : (before said more first second : List ℕ) → first ≡ before ++ said → second ≡ first ++ more → second ≡ before ++ (said ++ more)
 said_on before said more first second e f = f ∙ ap (λ (x : List ℕ). x ++ more) e ∙ append_assoc before said more
+
+-- the fault of a first word is in it, if there is one
+pub unknown_first : (inside : Bool) (words : List (List ℕ)) → wrong_place UnknownWord inside words ≡ option_map (first_wrong (in_place_of inside)) (slice_get words 0)
+unknown_first inside [] = refl
+unknown_first inside (word ∷ rest) = refl
+
+pub duplicate_first : (inside : Bool) (words : List (List ℕ)) → wrong_place DuplicateLabel inside words ≡ option_map (first_wrong NewLabel) (slice_get words 0)
+duplicate_first inside [] = refl
+duplicate_first inside (word ∷ rest) = refl

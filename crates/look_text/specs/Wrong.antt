@@ -1,11 +1,12 @@
 -- The wrong word or byte of a line, in its place (this project's own).
-use Rattle.std.specs.Prelude.{◌≡◌, ℕ, ◌+◌, List, [], ◌∷◌, ◌++◌, Option, Some, None}
+use Rattle.std.specs.Prelude.{◌≡◌, ℕ, ◌+◌, ◌<◌, List, [], ◌∷◌, ◌++◌, Option, Some, None}
+use Rattle.std.specs.Prelude.{length, drop, slice_get}
 use Rattle.std.specs.Prelude.{codes, if◌then◌else◌, ◌&&◌, ◌==◌}
 use Rattle.std.specs.Fmt.{decimal}
 use Rattle.std.specs.Str.{bytes_eq}
 use Rattle.sts_asm.specs.Marks.{Names}
 use Rattle.sts_asm.specs.Outline.{Outline, Sentence, is_allowed}
-use Rattle.sts_asm.specs.Source.{line_at, words_at}
+use Rattle.sts_asm.specs.Source.{line_at, names_at, sentences_of, words_at}
 use Rattle.sts_asm.specs.declared.fault.AsmKind.{AsmKind}
 use Rattle.sts_asm.specs.declared.fault.AsmKind.TheVariants.{NotAscii, UnknownLabel, BadOperands}
 use Rattle.sts_list.specs.Spelling.{after_spaces}
@@ -14,7 +15,7 @@ use Rattle.look_text.specs.Colon.{colon_part}
 use Rattle.look_text.specs.Java.{java_word}
 use Rattle.look_text.specs.Near.{meant}
 use Rattle.look_text.specs.NearName.{near_in}
-use Rattle.look_text.specs.Names.{line_stop, lines_stop, unknown_name}
+use Rattle.look_text.specs.Names.{functions_stop, line_stop, lines_stop, unknown_name}
 use Rattle.look_text.specs.Wanted.{Stop, wrong_place}
 use Rattle.look_text.specs.declared.wanted.Expected.{Expected}
 use Rattle.look_text.specs.Functions.{functions_of}
@@ -70,6 +71,18 @@ pub record StopsAt (names : Names) (lines : List Sentence) (s : Sentence) : Type
   pub stop : Stop
   pub here : line_stop names s.words ≡ Some stop
   pub first : lines_stop names lines ≡ Some stop
+
+-- the first function with a word that names nothing, and its first line with one
+pub record IsFirst (o : Outline) (f : ℕ) (s : Sentence) : Type 0 where
+  pub within : f < length o.done
+  pub stops : StopsAt (names_at o f) (sentences_of (slice_get o.done f)) s
+  pub unknown : unknown_name o ≡ functions_stop o.functions (drop f o.done)
+  pub near : (text : List ℕ) → near_in text o o.done ≡ near_in text o (drop f o.done)
+
+-- each word of the text that should name something does
+pub record AllNamed (o : Outline) : Type 0 where
+  pub unknown : unknown_name o ≡ None
+  pub near : (text : List ℕ) → near_in text o o.done ≡ None
 
 -- the line of an unknown name, and that of the name that may be meant, from the functions of a text,
 -- if they were read

@@ -5,15 +5,14 @@ ghost use Rattle.std.specs.Option.{option_copied};
 ghost use Rattle.look_text.specs.Checks as def;
 ghost use Rattle.look_text.specs.Functions.{functions_of};
 
-use crate::functions::functions_of;
 use crate::heads::head_line;
-use crate::lines::{say, say_line};
-use std::alloc::{AllocError, Global};
+use crate::lines::{Said, say, say_line};
+use std::alloc::Global;
 use sts_asm::{Outline, Sentence, words_at};
 use sts_code::{CodeCause, CodeError, MAX_ARGS, MAX_FUNCTIONS};
 use sts_text::Words;
 
-fn say_function(out: &mut Vec<u8>, name: Option<&str>) -> Result<(), AllocError>
+fn say_function(out: &mut Vec<u8>, name: Option<&str>) -> Said
     ensures { OnOk result (out.new.items
         ≡ out.old.items ++ def.in_function (option_map (λ n. n.now) name.entry)) }
 {
@@ -27,7 +26,7 @@ fn say_function(out: &mut Vec<u8>, name: Option<&str>) -> Result<(), AllocError>
 }
 
 /// The function that the line of its head names.
-fn say_named<'a>(out: &mut Vec<u8>, words: Words<'a>) -> Result<(), AllocError>
+fn say_named<'a>(out: &mut Vec<u8>, words: Words<'a>) -> Said
     ensures { OnOk result (out.new.items
         ≡ out.old.items ++ def.in_function (slice_get words.entry 1)) }
 {
@@ -42,12 +41,7 @@ fn say_named<'a>(out: &mut Vec<u8>, words: Words<'a>) -> Result<(), AllocError>
     }
 }
 
-fn say_head(
-    alloc: Global,
-    out: &mut Vec<u8>,
-    text: &[u8],
-    line: Option<u32>,
-) -> Result<(), AllocError>
+fn say_head(alloc: Global, out: &mut Vec<u8>, text: &[u8], line: Option<u32>) -> Said
     ensures { OnOk result (out.new.items ≡ out.old.items ++ def.head_place text.now line) }
 {
     match line {
@@ -59,11 +53,7 @@ fn say_head(
     }
 }
 
-fn say_instr(
-    alloc: Global,
-    out: &mut Vec<u8>,
-    sentence: Option<&Sentence<'_>>,
-) -> Result<(), AllocError>
+fn say_instr(alloc: Global, out: &mut Vec<u8>, sentence: Option<&Sentence<'_>>) -> Said
     ensures { OnOk result (out.new.items
         ≡ out.old.items ++ def.instr_place (option_copied sentence.entry)) }
 {
@@ -73,7 +63,8 @@ fn say_instr(
     }
 }
 
-pub(crate) fn failing(outline: &Outline<'_>, error: CodeError) -> usize
+/// Returns the function that a failed check is about.
+pub fn failing_function(outline: &Outline<'_>, error: CodeError) -> usize
     ensures { result ≡ def.failing outline.now error.function error.cause }
 {
     match error.cause {
@@ -92,7 +83,8 @@ pub(crate) fn takes_too_many(args: Option<u8>) -> bool
     }
 }
 
-pub(crate) fn is_of_head(outline: &Outline<'_>, error: CodeError) -> bool
+/// Says whether a failed check is about a whole function, and not about an instruction.
+pub fn is_of_head(outline: &Outline<'_>, error: CodeError) -> bool
     ensures { result ≡ def.is_of_head outline.now error.function error.pc error.cause }
 {
     match error.cause {
@@ -111,20 +103,25 @@ fn say_check_place(
     outline: &Outline<'_>,
     error: CodeError,
     text: &[u8],
-) -> Result<(), AllocError>
+) -> Said
     requires { length text.now ≤ 1048576 }
     ensures { OnOk result (out.new.items
         ≡ out.old.items ++ def.check_place text.now outline.now error) }
 {
     if is_of_head(outline, error) {
-        return say_head(alloc, out, text, head_line(text, failing(outline, error)));
+        return say_head(
+            alloc,
+            out,
+            text,
+            head_line(text, failing_function(outline, error)),
+        );
     }
     say_function(out, outline.name(error.function))?;
     say_instr(alloc, out, outline.sentence(error.function, error.pc))
 }
 
 /// The place where a program check fails: the function, and the line of its head or of an
-/// instruction.
+/// instruction. `functions` are those of the text.
 ///
 /// # Errors
 ///
@@ -133,14 +130,16 @@ fn say_check_place(
 pub(crate) fn say_code_place(
     alloc: Global,
     out: &mut Vec<u8>,
+    functions: Option<&Outline<'_>>,
     error: CodeError,
     text: &[u8],
-) -> Result<(), AllocError>
+) -> Said
+    requires { functions_of text.now ≡ option_copied functions }
     ensures { OnOk result (out.new.items
         ≡ out.old.items ++ def.code_place text.now (functions_of text.now) error) }
 {
-    match functions_of(alloc, text)? {
+    match functions {
         None => Ok(()),
-        Some(outline) => say_check_place(alloc, out, &outline, error, text),
+        Some(outline) => say_check_place(alloc, out, outline, error, text),
     }
 }

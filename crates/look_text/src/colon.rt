@@ -5,8 +5,7 @@ ghost use Rattle.sts_text.specs.Words.{lines};
 ghost use Rattle.look_text.specs.Colon as def;
 
 use crate::inside::is_inside;
-use crate::lines::say;
-use std::alloc::AllocError;
+use crate::lines::{Said, say};
 use sts_asm::{AsmKind, words_at};
 use sts_text::{Words, cut_at_newline};
 
@@ -48,7 +47,7 @@ fn is_named_in(text: &[u8], name: &[u8]) -> bool
     comes_later(name, words_at(rest, 1))
 }
 
-fn say_colon(out: &mut Vec<u8>, name: &[u8]) -> Result<(), AllocError>
+fn say_colon(out: &mut Vec<u8>, name: &[u8]) -> Said
     ensures { OnOk result (out.new.items ≡ out.old.items ++ def.colon_words name.now) }
 {
     say(out, "a label ends with a colon: ")?;
@@ -56,7 +55,7 @@ fn say_colon(out: &mut Vec<u8>, name: &[u8]) -> Result<(), AllocError>
     say(out, ":\n")
 }
 
-fn colon_line<'a>(out: &mut Vec<u8>, text: &[u8], words: Words<'a>) -> Result<(), AllocError>
+fn colon_line<'a>(out: &mut Vec<u8>, text: &[u8], words: Words<'a>) -> Said
     ensures { OnOk result (out.new.items
         ≡ out.old.items ++ def.colon_line text.now words.entry) }
 {
@@ -76,12 +75,7 @@ fn colon_line<'a>(out: &mut Vec<u8>, text: &[u8], words: Words<'a>) -> Result<()
 /// # Errors
 ///
 /// Memory ran out; `out` may then have a part of it.
-pub(crate) fn colon_part(
-    out: &mut Vec<u8>,
-    kind: AsmKind,
-    text: &[u8],
-    line: u32,
-) -> Result<(), AllocError>
+pub(crate) fn colon_part(out: &mut Vec<u8>, kind: AsmKind, text: &[u8], line: u32) -> Said
     ensures { OnOk result (out.new.items ≡ out.old.items ++ def.colon_part kind text.now line) }
 {
     match kind {

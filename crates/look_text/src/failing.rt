@@ -8,13 +8,12 @@ ghost use Rattle.look_text.specs.Functions.{functions_of};
 ghost use Rattle.look_text.specs.Labels.{is_named};
 ghost use Rattle.look_text.specs.Wrong.{wrong_line};
 
-use crate::checks::{failing, is_of_head};
-use crate::functions::functions_of;
+use crate::checks::{failing_function, is_of_head};
 use crate::heads::head_line;
 use crate::labels::is_behind;
+use crate::lines::{Said, say};
 use crate::wanted::Expected;
 use crate::wrong::{form_line, say_word};
-use std::alloc::{AllocError, Global};
 use sts_asm::{Outline, Sentence, handle, slot, words_at};
 use sts_code::{CodeCause, CodeError, LAST_SLOT, MAX_ARGS, MAX_ENDS, MAX_TURNS};
 use sts_text::{Words, number_up_to};
@@ -136,30 +135,29 @@ fn wanted_there(wanted: Expected) -> Expected
 
 /// Appends the words up to the first that doesn't pass the check, and what is expected there.
 fn say_failing<'a>(
-    alloc: Global,
     out: &mut Vec<u8>,
     outline: &Outline<'_>,
     error: CodeError,
     text: &[u8],
     words: Words<'a>,
-) -> Result<(), AllocError>
+) -> Said
     ensures { OnOk result (out.new.items ≡ out.old.items ++ wrong_line
         (def.first_failing (def.passes text.now outline.now error.function error.cause)
         First words.entry)) }
 {
+    let start = out.len();
     let mut wanted = Expected::First;
     let mut left = words;
-    let mut told = Vec::new(alloc);
-    told.extend_from_slice(b"at")?;
+    say(out, "at")?;
     while let Some(word) = left.word() {
         if !passes(outline, error, text, wanted, word) {
-            out.extend_from_slice(told.as_slice())?;
             return say_word(out, word, wanted_there(wanted));
         }
-        told.push(b' ')?;
-        told.extend_from_slice(word)?;
+        out.push(b' ')?;
+        out.extend_from_slice(word)?;
         wanted = wanted.after(word);
     }
+    out.truncate(start);
     Ok(())
 }
 
@@ -186,7 +184,7 @@ fn check_words<'a>(outline: &Outline<'a>, error: CodeError, text: &'a [u8]) -> W
     ensures { result ≡ def.check_words text.now outline.now error }
 {
     if is_of_head(outline, error) {
-        head_words(text, head_line(text, failing(outline, error)))
+        head_words(text, head_line(text, failing_function(outline, error)))
     } else {
         instr_words(outline.sentence(error.function, error.pc))
     }
@@ -194,38 +192,39 @@ fn check_words<'a>(outline: &Outline<'a>, error: CodeError, text: &'a [u8]) -> W
 
 /// The word at which a program check fails, in its place, and the form of the line.
 fn check_part<'a>(
-    alloc: Global,
     out: &mut Vec<u8>,
     outline: &Outline<'a>,
     error: CodeError,
     text: &'a [u8],
-) -> Result<(), AllocError>
+) -> Said
     requires { length text.now ≤ 1048576 }
     ensures { OnOk result (out.new.items
         ≡ out.old.items ++ def.check_part text.now outline.now error) }
 {
     let words = check_words(outline, error, text);
-    say_failing(alloc, out, outline, error, text, words)?;
+    say_failing(out, outline, error, text, words)?;
     form_line(out, check_words(outline, error, text))
 }
 
-/// The line of the word at which a program check fails, and the form of the line.
+/// The line of the word at which a program check fails, and the form of the line. `functions` are
+/// those of the text.
 ///
 /// # Errors
 ///
 /// Memory ran out; `out` may then have a part of them.
 #[tactic(auto, using(crate::proofs::HeadLemmas::functions_short))]
-pub(crate) fn check_lines(
-    alloc: Global,
+pub(crate) fn check_lines<'a>(
     out: &mut Vec<u8>,
+    functions: Option<&Outline<'a>>,
     error: CodeError,
-    text: &[u8],
-) -> Result<(), AllocError>
+    text: &'a [u8],
+) -> Said
+    requires { functions_of text.now ≡ option_copied functions }
     ensures { OnOk result (out.new.items
         ≡ out.old.items ++ def.check_lines text.now (functions_of text.now) error) }
 {
-    match functions_of(alloc, text)? {
+    match functions {
         None => Ok(()),
-        Some(outline) => check_part(alloc, out, &outline, error, text),
+        Some(outline) => check_part(out, outline, error, text),
     }
 }

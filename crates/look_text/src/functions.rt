@@ -6,15 +6,12 @@ ghost use Rattle.look_text.specs.Functions as def;
 use std::alloc::{AllocError, Global};
 use sts_asm::{AsmError, AsmKind, Outline, outlined};
 
-/// The functions of a text, or none if a fault is found before any name is looked up.
+/// Returns the functions of a text, or none if a fault is found before any name is looked up.
 ///
 /// # Errors
 ///
 /// Memory ran out.
-pub(crate) fn functions_of<'a>(
-    alloc: Global,
-    text: &'a [u8],
-) -> Result<Option<Outline<'a>>, AllocError>
+pub fn functions_of<'a>(alloc: Global, text: &'a [u8]) -> Result<Option<Outline<'a>>, AllocError>
     ensures { IfOk result (λ found. def.functions_of text.now ≡ found) }
 {
     match outlined(alloc, text) {

@@ -31,8 +31,8 @@ fn left_behind(is_head: bool, left: usize) -> usize
     if is_head { left - 1 } else { left }
 }
 
-/// The number of the line that begins a function. Functions are counted from 0.
-pub(crate) fn head_line(text: &[u8], function: usize) -> Option<u32>
+/// Returns the number of the line that begins a function. Functions are counted from 0.
+pub fn head_line(text: &[u8], function: usize) -> Option<u32>
     requires { length text.now ≤ 1048576 }
     ensures { result ≡ def.head_at text.now function }
 {

@@ -23,4 +23,7 @@ mod sentences;
 pub mod wanted;
 mod wrong;
 
-pub use lines::{fault_lines, say, say_place};
+pub use checks::{failing_function, is_of_head};
+pub use functions::functions_of;
+pub use heads::head_line;
+pub use lines::{Said, fault_lines, say, say_check, say_number, say_place, say_words};

@@ -1,32 +1,54 @@
 //! The place of an instruction, and the lines that explain a fault of a text.
 
 ghost use Rattle.std.specs.Prelude.{◌≡◌, ◌++◌, OnOk};
+ghost use Rattle.std.specs.Fmt.{decimal};
 ghost use Rattle.std.specs.Option.{option_copied};
 ghost use Rattle.sts_list.specs.Spelling.{after_spaces};
 ghost use Rattle.look_text.specs.Checks.{line_words};
+ghost use Rattle.look_text.specs.Functions.{functions_of};
 ghost use Rattle.look_text.specs.Lines as def;
 
 use crate::checks::say_code_place;
 use crate::failing::check_lines;
+use crate::functions::functions_of;
 use crate::sentences::fault_sentence;
 use crate::wrong::wrong_part;
 use std::alloc::{AllocError, Global};
-use sts_asm::{AsmError, AsmKind, Sentence, words_at};
+use sts_asm::{AsmError, AsmKind, Outline, Sentence, words_at};
 use sts_text::Words;
+
+/// What a call that appends words returns: memory may run out.
+pub type Said = Result<(), AllocError>;
 
 /// Appends a text.
 ///
 /// # Errors
 ///
 /// Memory ran out.
-pub fn say(out: &mut Vec<u8>, text: &str) -> Result<(), AllocError>
+pub fn say(out: &mut Vec<u8>, text: &str) -> Said
     ensures { OnOk result (out.new.items ≡ out.old.items ++ text.now) }
 {
     out.extend_from_slice(text.as_bytes())
 }
 
+/// Appends words and a number.
+///
+/// # Errors
+///
+/// Memory ran out.
+pub fn say_number(alloc: Global, out: &mut Vec<u8>, words: &str, number: u128) -> Said
+    ensures { OnOk result (out.new.items ≡ out.old.items ++ words.now ++ decimal number) }
+{
+    let said = format!(in alloc; "{words}{number}")?;
+    say(out, said.as_str())
+}
+
 /// Appends each word after a space.
-fn say_words<'a>(out: &mut Vec<u8>, words: Words<'a>) -> Result<(), AllocError>
+///
+/// # Errors
+///
+/// Memory ran out; `out` may then have a part of them.
+pub fn say_words<'a>(out: &mut Vec<u8>, words: Words<'a>) -> Said
     ensures { OnOk result (out.new.items ≡ out.old.items ++ after_spaces words.entry) }
 {
     let mut left = words;
@@ -37,16 +59,11 @@ fn say_words<'a>(out: &mut Vec<u8>, words: Words<'a>) -> Result<(), AllocError>
     Ok(())
 }
 
-pub(crate) fn say_line<'a>(
-    alloc: Global,
-    out: &mut Vec<u8>,
-    line: u32,
-    words: Words<'a>,
-) -> Result<(), AllocError>
+pub(crate) fn say_line<'a>(alloc: Global, out: &mut Vec<u8>, line: u32, words: Words<'a>) -> Said
     ensures { OnOk result (out.new.items ≡ out.old.items ++ line_words line words.entry) }
 {
-    let number = format!(in alloc; ", line {line}:")?;
-    say(out, number.as_str())?;
+    say_number(alloc, out, ", line ", line as u128)?;
+    say(out, ":")?;
     say_words(out, words)
 }
 
@@ -55,11 +72,7 @@ pub(crate) fn say_line<'a>(
 /// # Errors
 ///
 /// Memory ran out; `out` may then have a part of it.
-pub fn say_place(
-    alloc: Global,
-    out: &mut Vec<u8>,
-    sentence: Option<&Sentence<'_>>,
-) -> Result<(), AllocError>
+pub fn say_place(alloc: Global, out: &mut Vec<u8>, sentence: Option<&Sentence<'_>>) -> Said
     ensures { OnOk result (out.new.items
         ≡ out.old.items ++ def.place_words (option_copied sentence.entry)) }
 {
@@ -79,13 +92,7 @@ fn fault_words(kind: AsmKind, text: &[u8], line: u32) -> Words<'_>
     }
 }
 
-fn say_line_place(
-    alloc: Global,
-    out: &mut Vec<u8>,
-    kind: AsmKind,
-    line: u32,
-    text: &[u8],
-) -> Result<(), AllocError>
+fn say_line_place(alloc: Global, out: &mut Vec<u8>, kind: AsmKind, line: u32, text: &[u8]) -> Said
     ensures { OnOk result (out.new.items ≡ out.old.items ++ def.line_place kind line text.now) }
 {
     if line == 0 {
@@ -98,27 +105,30 @@ fn say_line_place(
 fn say_fault_place(
     alloc: Global,
     out: &mut Vec<u8>,
+    functions: Option<&Outline<'_>>,
     error: AsmError,
     text: &[u8],
-) -> Result<(), AllocError>
+) -> Said
+    requires { functions_of text.now ≡ option_copied functions }
     ensures { OnOk result (out.new.items
         ≡ out.old.items ++ def.fault_place error.kind error.line text.now) }
 {
     match error.kind {
-        AsmKind::Code(code) => say_code_place(alloc, out, code, text),
+        AsmKind::Code(code) => say_code_place(alloc, out, functions, code, text),
         kind => say_line_place(alloc, out, kind, error.line, text),
     }
 }
 
-fn say_check(alloc: Global, out: &mut Vec<u8>, kind: AsmKind) -> Result<(), AllocError>
+/// Appends the number of a failed check, as ` C4`, if the fault is one.
+///
+/// # Errors
+///
+/// Memory ran out.
+pub fn say_check(alloc: Global, out: &mut Vec<u8>, kind: AsmKind) -> Said
     ensures { OnOk result (out.new.items ≡ out.old.items ++ def.check_words kind) }
 {
     match kind {
-        AsmKind::Code(code) => {
-            let number = code.cause.number();
-            let words = format!(in alloc; " C{number}")?;
-            say(out, words.as_str())
-        }
+        AsmKind::Code(code) => say_number(alloc, out, " C", code.cause.number() as u128),
         _ => Ok(()),
     }
 }
@@ -126,31 +136,51 @@ fn say_check(alloc: Global, out: &mut Vec<u8>, kind: AsmKind) -> Result<(), Allo
 fn say_fault_head(
     alloc: Global,
     out: &mut Vec<u8>,
+    functions: Option<&Outline<'_>>,
     error: AsmError,
     text: &[u8],
-) -> Result<(), AllocError>
+) -> Said
+    requires { functions_of text.now ≡ option_copied functions }
     ensures { OnOk result (out.new.items ≡ out.old.items ++ def.fault_head error text.now) }
 {
-    let number = error.kind.number();
-    let head = format!(in alloc; "error A{number}")?;
-    say(out, head.as_str())?;
+    say_number(alloc, out, "error A", error.kind.number() as u128)?;
     say_check(alloc, out, error.kind)?;
-    say_fault_place(alloc, out, error, text)
+    say_fault_place(alloc, out, functions, error, text)
 }
 
-fn say_fault_part(
+fn say_fault_part<'a>(
     alloc: Global,
     out: &mut Vec<u8>,
-    kind: AsmKind,
-    text: &[u8],
-    line: u32,
-) -> Result<(), AllocError>
-    ensures { OnOk result (out.new.items ≡ out.old.items ++ def.fault_part kind text.now line) }
+    functions: Option<&Outline<'a>>,
+    error: AsmError,
+    text: &'a [u8],
+) -> Said
+    requires { functions_of text.now ≡ option_copied functions }
+    ensures { OnOk result (out.new.items
+        ≡ out.old.items ++ def.fault_part error.kind text.now error.line) }
 {
-    match kind {
-        AsmKind::Code(code) => check_lines(alloc, out, code, text),
-        kind => wrong_part(alloc, out, kind, text, line),
+    match error.kind {
+        AsmKind::Code(code) => check_lines(out, functions, code, text),
+        kind => wrong_part(alloc, out, functions, kind, text, error.line),
     }
+}
+
+/// The lines of a fault of a text that has these functions.
+fn say_fault<'a>(
+    alloc: Global,
+    out: &mut Vec<u8>,
+    functions: Option<&Outline<'a>>,
+    error: AsmError,
+    text: &'a [u8],
+) -> Said
+    requires { functions_of text.now ≡ option_copied functions }
+    ensures { OnOk result (out.new.items ≡ out.old.items ++ def.fault_lines error text.now) }
+{
+    say_fault_head(alloc, out, functions, error, text)?;
+    say(out, "\n")?;
+    say(out, fault_sentence(functions, error.kind, text, error.line))?;
+    say(out, "\n")?;
+    say_fault_part(alloc, out, functions, error, text)
 }
 
 /// The lines of a fault of a text: where it is, what is wrong, and the wrong word or byte in its
@@ -159,18 +189,9 @@ fn say_fault_part(
 /// # Errors
 ///
 /// Memory ran out; `out` may then have a part of them.
-pub fn fault_lines(
-    alloc: Global,
-    out: &mut Vec<u8>,
-    error: AsmError,
-    text: &[u8],
-) -> Result<(), AllocError>
+pub fn fault_lines(alloc: Global, out: &mut Vec<u8>, error: AsmError, text: &[u8]) -> Said
     ensures { OnOk result (out.new.items ≡ out.old.items ++ def.fault_lines error text.now) }
 {
-    let sentence = fault_sentence(alloc, error.kind, text, error.line)?;
-    say_fault_head(alloc, out, error, text)?;
-    say(out, "\n")?;
-    say(out, sentence)?;
-    say(out, "\n")?;
-    say_fault_part(alloc, out, error.kind, text, error.line)
+    let functions = functions_of(alloc, text)?;
+    say_fault(alloc, out, functions.as_ref(), error, text)
 }

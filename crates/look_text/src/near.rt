@@ -176,7 +176,7 @@ fn known_words(wanted: Expected) -> &'static [&'static str]
 }
 
 /// How two words are near each other.
-#[derive(Clone, Copy, Debug, PartialEq, Eq)]
+#[derive(Clone, Copy)]
 pub(crate) enum Nearness {
     /// They are the same in other case.
     OtherCase,

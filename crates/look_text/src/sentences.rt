@@ -1,15 +1,13 @@
 //! The only table of the sentences about a text: one for each fault, and one for what is expected
 //! at each place.
 
-ghost use Rattle.std.specs.Prelude.{◌≡◌, IfOk};
+ghost use Rattle.std.specs.Prelude.{◌≡◌};
 ghost use Rattle.std.specs.Option.{option_copied};
 ghost use Rattle.look_text.specs.Functions.{functions_of};
 ghost use Rattle.look_text.specs.Sentences as def;
 
 use crate::checks::takes_too_many;
-use crate::functions::functions_of;
 use crate::wanted::{Expected, begins_line};
-use std::alloc::{AllocError, Global};
 use sts_asm::{AsmKind, Outline, words_at};
 use sts_code::{CodeCause, CodeError};
 use sts_text::Words;
@@ -109,30 +107,20 @@ fn kind_sentence(kind: AsmKind) -> &'static str
     }
 }
 
-fn of_check(alloc: Global, error: CodeError, text: &[u8]) -> Result<&'static str, AllocError>
-    ensures { IfOk result (λ s. s.now ≡ def.checked_sentence (functions_of text.now) error) }
-{
-    let outline = functions_of(alloc, text)?;
-    Ok(checked_sentence(outline.as_ref(), error))
-}
-
-/// What is wrong with a text, from the text and the line of the fault.
-///
-/// # Errors
-///
-/// Memory ran out.
+/// What is wrong with a text, from the text, its functions and the line of the fault.
 pub(crate) fn fault_sentence(
-    alloc: Global,
+    functions: Option<&Outline<'_>>,
     kind: AsmKind,
     text: &[u8],
     line: u32,
-) -> Result<&'static str, AllocError>
-    ensures { IfOk result (λ s. s.now ≡ def.fault_sentence kind text.now line) }
+) -> &'static str
+    requires { functions_of text.now ≡ option_copied functions }
+    ensures { result.now ≡ def.fault_sentence kind text.now line }
 {
     match kind {
-        AsmKind::UnknownWord => Ok(unknown_sentence(words_at(text, line))),
-        AsmKind::Code(code) => of_check(alloc, code, text),
-        kind => Ok(kind_sentence(kind)),
+        AsmKind::UnknownWord => unknown_sentence(words_at(text, line)),
+        AsmKind::Code(code) => checked_sentence(functions, code),
+        kind => kind_sentence(kind),
     }
 }
 

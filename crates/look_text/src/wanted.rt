@@ -10,7 +10,7 @@ use sts_code::is_name;
 use sts_text::{number, number_up_to};
 
 /// What is expected at a place of a line.
-#[derive(Clone, Copy, Debug, PartialEq, Eq)]
+#[derive(Clone, Copy)]
 pub enum Expected {
     /// The first word of a line.
     First,

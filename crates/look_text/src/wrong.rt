@@ -14,20 +14,19 @@ ghost use Rattle.look_text.specs.NearName.{near_in};
 ghost use Rattle.look_text.specs.Wrong as def;
 
 use crate::colon::colon_part;
-use crate::functions::functions_of;
 use crate::inside::is_inside;
 use crate::java::java_word;
-use crate::lines::say;
+use crate::lines::{Said, say, say_number};
 use crate::names::{known, names_nothing, names_some};
 use crate::near::meant;
 use crate::near_name::near_in_line;
 use crate::sentences::{join_form, wanted_sentence};
 use crate::wanted::{Expected, in_place_of, operand};
-use std::alloc::{AllocError, Global};
+use std::alloc::Global;
 use sts_asm::{AsmKind, Outline, Sentence, is_allowed, line_at, words_at};
 use sts_text::Words;
 
-fn say_question(out: &mut Vec<u8>, known: &[u8]) -> Result<(), AllocError>
+fn say_question(out: &mut Vec<u8>, known: &[u8]) -> Said
     ensures { OnOk result (out.new.items ≡ out.old.items ++ def.meant_line (Some known.now)) }
 {
     say(out, "did you mean ")?;
@@ -36,7 +35,7 @@ fn say_question(out: &mut Vec<u8>, known: &[u8]) -> Result<(), AllocError>
 }
 
 /// The line of the name that may be meant.
-fn say_near(out: &mut Vec<u8>, name: Option<&[u8]>) -> Result<(), AllocError>
+fn say_near(out: &mut Vec<u8>, name: Option<&[u8]>) -> Said
     ensures { OnOk result (out.new.items
         ≡ out.old.items ++ def.meant_line (option_map (λ n. n.now) name.entry)) }
 {
@@ -47,7 +46,7 @@ fn say_near(out: &mut Vec<u8>, name: Option<&[u8]>) -> Result<(), AllocError>
 }
 
 /// The line of the word that may be meant.
-fn say_meant(out: &mut Vec<u8>, known: Option<&'static str>) -> Result<(), AllocError>
+fn say_meant(out: &mut Vec<u8>, known: Option<&'static str>) -> Said
     ensures { OnOk result (out.new.items
         ≡ out.old.items ++ def.meant_line (option_map (λ w. w.now) known.entry)) }
 {
@@ -58,7 +57,7 @@ fn say_meant(out: &mut Vec<u8>, known: Option<&'static str>) -> Result<(), Alloc
 }
 
 /// Appends the line of the word here for a word of Java.
-fn say_java(out: &mut Vec<u8>, word: &[u8], known: &str) -> Result<(), AllocError>
+fn say_java(out: &mut Vec<u8>, word: &[u8], known: &str) -> Said
     ensures { OnOk result (out.new.items ≡ out.old.items ++ def.java_line word.now known.now) }
 {
     say(out, "Java's ")?;
@@ -69,7 +68,7 @@ fn say_java(out: &mut Vec<u8>, word: &[u8], known: &str) -> Result<(), AllocErro
 }
 
 /// Appends the line of the word here for a word of Java, or else of the word that may be meant.
-fn say_guess(out: &mut Vec<u8>, wanted: Expected, word: &[u8]) -> Result<(), AllocError>
+fn say_guess(out: &mut Vec<u8>, wanted: Expected, word: &[u8]) -> Said
     ensures { OnOk result (out.new.items
         ≡ out.old.items ++ def.meant_words wanted (Some word.now)) }
 {
@@ -79,7 +78,7 @@ fn say_guess(out: &mut Vec<u8>, wanted: Expected, word: &[u8]) -> Result<(), All
     }
 }
 
-fn say_wanted(out: &mut Vec<u8>, wanted: Expected) -> Result<(), AllocError>
+fn say_wanted(out: &mut Vec<u8>, wanted: Expected) -> Said
     ensures { OnOk result (out.new.items ≡ out.old.items ++ def.expected_words wanted) }
 {
     say(out, ": expected ")?;
@@ -87,7 +86,7 @@ fn say_wanted(out: &mut Vec<u8>, wanted: Expected) -> Result<(), AllocError>
     say(out, "\n")
 }
 
-fn say_bracketed(out: &mut Vec<u8>, word: &[u8]) -> Result<(), AllocError>
+fn say_bracketed(out: &mut Vec<u8>, word: &[u8]) -> Said
     ensures { OnOk result (out.new.items ≡ out.old.items ++ def.bracketed (Some word.now)) }
 {
     say(out, " [")?;
@@ -95,7 +94,7 @@ fn say_bracketed(out: &mut Vec<u8>, word: &[u8]) -> Result<(), AllocError>
     say(out, "]")
 }
 
-pub(crate) fn say_word(out: &mut Vec<u8>, word: &[u8], wanted: Expected) -> Result<(), AllocError>
+pub(crate) fn say_word(out: &mut Vec<u8>, word: &[u8], wanted: Expected) -> Said
     ensures { OnOk result (out.new.items ≡ out.old.items
         ++ def.stop_words (first_wrong wanted word.now)) }
 {
@@ -105,7 +104,7 @@ pub(crate) fn say_word(out: &mut Vec<u8>, word: &[u8], wanted: Expected) -> Resu
 }
 
 #[tactic(auto, using(crate::proofs::LineLemmas::missing_words))]
-fn say_missing(out: &mut Vec<u8>, wanted: Expected) -> Result<(), AllocError>
+fn say_missing(out: &mut Vec<u8>, wanted: Expected) -> Said
     ensures { OnOk result (out.new.items ≡ out.old.items ++ def.stop_words (stop wanted [])) }
 {
     say(out, " []")?;
@@ -113,7 +112,7 @@ fn say_missing(out: &mut Vec<u8>, wanted: Expected) -> Result<(), AllocError>
 }
 
 /// Appends the words up to the first one that isn't what is expected there, and what is expected.
-fn say_stop<'a>(out: &mut Vec<u8>, wanted: Expected, words: Words<'a>) -> Result<(), AllocError>
+fn say_stop<'a>(out: &mut Vec<u8>, wanted: Expected, words: Words<'a>) -> Said
     ensures { OnOk result (out.new.items ≡ out.old.items
         ++ def.stop_words (stop wanted words.entry)) }
 {
@@ -137,7 +136,7 @@ fn say_name_stop<'a>(
     function: usize,
     wanted: Expected,
     words: Words<'a>,
-) -> Result<(), AllocError>
+) -> Said
     ensures { OnOk result (IfSome (name_stop (names_at outline.now function) wanted words.entry)
         (λ s. out.new.items ≡ out.old.items ++ def.stop_words s)) }
 {
@@ -160,7 +159,7 @@ fn say_line_stop<'a>(
     outline: &Outline<'_>,
     function: usize,
     words: Words<'a>,
-) -> Result<(), AllocError>
+) -> Said
     ensures { OnOk result (IfSome (line_stop (names_at outline.now function) words.entry)
         (λ s. out.new.items ≡ out.old.items ++ def.named_line s)) }
 {
@@ -190,49 +189,41 @@ fn line_of_no_name<'o, 'a>(outline: &'o Outline<'a>, function: usize) -> Option<
     None
 }
 
-/// The line of the first word of a text that names nothing.
-fn say_unknown(out: &mut Vec<u8>, outline: &Outline<'_>) -> Result<(), AllocError>
-    ensures { OnOk result (out.new.items
-        ≡ out.old.items ++ def.wrong_line (unknown_name outline.now)) }
+/// The first function of a text, and its first line, with a word that names nothing.
+fn no_name_in<'o, 'a>(outline: &'o Outline<'a>) -> Option<(usize, &'o Sentence<'a>)>
+    ensures { MatchOption result (def.AllNamed outline.now)
+        (λ at. def.IsFirst outline.now at.0 at.1.now) }
 {
     for function in 0..outline.function_count() {
         if let Some(sentence) = line_of_no_name(outline, function) {
-            return say_line_stop(out, outline, function, sentence.words());
-        }
-    }
-    Ok(())
-}
-
-/// The name that may be meant by the first word of a text that names nothing.
-fn near_in<'a>(outline: &Outline<'_>, text: &'a [u8]) -> Option<&'a [u8]>
-    ensures { option_map (λ n. n.now) result
-        ≡ near_in text.now outline.now outline.now.done }
-{
-    for function in 0..outline.function_count() {
-        if let Some(sentence) = line_of_no_name(outline, function) {
-            return near_in_line(outline, function, sentence.words(), text);
+            return Some((function, sentence));
         }
     }
     None
 }
 
 /// The line of the first word that names nothing, and that of the name that may be meant.
-fn say_names(out: &mut Vec<u8>, outline: &Outline<'_>, text: &[u8]) -> Result<(), AllocError>
+fn say_unknown(out: &mut Vec<u8>, outline: &Outline<'_>, text: &[u8]) -> Said
     ensures { OnOk result (out.new.items
         ≡ out.old.items ++ def.unknown_line text.now (Some outline.now)) }
 {
-    say_unknown(out, outline)?;
-    say_near(out, near_in(outline, text))
+    match no_name_in(outline) {
+        None => Ok(()),
+        Some((function, sentence)) => {
+            say_line_stop(out, outline, function, sentence.words())?;
+            say_near(out, near_in_line(outline, function, sentence.words(), text))
+        }
+    }
 }
 
 /// The lines of a name that there isn't.
-fn unknown_line(alloc: Global, out: &mut Vec<u8>, text: &[u8]) -> Result<(), AllocError>
+fn unknown_line(out: &mut Vec<u8>, functions: Option<&Outline<'_>>, text: &[u8]) -> Said
     ensures { OnOk result (out.new.items
-        ≡ out.old.items ++ def.unknown_line text.now (functions_of text.now)) }
+        ≡ out.old.items ++ def.unknown_line text.now (option_copied functions.entry)) }
 {
-    match functions_of(alloc, text)? {
+    match functions {
         None => Ok(()),
-        Some(outline) => say_names(out, &outline, text),
+        Some(outline) => say_unknown(out, outline, text),
     }
 }
 
@@ -247,17 +238,17 @@ fn byte_hint(column: usize, byte: u8) -> &'static str
     }
 }
 
-fn say_byte(alloc: Global, out: &mut Vec<u8>, column: usize, byte: u8) -> Result<(), AllocError>
+fn say_byte(alloc: Global, out: &mut Vec<u8>, column: usize, byte: u8) -> Said
     ensures { OnOk result (out.new.items ≡ out.old.items ++ def.byte_words column byte) }
 {
-    let words = format!(in alloc; "at column {column}: byte {byte}")?;
-    say(out, words.as_str())?;
+    say_number(alloc, out, "at column ", column as u128)?;
+    say_number(alloc, out, ": byte ", byte as u128)?;
     say(out, byte_hint(column, byte))?;
     say(out, "\n")
 }
 
 /// The line of the first byte of a line that isn't allowed.
-fn byte_line(alloc: Global, out: &mut Vec<u8>, line: &[u8]) -> Result<(), AllocError>
+fn byte_line(alloc: Global, out: &mut Vec<u8>, line: &[u8]) -> Said
     ensures { OnOk result (out.new.items ≡ out.old.items ++ def.byte_line 1 line.now) }
 {
     for at in 0..line.len() {
@@ -268,7 +259,7 @@ fn byte_line(alloc: Global, out: &mut Vec<u8>, line: &[u8]) -> Result<(), AllocE
     Ok(())
 }
 
-fn byte_line_of(alloc: Global, out: &mut Vec<u8>, line: Option<&[u8]>) -> Result<(), AllocError>
+fn byte_line_of(alloc: Global, out: &mut Vec<u8>, line: Option<&[u8]>) -> Said
     ensures { OnOk result (out.new.items
         ≡ out.old.items ++ def.byte_line_of (option_copied line.entry)) }
 {
@@ -278,36 +269,40 @@ fn byte_line_of(alloc: Global, out: &mut Vec<u8>, line: Option<&[u8]>) -> Result
     }
 }
 
+/// The line of the first word, if there is one: something else is expected there.
+fn say_first<'a>(out: &mut Vec<u8>, words: Words<'a>, wanted: Expected) -> Said
+    ensures { OnOk result (out.new.items ≡ out.old.items
+        ++ def.wrong_line (option_map (first_wrong wanted) (slice_get words.entry 0))) }
+{
+    let mut words = words;
+    match words.word() {
+        None => Ok(()),
+        Some(word) => {
+            say(out, "at")?;
+            say_word(out, word, wanted)
+        }
+    }
+}
+
 /// The line of the wrong or missing word, if the fault is about a word.
-fn wrong_line(out: &mut Vec<u8>, kind: AsmKind, text: &[u8], line: u32) -> Result<(), AllocError>
+#[tactic(auto, using(crate::proofs::LineLemmas::unknown_first, crate::proofs::LineLemmas::duplicate_first))]
+fn wrong_line(out: &mut Vec<u8>, kind: AsmKind, text: &[u8], line: u32) -> Said
     ensures { OnOk result (out.new.items ≡ out.old.items
         ++ def.wrong_line (wrong_place kind (is_inside text.now line) (words_at text.now line))) }
 {
-    let mut words = words_at(text, line);
+    let words = words_at(text, line);
     match kind {
         AsmKind::BadNumber | AsmKind::BadOperands => {
             say(out, "at")?;
             say_stop(out, Expected::First, words)
         }
-        AsmKind::UnknownWord => match words.word() {
-            Some(word) => {
-                say(out, "at")?;
-                say_word(out, word, in_place_of(is_inside(text, line)))
-            }
-            None => Ok(()),
-        },
-        AsmKind::DuplicateLabel => match words.word() {
-            Some(word) => {
-                say(out, "at")?;
-                say_word(out, word, Expected::NewLabel)
-            }
-            None => Ok(()),
-        },
+        AsmKind::UnknownWord => say_first(out, words, in_place_of(is_inside(text, line))),
+        AsmKind::DuplicateLabel => say_first(out, words, Expected::NewLabel),
         _ => Ok(()),
     }
 }
 
-fn say_join_form(out: &mut Vec<u8>) -> Result<(), AllocError>
+fn say_join_form(out: &mut Vec<u8>) -> Said
     ensures { OnOk result (out.new.items ≡ out.old.items ++ (join_form ++ codes "\n")) }
 {
     say(out, join_form())?;
@@ -315,7 +310,7 @@ fn say_join_form(out: &mut Vec<u8>) -> Result<(), AllocError>
 }
 
 /// The form of a line that begins with these words.
-pub(crate) fn form_line<'a>(out: &mut Vec<u8>, words: Words<'a>) -> Result<(), AllocError>
+pub(crate) fn form_line<'a>(out: &mut Vec<u8>, words: Words<'a>) -> Said
     ensures { OnOk result (out.new.items ≡ out.old.items ++ def.form_line words.entry) }
 {
     let mut words = words;
@@ -332,7 +327,7 @@ pub(crate) fn form_line<'a>(out: &mut Vec<u8>, words: Words<'a>) -> Result<(), A
 }
 
 /// The form of the line, for the fault of an operand or of a name.
-fn form_part<'a>(out: &mut Vec<u8>, kind: AsmKind, words: Words<'a>) -> Result<(), AllocError>
+fn form_part<'a>(out: &mut Vec<u8>, kind: AsmKind, words: Words<'a>) -> Said
     ensures { OnOk result (out.new.items ≡ out.old.items ++ def.form_part kind words.entry) }
 {
     match kind {
@@ -345,21 +340,23 @@ fn form_part<'a>(out: &mut Vec<u8>, kind: AsmKind, words: Words<'a>) -> Result<(
 fn place_part(
     alloc: Global,
     out: &mut Vec<u8>,
+    functions: Option<&Outline<'_>>,
     kind: AsmKind,
     text: &[u8],
     line: u32,
-) -> Result<(), AllocError>
+) -> Said
+    requires { functions_of text.now ≡ option_copied functions }
     ensures { OnOk result (out.new.items ≡ out.old.items ++ def.place_part kind text.now line) }
 {
     match kind {
-        AsmKind::UnknownLabel => unknown_line(alloc, out, text),
+        AsmKind::UnknownLabel => unknown_line(out, functions, text),
         AsmKind::NotAscii => byte_line_of(alloc, out, line_at(text, line)),
         _ => wrong_line(out, kind, text, line),
     }
 }
 
 /// What is wrong in the line of a fault, if it is a word or a byte, and the form of the line or of a
-/// label.
+/// label. `functions` are those of the text.
 ///
 /// # Errors
 ///
@@ -367,13 +364,15 @@ fn place_part(
 pub(crate) fn wrong_part(
     alloc: Global,
     out: &mut Vec<u8>,
+    functions: Option<&Outline<'_>>,
     kind: AsmKind,
     text: &[u8],
     line: u32,
-) -> Result<(), AllocError>
+) -> Said
+    requires { functions_of text.now ≡ option_copied functions }
     ensures { OnOk result (out.new.items ≡ out.old.items ++ def.wrong_part kind text.now line) }
 {
-    place_part(alloc, out, kind, text, line)?;
+    place_part(alloc, out, functions, kind, text, line)?;
     form_part(out, kind, words_at(text, line))?;
     colon_part(out, kind, text, line)
 }

@@ -1,25 +1,25 @@
-use Rattle.std.proofs.Common.{rules, ◌≡◌, ◌<◌, ◌+◌, length, None, Option, drop, ap, ◌∙◌}
-use Rattle.std.specs.Prelude.{slice_get}
-use Rattle.std.specs.Option.{option_or}
+use Rattle.std.proofs.Common.{◌≡◌, ◌++◌, List, ℕ, Option, ap, sym, ◌∙◌, refl}
 use Rattle.std.proofs.lemmas.Result.{on_ok_weaker}
-use Rattle.sts_asm.specs.Source.{names_at, sentences_of}
-use Rattle.look_text.specs.Names.{functions_stop, lines_stop}
-use Rattle.look_text.specs.Wanted.{Stop}
-use Rattle.look_text.proofs.NameLineLemmas.{functions_stop_at, text_said}
+use Rattle.look_text.specs.NearName.{near_in}
+use Rattle.look_text.specs.Names.{unknown_name}
+use Rattle.look_text.specs.Wrong.{meant_line, wrong_line}
+use Rattle.look_text.proofs.LineLemmas.{said_on}
+use Rattle.look_text.proofs.NameLineLemmas.{text_said}
+use Rattle.look_text.proofs.NearNameLemmas.{near_here}
 use Rattle.look_text.proofs.wrong.say_unknown.Goals as goal
 
-pub returns-in-Some : goal.returns-in-Some
-returns-in-Some c =
+pub returns-in_ok-say_line_stop-in-Some : goal.returns-in_ok-say_line_stop-in-Some
+returns-in_ok-say_line_stop-in-Some c =
     let o = c.args.outline.now in
-    let f = c.loop-function.function in
-    let small : f < length o.done = search rules in
-    on_ok_weaker c.say_line_stop.result
-    (text_said o f c.in-Some.sentence.now c.words.result c.args.out.now.items c.loop-function.out.items c.say_line_stop.new.out.items small c.loop-function.invariant.1 c.in-Some.ensures c.words.ensures c.loop-function.invariant.0) c.say_line_stop.ensures
-
-pub loop-function-preserved : goal.loop-function-preserved
-loop-function-preserved c =
-    let o = c.args.outline.now in
-    let f = c.loop-function.function in
-    let small : f < length o.done = search rules in
-    let none : lines_stop (names_at o f) (sentences_of (slice_get o.done f)) ≡ None = search rules in
-    (c.loop-function.invariant.0, c.loop-function.invariant.1 ∙ functions_stop_at o f small ∙ ap (λ (x : Option Stop). option_or x (functions_stop o.functions (drop (f + 1) o.done))) none)
+    let text : List ℕ = c.args.text.now in
+    let f = c.in-Some.function in
+    let s = c.in-Some.sentence.now in
+    let before : List ℕ = c.args.out.now.items in
+    let one : List ℕ = c.say_line_stop.new.out.items in
+    let first = c.in-Some.ensures in
+    let said : one ≡ before ++ wrong_line (unknown_name o) =
+    text_said o f s c.words.result before before one first.within first.unknown first.stops c.words.ensures refl c.in_ok-say_line_stop-in-Some.ensures in
+    let near = c.near_in_line.ensures ∙ sym (near_here text o f s c.words-in-Some.result first.within (first.near text) first.stops c.words-in-Some.ensures) in
+    on_ok_weaker c.say_near.result
+    (λ e. said_on before (wrong_line (unknown_name o)) (meant_line (near_in text o o.done)) one c.say_near.new.out.items said
+    (e ∙ ap (λ (x : Option (List ℕ)). one ++ meant_line x) near)) c.say_near.ensures
