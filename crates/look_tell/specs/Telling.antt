@@ -54,12 +54,15 @@ end_lines text s (x ∷ xs) t = end_line text s t ++ end_lines text s xs (t + 1)
 abbrev pub story_after : TellOptions → Program → List Event → Story
 story_after o p events = fold (next o.strict) (begun p) events
 
--- the lines of the events; a strict story ends with the end of each task
+-- the lines of the events, from a story before them to one after them; a strict story ends with the
+-- end of each task
+abbrev pub told_lines : List ℕ → TellOptions → Story → Story → List Event → List ℕ
+told_lines text o before after events =
+    lines_from text o 1 before events
+    ++ (if o.strict then end_lines text after (world_of after).tasks 0 else [])
+
 abbrev pub story_lines : List ℕ → TellOptions → Program → List Event → List ℕ
-story_lines text o p events =
-    let s = story_after o p events in
-    lines_from text o 1 (begun p) events
-    ++ (if o.strict then end_lines text s (world_of s).tasks 0 else [])
+story_lines text o p events = told_lines text o (begun p) (story_after o p events) events
 
 -- 5 for a story that stopped, or else the status of the run's state: 0 if the root succeeded, 1 if
 -- it failed, otherwise 5

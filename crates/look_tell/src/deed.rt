@@ -12,7 +12,7 @@ use sts_plain::misuse;
 use sts_world::World;
 
 /// What a step does.
-#[derive(Clone, Copy, Debug, PartialEq, Eq)]
+#[derive(Clone, Copy)]
 pub enum Deed {
     /// It changes the task alone, and asks for nothing that others change.
     Own,

@@ -6,7 +6,7 @@ ghost use Rattle.look_tell.specs.Line as def;
 
 use crate::line::say_event_number;
 use crate::story::Story;
-use crate::words::{Told, say_number};
+use crate::words::{Told, say_numbered};
 use look_names::Said;
 use look_text::say;
 use std::alloc::Global;
@@ -43,12 +43,10 @@ fn say_idle_scope(alloc: Global, out: &mut Vec<u8>, story: &Story<'_>, s: u32) -
     ensures { OnOk result (out.new.items ≡ out.old.items ++ def.idle_scope story.now s) }
 {
     if has_scope(story, s) {
-        say(out, "scope ")?;
-        say_number(alloc, out, s)?;
+        say_numbered(alloc, out, "scope ", s)?;
         say(out, " can't expire now")
     } else {
-        say(out, "there is no scope ")?;
-        say_number(alloc, out, s)
+        say_numbered(alloc, out, "there is no scope ", s)
     }
 }
 
@@ -61,8 +59,7 @@ impl Told<'_, '_, '_, '_> {
             self.say_task(alloc, out, t)?;
             say(out, rest_words(self.story, t))
         } else {
-            say(out, "there is no task ")?;
-            say_number(alloc, out, t)
+            say_numbered(alloc, out, "there is no task ", t)
         }
     }
 

@@ -8,7 +8,7 @@ ghost use Rattle.look_tell.specs.Story.{next};
 
 use crate::deed::{Deed, next_deed};
 use crate::story::Story;
-use crate::words::{Told, say_if, say_number};
+use crate::words::{Told, say_if, say_numbered};
 use look_names::{Names, Said};
 use look_options::TellOptions;
 use look_text::say;
@@ -144,8 +144,7 @@ impl Told<'_, '_, '_, '_> {
             ++ def.expired_line self.entry.names.now number self.entry.story.now s was_cancelled) }
     {
         say_event_number(alloc, out, number)?;
-        say(out, "expiry of scope ")?;
-        say_number(alloc, out, s)?;
+        say_numbered(alloc, out, "expiry of scope ", s)?;
         self.say_expired_words(alloc, out, s, was_cancelled)?;
         say(out, "\n")
     }

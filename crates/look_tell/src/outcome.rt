@@ -8,7 +8,7 @@ ghost use Rattle.sts_model.specs.declared.record.Completion.{Completion as AnyCo
 ghost use Rattle.look_tell.specs.Outcome as def;
 
 use crate::deed::Deed;
-use crate::words::{Told, say_if, say_number, say_shown};
+use crate::words::{Told, say_if, say_numbered, say_shown};
 use look_names::{Names, Said, say_place};
 use look_run::say_end;
 use look_text::say;
@@ -191,8 +191,7 @@ impl Told<'_, '_, '_, '_> {
         ensures { OnOk result (out.new.items ≡ out.old.items
             ++ def.closing_words self.entry.names.now self.entry.story.now s cancels) }
     {
-        say(out, ", begins to close scope ")?;
-        say_number(alloc, out, s)?;
+        say_numbered(alloc, out, ", begins to close scope ", s)?;
         self.say_cancels(alloc, out, s, cancels)
     }
 
@@ -225,8 +224,7 @@ impl Told<'_, '_, '_, '_> {
         let Some(s) = scope else {
             return Ok(());
         };
-        say(out, "; the joiner of scope ")?;
-        say_number(alloc, out, s)?;
+        say_numbered(alloc, out, "; the joiner of scope ", s)?;
         self.say_told(alloc, out, t, s)
     }
 
@@ -251,19 +249,13 @@ impl Told<'_, '_, '_, '_> {
                 self.say_top(alloc, out, t)
             }
             Deed::Goes => self.say_goes(alloc, out, t),
-            Deed::Opens(s) => {
-                say(out, ", opens scope ")?;
-                say_number(alloc, out, s)
-            }
+            Deed::Opens(s) => say_numbered(alloc, out, ", opens scope ", s),
             Deed::Forks(child) => self.say_forks(alloc, out, child),
             Deed::Joins(s) => self.say_joins(alloc, out, t, s),
             Deed::BeginsToClose { scope, cancels } => {
                 self.say_closing(alloc, out, scope, cancels)
             }
-            Deed::Closes(s) => {
-                say(out, ", closes scope ")?;
-                say_number(alloc, out, s)
-            }
+            Deed::Closes(s) => say_numbered(alloc, out, ", closes scope ", s),
             Deed::Ends(end) => self.say_ends(alloc, out, t, end),
             Deed::Faults(kind) => {
                 say(out, ", fault ")?;

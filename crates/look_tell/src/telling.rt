@@ -1,16 +1,17 @@
 //! Tells the story of a text's run of a trace.
 
-ghost use Rattle.std.specs.Prelude.{◌≡◌, IfOk, take};
+ghost use Rattle.std.specs.Prelude.{◌≡◌, ◌++◌, IfOk, OnOk, fold, take};
 ghost use Rattle.sts_asm.specs.Text.{judged};
 ghost use Rattle.sts_trace.specs.Reading.{trace_read};
 ghost use Rattle.sts_output.specs.Output as cli;
 ghost use Rattle.look_refusal.specs.Stops.{Prints};
+ghost use Rattle.look_tell.specs.Story.{next};
 ghost use Rattle.look_tell.specs.Telling as def;
 
 use crate::line::say_events;
 use crate::story::Story;
 use crate::words::Told;
-use look_names::Names;
+use look_names::{Names, Said};
 use look_options::TellOptions;
 use look_refusal::{ExplainError, Explanation, program_of, write_explained};
 use look_run::trace_fault;
@@ -42,6 +43,29 @@ fn up_to(events: &[Event], last: u32) -> &[Event]
     }
 }
 
+/// Appends the lines of these events, and applies them. A strict story ends with the end of each
+/// task.
+fn say_story(
+    alloc: Global,
+    out: &mut Vec<u8>,
+    names: &Names<'_>,
+    options: TellOptions,
+    story: &mut Story<'_>,
+    events: &[Event],
+) -> Said
+    ensures after { OnOk result (story.new
+        ≡ fold (next options.strict) story.old events.now) }
+    ensures said { OnOk result (out.new.items ≡ out.old.items
+        ++ def.told_lines names.now options story.old story.new events.now) }
+{
+    say_events(alloc, out, names, options, story, events)?;
+    if options.strict {
+        Told { names, story }.say_end_lines(alloc, out)
+    } else {
+        Ok(())
+    }
+}
+
 /// The story of these events.
 fn of_events(
     alloc: Global,
@@ -53,14 +77,10 @@ fn of_events(
     ensures { IfOk result (λ o. o
         ≡ def.story_output names.now options program.now events.now) }
 {
+    let told = up_to(events, options.last);
     let mut story = Story::begun(alloc, program)?;
     let mut bytes = Vec::new(alloc);
-    let told = up_to(events, options.last);
-    say_events(alloc, &mut bytes, names, options, &mut story, told)?;
-    if options.strict {
-        let story = &story;
-        Told { names, story }.say_end_lines(alloc, &mut bytes)?;
-    }
+    say_story(alloc, &mut bytes, names, options, &mut story, told)?;
     Ok(Explanation {
         bytes,
         status: status_of(&story),
@@ -84,6 +104,21 @@ fn of_trace(
     }
 }
 
+/// The story of a text with this program.
+fn of_program(
+    alloc: Global,
+    options: TellOptions,
+    program: &Program,
+    text: &[u8],
+    trace: &[u8],
+) -> Result<Explanation, AllocError>
+    ensures { IfOk result (λ o. o ≡ def.traced_output options program.now text.now trace.now
+        (trace_read trace.now)) }
+{
+    let names = Names::read(alloc, text)?;
+    of_trace(alloc, options, &names, program, trace)
+}
+
 fn story_of(
     alloc: Global,
     options: TellOptions,
@@ -93,9 +128,7 @@ fn story_of(
     ensures { Prints result (def.Tells options (judged text.now) text.now trace.now) }
 {
     let program = program_of(alloc, text)?;
-    let names = Names::read(alloc, text)?;
-    let output = of_trace(alloc, options, &names, &program, trace)?;
-    Ok(output)
+    Ok(of_program(alloc, options, &program, text, trace)?)
 }
 
 /// Writes the story of a text's run of a trace, a line for each event that others can notice, and

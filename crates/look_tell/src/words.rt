@@ -18,12 +18,12 @@ pub struct Told<'n, 't, 's, 'p> {
     pub story: &'s Story<'p>,
 }
 
-/// Appends a number.
-pub(crate) fn say_number(alloc: Global, out: &mut Vec<u8>, number: u32) -> Said
-    ensures { OnOk result (out.new.items ≡ out.old.items ++ decimal number) }
+/// Appends words and a number.
+pub(crate) fn say_numbered(alloc: Global, out: &mut Vec<u8>, words: &str, number: u32) -> Said
+    ensures { OnOk result (out.new.items ≡ out.old.items ++ (words.now ++ decimal number)) }
 {
-    let word = format!(in alloc; "{number}")?;
-    say(out, word.as_str())
+    let numbered = format!(in alloc; "{words}{number}")?;
+    say(out, numbered.as_str())
 }
 
 /// Appends a value.
@@ -102,8 +102,7 @@ impl Told<'_, '_, '_, '_> {
         ensures { OnOk result (out.new.items ≡ out.old.items
             ++ def.task_words self.entry.names.now self.entry.story.now t) }
     {
-        say(out, "task ")?;
-        say_number(alloc, out, t)?;
+        say_numbered(alloc, out, "task ", t)?;
         say(out, ", ")?;
         self.say_called(alloc, out, t)
     }
