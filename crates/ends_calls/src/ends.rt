@@ -6,15 +6,17 @@ ghost use Rattle.ends_calls.specs.Stops.{IsStop, IsMarked, IsTraced};
 ghost use Rattle.ends_plain.specs.Listed.{AreEnds, IsEndOf};
 ghost use Rattle.ends_plain.specs.declared.config.Setting.{Setting};
 
-use crate::call::number;
-use crate::player::Player;
-use crate::search::{Search, explored};
 use crate::stop::{Shared, Stop, Traced};
-use crate::table::Explored;
+use ends_explored::search::{Search, explored};
+use ends_known::call::number;
+use ends_known::outside::Outside;
+use ends_known::table::Explored;
 use ends_plain::config::{Config, Found, Setting};
 use ends_plain::ends::is_end_at;
 use ends_plain::shorter::can_come;
 use ends_plain::trace::Trace;
+use ends_player::basis::Basis;
+use ends_player::player::Player;
 use std::alloc::{AllocError, Global};
 use sts_model::Event;
 use sts_plain::PlainState;
@@ -72,7 +74,7 @@ fn walked(
     let mut config = from.config;
     let mut trace = from.trace;
     for _ in 0..longest {
-        let next = player.next(alloc, &config)?;
+        let next = player.next(alloc, config.position.world())?;
         let Some(event) = coming(&config, setting, next) else {
             break;
         };
@@ -108,8 +110,7 @@ fn played(
 fn played_on(
     alloc: Global,
     setting: &Setting,
-    search: &Search,
-    root: &Explored,
+    basis: Basis<'_>,
     way: u32,
     shared: &Shared,
     longest: usize,
@@ -117,8 +118,7 @@ fn played_on(
     requires { IsStop setting.now shared.now.stop }
     ensures { IfOk result (λ found. IfSome found (IsEndOf setting.now)) }
 {
-    let Some(player) = Player::resume(alloc, setting, &search.table, root, way, &shared.mark)?
-    else {
+    let Some(player) = Player::resume(alloc, basis, way, &shared.mark)? else {
         return Ok(None);
     };
     let mut player = player;
@@ -143,14 +143,13 @@ fn marked(alloc: Global, stop: &Stop, player: &mut Player<'_>) -> Result<Option<
 fn played_first(
     alloc: Global,
     setting: &Setting,
-    search: &Search,
-    root: &Explored,
+    basis: Basis<'_>,
     way: u32,
     longest: usize,
 ) -> Result<Traced, AllocError>
     ensures { IfOk result (IsTraced setting.now) }
 {
-    let mut player = Player::begin(alloc, setting, &search.table, root, way)?;
+    let mut player = Player::begin(alloc, basis, way)?;
     let first = Stop {
         config: Config::start(alloc, setting)?,
         trace: Trace::new(alloc),
@@ -174,8 +173,7 @@ fn is_right(root: &Explored, way: u32, found: &Option<Found>) -> bool {
 fn traced(
     alloc: Global,
     setting: &Setting,
-    search: &Search,
-    root: &Explored,
+    basis: Basis<'_>,
     way: u32,
     known: Option<Shared>,
     longest: usize,
@@ -184,16 +182,16 @@ fn traced(
     ensures { IfOk result (IsTraced setting.now) }
 {
     let Some(shared) = known else {
-        return played_first(alloc, setting, search, root, way, longest);
+        return played_first(alloc, setting, basis, way, longest);
     };
-    let found = played_on(alloc, setting, search, root, way, &shared, longest)?;
-    if is_right(root, way, &found) {
+    let found = played_on(alloc, setting, basis, way, &shared, longest)?;
+    if is_right(basis.root, way, &found) {
         return Ok(Traced {
             found,
             shared: Some(shared),
         });
     }
-    played_first(alloc, setting, search, root, way, longest)
+    played_first(alloc, setting, basis, way, longest)
 }
 
 /// Is this the end of one of the root's ways?
@@ -232,6 +230,12 @@ fn listed(
 ) -> Result<FoundByCalls, AllocError>
     ensures { IfOk result (λ r. AreEnds setting.now r.found.items) }
 {
+    let basis = Basis {
+        program: &setting.program,
+        outside: search.outside,
+        table: &search.table,
+        root,
+    };
     let mut is_closed = search.is_closed();
     let mut found = Vec::new(alloc);
     let mut events: usize = 0;
@@ -242,7 +246,7 @@ fn listed(
             is_closed = false;
             break;
         }
-        let next = traced(alloc, setting, search, root, number(way), shared, longest)?;
+        let next = traced(alloc, setting, basis, number(way), shared, longest)?;
         shared = next.shared;
         match next.found {
             Some(one) => {
@@ -276,7 +280,11 @@ pub fn found_by_calls(
 ) -> Result<FoundByCalls, AllocError>
     ensures { IfOk result (λ r. AreEnds setting.now r.found.items) }
 {
-    let search = explored(alloc, setting, room.states)?;
+    let outside = Outside {
+        expiries: setting.expiries,
+        interrupts: setting.interrupts,
+    };
+    let search = explored(alloc, &setting.program, outside, room.states)?;
     match search.root() {
         Some(root) => listed(alloc, setting, &search, root, room.longest),
         None => Ok(FoundByCalls {

@@ -2,9 +2,9 @@
 
 ghost use Rattle.std.specs.Prelude.{◌≡◌, IfOk};
 
-use crate::mark::Mark;
 use ends_plain::config::{Config, Found};
 use ends_plain::trace::Trace;
+use ends_player::mark::Mark;
 use ends_search::machine::StateMachine;
 use std::alloc::{AllocError, Global};
 

@@ -2,11 +2,12 @@
 
 use crate::goals::{Goal, Goals};
 use crate::runs::{Run, made};
-use ends_calls::aim::{FirstSteps, Role};
-use ends_calls::player::Player;
-use ends_calls::search::Search;
-use ends_calls::table::Explored;
+use ends_explored::search::Search;
+use ends_known::table::Explored;
 use ends_plain::config::Setting;
+use ends_player::aim::{FirstSteps, Role};
+use ends_player::basis::Basis;
+use ends_player::player::Player;
 use std::alloc::{AllocError, Global};
 
 /// Runs are made as long as those before cost no more than this number of events.
@@ -99,9 +100,14 @@ impl<'a> Attempts<'a> {
         goal: Goal,
         first: Option<FirstSteps>,
     ) -> Result<Option<Run>, AllocError> {
-        let (search, root) = (self.search, self.root);
+        let basis = Basis {
+            program: &setting.program,
+            outside: self.search.outside,
+            table: &self.search.table,
+            root: self.root,
+        };
         let legs = self.goals.legs(alloc, goal)?;
-        let mut player = Player::towards(alloc, setting, &search.table, root, legs, first)?;
+        let mut player = Player::towards(alloc, basis, legs, first)?;
         let run = made(alloc, setting, &mut player, MOST_EVENTS_OF_A_RUN)?;
         let cost = match &run {
             Some(run) => run.events.len(),

@@ -1,12 +1,12 @@
 //! Where each call is forked, and what may come of its task.
 
-use ends_calls::aim::{Aim, Leg, Role, with_role};
-use ends_calls::call::number;
-use ends_calls::own::Own;
-use ends_calls::part::{Part, count_parts};
-use ends_calls::pick::some_fits;
-use ends_calls::seen::{Knowledge, Seen};
-use ends_calls::table::{Explored, Table};
+use ends_known::call::number;
+use ends_known::own::Own;
+use ends_known::part::{Part, count_parts};
+use ends_known::pick::some_fits;
+use ends_known::seen::{Knowledge, Seen};
+use ends_known::table::{Explored, Table};
+use ends_player::aim::{Aim, Leg, Role, with_role};
 use std::alloc::{AllocError, Global};
 
 /// The task of a call, which the task of a leg forks. A run is about it.

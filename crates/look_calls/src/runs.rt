@@ -1,10 +1,10 @@
 //! Runs up to the end of a task, as a player makes them. Nothing is promised of them.
 
 use crate::checked::{Called, Ending, call_of, end_of};
-use ends_calls::call::number;
-use ends_calls::player::Player;
+use ends_known::call::number;
 use ends_plain::config::{Config, Setting};
 use ends_plain::shorter::can_come;
+use ends_player::player::Player;
 use std::alloc::{AllocError, Global};
 use sts_model::Event;
 use sts_world::World;
@@ -166,7 +166,7 @@ pub(crate) fn made(
 ) -> Result<Option<Run>, AllocError> {
     let mut making = Making::begin(alloc, setting)?;
     for _ in 0..most {
-        let Some(event) = player.next(alloc, &making.config)? else {
+        let Some(event) = player.next(alloc, making.config.position.world())? else {
             return Ok(None);
         };
         if !making.take(alloc, setting, event)? {

@@ -8,8 +8,9 @@ use crate::attempts::Attempts;
 use crate::checked::{Called, Ending, checked};
 use crate::found::{CallEnd, CallsFound};
 use crate::runs::{Ended, Run};
-use ends_calls::search::{Search, explored};
-use ends_calls::table::Explored;
+use ends_explored::search::{Search, explored};
+use ends_known::outside::Outside;
+use ends_known::table::Explored;
 use ends_plain::config::Setting;
 use std::alloc::{AllocError, Global};
 use sts_model::Event;
@@ -152,7 +153,11 @@ fn tried(
 pub fn call_ends(alloc: Global, setting: &Setting, most: usize) -> Result<CallsFound, AllocError>
     ensures { IfOk result (λ r. AreCallEnds setting.now r.found.items) }
 {
-    let search = explored(alloc, setting, most)?;
+    let outside = Outside {
+        expiries: setting.expiries,
+        interrupts: setting.interrupts,
+    };
+    let search = explored(alloc, &setting.program, outside, most)?;
     match search.root() {
         Some(root) => tried(alloc, setting, &search, root),
         None => Ok(no_calls(alloc, search.states, true)),

@@ -4,10 +4,10 @@
 //! cancelled. The cancel comes after the forks of the subtasks that end heard, and after each look
 //! that shows that the scope isn't cancelled yet.
 
-use crate::call::number;
 use crate::played::Played;
-use crate::seen::{Knowledge, Seen};
-use crate::table::{Explored, Label};
+use ends_known::call::number;
+use ends_known::seen::{Knowledge, Seen};
+use ends_known::table::{Explored, Label};
 use sts_model::Phase;
 
 /// A cancel of a scope before the look that shows it.

@@ -1,10 +1,10 @@
 //! What an owner learns of a scope when it looks.
 
-use crate::joiners::{is_trigger, limit};
-use crate::part::{Filter, Part, Run, all_heard, is_sure_trigger, with_part};
-use crate::pick::some_fits;
-use crate::seen::{Facts, Knowledge, Seen};
-use crate::table::Table;
+use ends_known::joiners::{is_trigger, limit};
+use ends_known::part::{Filter, Part, Run, all_heard, is_sure_trigger};
+use ends_known::pick::{if_fits, with_fitting};
+use ends_known::seen::{Facts, Knowledge, Seen};
+use ends_known::table::Table;
 use std::alloc::{AllocError, Global};
 use sts_model::End;
 
@@ -43,18 +43,35 @@ pub fn heard(alloc: Global, scope: &Seen, facts: Facts) -> Result<Seen, AllocErr
     })
 }
 
+/// The facts, once it is known that the joiner has cancelled the scope.
+fn by_joiner(facts: Facts) -> Facts {
+    Facts {
+        knowledge: Knowledge::ByJoiner,
+        ..facts
+    }
+}
+
 /// If the ends that the owner knows of cancel the scope, it knows that, too.
 pub fn decided(table: &Table, scope: Seen) -> Seen {
     if scope.facts.knowledge != Knowledge::Unseen || may_go_on(table, &scope) {
         return scope;
     }
     Seen {
-        facts: Facts {
-            knowledge: Knowledge::ByJoiner,
-            ..scope.facts
-        },
+        facts: by_joiner(scope.facts),
         runs: scope.runs,
     }
+}
+
+/// Adds a scope that its joiner has cancelled, if there is one.
+fn push(
+    found: &mut Vec<Cancelled>,
+    end: Option<End>,
+    scope: Option<Seen>,
+) -> Result<(), AllocError> {
+    if let Some(scope) = scope {
+        found.push(Cancelled { end, scope })?;
+    }
+    Ok(())
 }
 
 /// Adds the scope that the part at a place cancelled by one of its ways, if that fits.
@@ -67,29 +84,18 @@ fn push_cancelled(
     part: Part,
     found: &mut Vec<Cancelled>,
 ) -> Result<(), AllocError> {
+    let joiner = scope.facts.joiner;
+    let facts = by_joiner(scope.facts);
     let mut way: u32 = 0;
     for it in table.ways_of(part) {
-        if part.filter.allows(scope.facts.joiner, way, it.end)
-            && is_trigger(scope.facts.joiner, it.end)
-        {
+        if part.filter.allows(joiner, way, it.end) && is_trigger(joiner, it.end) {
             let only = Part {
                 filter: Filter::Only(way),
                 is_open: false,
                 ..part
             };
-            let next = Seen {
-                facts: Facts {
-                    knowledge: Knowledge::ByJoiner,
-                    ..scope.facts
-                },
-                runs: with_part(alloc, scope.runs.as_slice(), place, only)?,
-            };
-            if some_fits(alloc, table, &next, left)? {
-                found.push(Cancelled {
-                    end: Some(it.end),
-                    scope: next,
-                })?;
-            }
+            let next = with_fitting(alloc, table, scope, left, facts, place, only)?;
+            push(found, Some(it.end), next)?;
         }
         way = way.saturating_add(1);
     }
@@ -113,42 +119,20 @@ fn push_cancelled_by_run(
     Ok(())
 }
 
-/// The scope that one end cancelled, for each part and each of its ways that may have done it.
-fn cancelled_by_one(
+/// Adds the scope that one end cancelled, for each part and each of its ways that may have done it.
+fn push_cancelled_by_one(
     alloc: Global,
     table: &Table,
     scope: &Seen,
     left: u32,
-) -> Result<Vec<Cancelled>, AllocError> {
-    let mut found = Vec::new(alloc);
+    found: &mut Vec<Cancelled>,
+) -> Result<(), AllocError> {
     let mut first: u32 = 0;
     for run in scope.runs.as_slice() {
-        push_cancelled_by_run(alloc, table, scope, left, first, run, &mut found)?;
+        push_cancelled_by_run(alloc, table, scope, left, first, run, found)?;
         first = first.saturating_add(run.count);
     }
-    Ok(found)
-}
-
-/// The scope that several ends cancelled, if that fits.
-fn cancelled_by_many(
-    alloc: Global,
-    table: &Table,
-    scope: &Seen,
-    left: u32,
-) -> Result<Vec<Cancelled>, AllocError> {
-    let mut found = Vec::new(alloc);
-    let facts = Facts {
-        knowledge: Knowledge::ByJoiner,
-        ..scope.facts
-    };
-    let next = scope.with(alloc, facts)?;
-    if some_fits(alloc, table, &next, left)? {
-        found.push(Cancelled {
-            end: None,
-            scope: next,
-        })?;
-    }
-    Ok(found)
+    Ok(())
 }
 
 /// The ways in which the joiner may have cancelled the scope.
@@ -158,9 +142,12 @@ pub fn cancelled_by(
     scope: &Seen,
     left: u32,
 ) -> Result<Vec<Cancelled>, AllocError> {
+    let mut found = Vec::new(alloc);
     if limit(scope.facts.joiner) > 1 {
-        cancelled_by_many(alloc, table, scope, left)
+        let next = scope.with(alloc, by_joiner(scope.facts))?;
+        push(&mut found, None, if_fits(alloc, table, next, left)?)?;
     } else {
-        cancelled_by_one(alloc, table, scope, left)
+        push_cancelled_by_one(alloc, table, scope, left, &mut found)?;
     }
+    Ok(found)
 }

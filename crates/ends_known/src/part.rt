@@ -97,6 +97,21 @@ fn push_split(runs: &mut Vec<Run>, run: Run, place: u32, part: Part) -> Result<(
     )
 }
 
+/// Appends the parts, with another one at a place.
+fn push_with(after: &mut Vec<Run>, runs: &[Run], place: u32, part: Part) -> Result<(), AllocError> {
+    let mut before: u32 = 0;
+    for run in runs {
+        let next = before.saturating_add(run.count);
+        if before <= place && place < next {
+            push_split(after, *run, place - before, part)?;
+        } else {
+            push_parts(after, run.part, run.count)?;
+        }
+        before = next;
+    }
+    Ok(())
+}
+
 /// The parts, with another one at a place.
 pub fn with_part(
     alloc: Global,
@@ -105,16 +120,7 @@ pub fn with_part(
     part: Part,
 ) -> Result<Vec<Run>, AllocError> {
     let mut after = Vec::new(alloc);
-    let mut before: u32 = 0;
-    for run in runs {
-        let next = before.saturating_add(run.count);
-        if before <= place && place < next {
-            push_split(&mut after, *run, place - before, part)?;
-        } else {
-            push_parts(&mut after, run.part, run.count)?;
-        }
-        before = next;
-    }
+    push_with(&mut after, runs, place, part)?;
     Ok(after)
 }
 

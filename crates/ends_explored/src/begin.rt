@@ -1,7 +1,7 @@
 //! The first state of a call.
 
-use crate::call::{Call, number};
-use crate::own::{Held, Own};
+use ends_known::call::{Call, number};
+use ends_known::own::{Held, Own};
 use std::alloc::{AllocError, Global};
 use sts_code::Program;
 use sts_frames::root_frame;

@@ -1,6 +1,7 @@
 //! The instructions that change only the frame of a task.
 
-use crate::call::Call;
+use ends_known::call::Call;
+use ends_known::own::is_at_once;
 use std::alloc::{AllocError, Global};
 use sts_code::{Instr, MAX_ENTRIES, MAX_OPERANDS, MAX_STEPS, Program};
 use sts_frames::{code, instr_at, is_local, local};
@@ -103,15 +104,6 @@ fn does(frame: &mut Frame, program: &Program, call: &Call, instr: Instr) -> bool
             push_and_go(frame, next, 1, value)
         }
         _ => does_local(frame, program, instr),
-    }
-}
-
-/// Is it an instruction that changes only the frame, and that a path does at once?
-pub fn is_at_once(instr: Instr) -> bool {
-    match instr {
-        Instr::Bind(_) | Instr::Unbind => true,
-        Instr::Read(_) | Instr::Bound(_) | Instr::OrElse(_) => true,
-        _ => is_local(instr),
     }
 }
 

@@ -1,14 +1,15 @@
 //! A task on its way to an end, as a trace plays it.
 
 use crate::aim::{Aim, Role, restricted};
-use crate::call::{Way, number};
+use crate::basis::Basis;
 use crate::early::{Early, early_cancel, way_at};
-use crate::joiners::is_trigger;
-use crate::own::Own;
-use crate::part::part_at;
-use crate::pick::pick;
-use crate::seen::{Knowledge, Seen};
-use crate::table::{Explored, Label, Node, Table};
+use ends_known::call::{Way, number};
+use ends_known::joiners::is_trigger;
+use ends_known::own::Own;
+use ends_known::part::part_at;
+use ends_known::pick::pick;
+use ends_known::seen::{Knowledge, Seen};
+use ends_known::table::{Explored, Label, Node, Table};
 use std::alloc::{AllocError, Global};
 use sts_code::Joiner;
 use sts_model::End;
@@ -36,6 +37,16 @@ pub struct PlayedScope {
     pub is_due: bool,
     /// Has it expired before its owner sees that?
     pub is_late: bool,
+}
+
+/// A scope that the next step opens, as its owner knows it before its close: its place among the open
+/// ones, the number of steps before its close, and how many interrupts its owner took by then.
+#[derive(Drop)]
+struct Opened<'t> {
+    place: u32,
+    close: usize,
+    scope: &'t Seen,
+    used: u32,
 }
 
 /// A task that is to be played up to the end of one of its call's ways.
@@ -193,47 +204,100 @@ impl Played {
         None
     }
 
-    /// The scope that the next step opens. It has this birth number.
+    /// The scope that the next step opens, as its owner knows it before its close.
+    fn opened<'t>(&self, explored: &'t Explored) -> Option<Opened<'t>> {
+        let place = number(self.before(explored)?.own.scopes.len());
+        let close = self.closing_or_last(explored, place)?;
+        let last = self.node(explored, close)?;
+        Some(Opened {
+            place,
+            close,
+            scope: last.own.scope(place)?,
+            used: last.own.used,
+        })
+    }
+
+    /// The scope that the next step opens. It has this birth number. Its cancel comes as early as it can,
+    /// if the run hurries.
     pub fn opening(
         &self,
         alloc: Global,
-        table: &Table,
+        basis: &Basis<'_>,
         explored: &Explored,
-        interrupts: u32,
         birth: u32,
+        hurries: bool,
     ) -> Result<Option<PlayedScope>, AllocError> {
-        let Some(before) = self.before(explored) else {
+        let Some(opened) = self.opened(explored) else {
             return Ok(None);
         };
-        let place = number(before.own.scopes.len());
-        let Some(close) = self.closing_or_last(explored, place) else {
+        let aim = self.aim_in(opened.place, opened.close);
+        let Some(ways) = opened.picked(alloc, basis, aim)? else {
             return Ok(None);
         };
-        let Some(last) = self.node(explored, close) else {
-            return Ok(None);
+        let early = if hurries {
+            early_cancel(self, explored, opened.place, opened.close, ways.as_slice())
+        } else {
+            None
         };
-        let Some(scope) = last.own.scope(place) else {
-            return Ok(None);
-        };
-        let left = interrupts.saturating_sub(last.own.used);
-        let aim = self.aim_in(place, close);
-        let scope = restricted(alloc, scope, aim)?;
-        let Some(ways) = pick(alloc, table, &scope, left)? else {
-            return Ok(None);
-        };
-        let early = early_cancel(self, explored, place, close, ways.as_slice());
         Ok(Some(PlayedScope {
             birth,
             opened: self.at,
             births: Vec::new(alloc),
             played: Vec::new(alloc),
             ways,
-            first: self.first_failed(explored, place, close),
+            first: self.first_failed(explored, opened.place, opened.close),
             aim,
             early,
             is_due: false,
             is_late: false,
         }))
+    }
+
+    /// Notes the scope that the next step opens. Returns whether there is one.
+    pub fn open(
+        &mut self,
+        alloc: Global,
+        basis: &Basis<'_>,
+        explored: &Explored,
+        birth: u32,
+        hurries: bool,
+    ) -> Result<bool, AllocError> {
+        match self.opening(alloc, basis, explored, birth, hurries)? {
+            Some(scope) => {
+                self.scopes.push(scope)?;
+                Ok(true)
+            }
+            None => Ok(false),
+        }
+    }
+
+    /// Notes the subtask that the next step forks in the scope at a place.
+    pub fn fork(&mut self, place: u32, birth: u32) -> Result<(), AllocError> {
+        if let Some(scope) = self.scopes.get_mut(place as usize) {
+            scope.births.push(birth)?;
+            scope.played.push(false)?;
+        }
+        Ok(())
+    }
+
+    /// The birth number of a subtask, by the place of its scope and its place there.
+    pub fn born_in(&self, scope: u32, part: u32) -> Option<u32> {
+        let scope = self.scopes.get(scope as usize)?;
+        scope.births.get(part as usize).copied()
+    }
+}
+
+impl<'t> Opened<'t> {
+    /// The ways of its subtasks, if the run is about this one of them.
+    fn picked(
+        &self,
+        alloc: Global,
+        basis: &Basis<'_>,
+        aim: Option<Aim>,
+    ) -> Result<Option<Vec<Option<u32>>>, AllocError> {
+        let left = basis.outside.interrupts.saturating_sub(self.used);
+        let scope = restricted(alloc, self.scope, aim)?;
+        pick(alloc, basis.table, &scope, left)
     }
 }
 
@@ -249,7 +313,6 @@ impl Played {
     /// expiry, if the scope expires.
     pub fn cancel(
         &mut self,
-        alloc: Global,
         table: &Table,
         explored: &Explored,
         place: usize,
@@ -260,16 +323,48 @@ impl Played {
         let Some(node) = self.node(explored, early.look) else {
             return Ok(());
         };
-        let (Some(seen), Some(scope)) = (node.own.scope(number(place)), self.scopes.get_mut(place))
-        else {
+        let Some(seen) = node.own.scope(number(place)) else {
             return Ok(());
         };
-        let mut starts = scope.all_starts(alloc, table, seen)?;
-        starts.reverse();
-        scope.early = None;
-        scope.is_due = early.expires;
-        self.waiting = starts;
+        if let Some(scope) = self.scopes.get_mut(place) {
+            scope.early = None;
+            scope.is_due = early.expires;
+            scope.push_all(table, seen, &mut self.waiting)?;
+        }
+        self.waiting.reverse();
         Ok(())
+    }
+
+    /// Notes the subtasks that end before a look at the scope at a place. The look shows the scope as it
+    /// is afterwards, and it may be at one subtask.
+    pub fn look(
+        &mut self,
+        table: &Table,
+        before: &Seen,
+        after: &Seen,
+        place: u32,
+        child: Option<u32>,
+    ) -> Result<(), AllocError> {
+        if let Some(scope) = self.scopes.get_mut(place as usize) {
+            scope.push_starts(table, before, after, child, &mut self.waiting)?;
+        }
+        self.waiting.reverse();
+        Ok(())
+    }
+
+    /// Notes the subtask that the run is about, if it ends heard and wasn't played before its scope is
+    /// closed by the next step.
+    pub fn close(&mut self, explored: &Explored) -> Result<(), AllocError> {
+        let Some(node) = self.before(explored) else {
+            return Ok(());
+        };
+        let Some(seen) = node.own.scopes.last() else {
+            return Ok(());
+        };
+        match self.scopes.last_mut() {
+            Some(scope) => scope.push_aim(seen, &mut self.waiting),
+            None => Ok(()),
+        }
     }
 
     /// The scope that expires before the next step, though its owner sees it later.
@@ -299,15 +394,14 @@ impl PlayedScope {
         way_at(self.ways.as_slice(), child)
     }
 
-    /// The birth numbers of the subtasks that were forked and that nobody hears.
-    pub fn unheard(&self, alloc: Global) -> Result<Vec<u32>, AllocError> {
-        let mut found = Vec::new(alloc);
+    /// Adds the birth numbers of the subtasks that were forked and that nobody hears.
+    pub fn push_unheard(&self, found: &mut Vec<u32>) -> Result<(), AllocError> {
         for (child, birth) in self.births.as_slice().iter().enumerate() {
             if self.way(number(child)).is_none() {
                 found.push(*birth)?;
             }
         }
-        Ok(found)
+        Ok(())
     }
 
     /// Notes that a subtask is played. Returns whether it wasn't before.
@@ -379,30 +473,24 @@ impl PlayedScope {
         }
     }
 
-    /// The subtasks that end heard before the owner sees that the scope is cancelled or heard.
-    fn all_starts(
+    /// Adds the subtasks that end heard before the owner sees that the scope is cancelled or heard.
+    fn push_all(
         &mut self,
-        alloc: Global,
         table: &Table,
         scope: &Seen,
-    ) -> Result<Vec<Start>, AllocError> {
-        let mut starts = Vec::new(alloc);
-        self.push_first(scope, &mut starts)?;
-        self.push_those(table, scope, false, &mut starts)?;
-        self.push_those(table, scope, true, &mut starts)?;
-        Ok(starts)
+        starts: &mut Vec<Start>,
+    ) -> Result<(), AllocError> {
+        self.push_first(scope, starts)?;
+        self.push_those(table, scope, false, starts)?;
+        self.push_those(table, scope, true, starts)
     }
 
-    /// The subtask that the run is about, if it ends heard and wasn't played before the scope is
-    /// closed.
-    pub fn last_starts(&mut self, alloc: Global, scope: &Seen) -> Result<Vec<Start>, AllocError> {
-        let mut starts = Vec::new(alloc);
-        if let Some(aim) = self.aim {
-            if let Role::Heard(_) = aim.role {
-                self.push(scope, aim.part, &mut starts)?;
-            }
+    /// Adds the subtask that the run is about, if it ends heard and wasn't played.
+    fn push_aim(&mut self, scope: &Seen, starts: &mut Vec<Start>) -> Result<(), AllocError> {
+        match self.aim {
+            Some(aim) if matches!(aim.role, Role::Heard(_)) => self.push(scope, aim.part, starts),
+            _ => Ok(()),
         }
-        Ok(starts)
     }
 
     /// The subtask that was forked last and what the run makes of it, if the run is about it.
@@ -415,51 +503,53 @@ impl PlayedScope {
         }
     }
 
-    /// The subtasks that end before the owner sees that this one has.
-    fn starts_of(
-        &mut self,
-        alloc: Global,
-        table: &Table,
-        scope: &Seen,
-        child: u32,
-    ) -> Result<Vec<Start>, AllocError> {
-        let mut starts = Vec::new(alloc);
-        let fails = match part_at(scope.runs.as_slice(), child) {
+    /// Does a subtask end heard by a failure?
+    fn fails(&self, table: &Table, scope: &Seen, child: u32) -> bool {
+        match part_at(scope.runs.as_slice(), child) {
             Some(part) => matches!(
                 end_of(table.ways_of(part), self.way(child)),
                 Some(End::Failed(_))
             ),
             None => false,
-        };
-        let is_any = matches!(scope.facts.joiner, Joiner::AnySucceeds);
-        if is_any && fails && !scope.facts.has_failure {
-            self.push_first(scope, &mut starts)?;
         }
-        self.push(scope, child, &mut starts)?;
-        Ok(starts)
     }
 
-    /// The subtasks that end before a look of their owner, the first one first. The look shows
-    /// the scope as it is afterwards, and it may be at one subtask.
-    pub fn starts(
+    /// Adds the subtasks that end before the owner sees that this one has.
+    fn push_child(
         &mut self,
-        alloc: Global,
+        table: &Table,
+        scope: &Seen,
+        child: u32,
+        starts: &mut Vec<Start>,
+    ) -> Result<(), AllocError> {
+        let is_any = matches!(scope.facts.joiner, Joiner::AnySucceeds);
+        if is_any && !scope.facts.has_failure && self.fails(table, scope, child) {
+            self.push_first(scope, starts)?;
+        }
+        self.push(scope, child, starts)
+    }
+
+    /// Adds the subtasks that end before a look of their owner, the first one first. The look shows
+    /// the scope as it is afterwards, and it may be at one subtask.
+    fn push_starts(
+        &mut self,
         table: &Table,
         before: &Seen,
         after: &Seen,
         child: Option<u32>,
-    ) -> Result<Vec<Start>, AllocError> {
+        starts: &mut Vec<Start>,
+    ) -> Result<(), AllocError> {
         if before.facts.knowledge != Knowledge::Unseen {
-            return Ok(Vec::new(alloc));
+            return Ok(());
         }
         if after.facts.knowledge != Knowledge::Unseen {
-            return self.all_starts(alloc, table, before);
+            return self.push_all(table, before, starts);
         }
         match child {
             Some(child) if hears(before, after, child) => {
-                self.starts_of(alloc, table, before, child)
+                self.push_child(table, before, child, starts)
             }
-            _ => Ok(Vec::new(alloc)),
+            _ => Ok(()),
         }
     }
 }

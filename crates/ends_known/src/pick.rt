@@ -2,7 +2,7 @@
 
 use crate::call::{Way, number};
 use crate::joiners::{is_success, is_trigger, limit};
-use crate::part::{Part, Run};
+use crate::part::{Part, Run, with_part};
 use crate::seen::{Asked, Facts, Knowledge, Seen};
 use crate::table::Table;
 use std::alloc::{AllocError, Global};
@@ -133,23 +133,14 @@ fn keep(sums: &mut Vec<Sum>, sum: Sum) -> Result<(), AllocError> {
     Ok(())
 }
 
-/// What a part may add.
-fn choices(
-    alloc: Global,
+/// Adds the choices of those ways that a part may have come to.
+fn push_ways(
     joiner: Joiner,
     needs: Needs,
     part: Part,
     ways: &[Way],
-) -> Result<Vec<Sum>, AllocError> {
-    let mut found = Vec::new(alloc);
-    if part.is_open {
-        found.push(Sum {
-            count: contribution(joiner, needs, None),
-            cost: 0,
-            before: 0,
-            way: None,
-        })?;
-    }
+    found: &mut Vec<Sum>,
+) -> Result<(), AllocError> {
     let mut place: u32 = 0;
     for way in ways {
         if part.filter.allows(joiner, place, way.end) {
@@ -159,21 +150,39 @@ fn choices(
                 before: 0,
                 way: Some(place),
             };
-            keep(&mut found, sum)?;
+            keep(found, sum)?;
         }
         place = place.saturating_add(1);
     }
-    Ok(found)
+    Ok(())
 }
 
-/// The sums with this choice of one part more, in the same order.
-fn shifted(
-    alloc: Global,
+/// Adds what a part may add to the counts.
+fn push_choices(
+    joiner: Joiner,
+    needs: Needs,
+    part: Part,
+    ways: &[Way],
+    found: &mut Vec<Sum>,
+) -> Result<(), AllocError> {
+    if part.is_open {
+        found.push(Sum {
+            count: contribution(joiner, needs, None),
+            cost: 0,
+            before: 0,
+            way: None,
+        })?;
+    }
+    push_ways(joiner, needs, part, ways, found)
+}
+
+/// Adds the sums with this choice of one part more, in the same order.
+fn push_shifted(
     bounds: &Bounds,
     sums: &[Sum],
     choice: &Sum,
-) -> Result<Vec<Sum>, AllocError> {
-    let mut after = Vec::new(alloc);
+    after: &mut Vec<Sum>,
+) -> Result<(), AllocError> {
     let mut before: u32 = 0;
     for sum in sums {
         let next = Sum {
@@ -187,7 +196,7 @@ fn shifted(
         }
         before = before.saturating_add(1);
     }
-    Ok(after)
+    Ok(())
 }
 
 /// Which of two lists the next sum comes from.
@@ -217,22 +226,28 @@ fn cheaper(ours: &Sum, theirs: &Sum) -> Sum {
     }
 }
 
-/// Two lists of sums in rising order of their counts as one, each count once. (Totals that wrap
+/// The next sum of two lists, and where it comes from, if one is left.
+fn next_sum(ours: Option<&Sum>, theirs: Option<&Sum>) -> Option<(Sum, Source)> {
+    match (ours, theirs) {
+        (Some(one), Some(other)) => match next_from(one, other) {
+            Source::Ours => Some((*one, Source::Ours)),
+            Source::Theirs => Some((*other, Source::Theirs)),
+            Source::Both => Some((cheaper(one, other), Source::Both)),
+        },
+        (Some(one), None) => Some((*one, Source::Ours)),
+        (None, Some(other)) => Some((*other, Source::Theirs)),
+        (None, None) => None,
+    }
+}
+
+/// Adds two lists of sums in rising order of their counts as one, each count once. (Totals that wrap
 /// break the order. Then a count may be there twice.)
-fn merged(alloc: Global, ours: &[Sum], theirs: &[Sum]) -> Result<Vec<Sum>, AllocError> {
-    let mut after = Vec::new(alloc);
+fn push_merged(ours: &[Sum], theirs: &[Sum], after: &mut Vec<Sum>) -> Result<(), AllocError> {
     let mut i: usize = 0;
     let mut j: usize = 0;
     for _ in 0..ours.len().saturating_add(theirs.len()) {
-        let (one, source) = match (ours.get(i), theirs.get(j)) {
-            (Some(one), Some(other)) => match next_from(one, other) {
-                Source::Ours => (*one, Source::Ours),
-                Source::Theirs => (*other, Source::Theirs),
-                Source::Both => (cheaper(one, other), Source::Both),
-            },
-            (Some(one), None) => (*one, Source::Ours),
-            (None, Some(other)) => (*other, Source::Theirs),
-            (None, None) => break,
+        let Some((one, source)) = next_sum(ours.get(i), theirs.get(j)) else {
+            break;
         };
         after.push(one)?;
         if !matches!(source, Source::Theirs) {
@@ -242,7 +257,23 @@ fn merged(alloc: Global, ours: &[Sum], theirs: &[Sum]) -> Result<Vec<Sum>, Alloc
             j = j.saturating_add(1);
         }
     }
-    Ok(after)
+    Ok(())
+}
+
+/// Merges in the sums with this choice of one part more.
+fn merge_choice(
+    alloc: Global,
+    bounds: &Bounds,
+    sums: &[Sum],
+    choice: &Sum,
+    after: &mut Vec<Sum>,
+) -> Result<(), AllocError> {
+    let mut more = Vec::new(alloc);
+    push_shifted(bounds, sums, choice, &mut more)?;
+    let mut merged = Vec::new(alloc);
+    push_merged(after.as_slice(), more.as_slice(), &mut merged)?;
+    *after = merged;
+    Ok(())
 }
 
 /// The sums with one part more.
@@ -254,8 +285,7 @@ fn extended(
 ) -> Result<Vec<Sum>, AllocError> {
     let mut after = Vec::new(alloc);
     for choice in choices {
-        let more = shifted(alloc, bounds, sums, choice)?;
-        after = merged(alloc, after.as_slice(), more.as_slice())?;
+        merge_choice(alloc, bounds, sums, choice, &mut after)?;
     }
     Ok(after)
 }
@@ -267,27 +297,24 @@ fn are_same(ours: &[Sum], theirs: &[Sum]) -> bool {
             && one.cost == other.cost)
 }
 
-/// The sums with a run of equal parts more, if there are at most `most`.
-fn after_run(
+/// Goes on to the sums with a run of equal parts more, and returns whether there are at most `most`.
+fn extend(
     alloc: Global,
     bounds: &Bounds,
-    sums: Vec<Sum>,
+    sums: &mut Vec<Sum>,
     choices: &[Sum],
     count: u32,
     most: usize,
-) -> Result<Option<Vec<Sum>>, AllocError> {
-    let mut sums = sums;
+) -> Result<bool, AllocError> {
     for _ in 0..count {
         let next = extended(alloc, bounds, sums.as_slice(), choices)?;
-        if next.len() > most {
-            return Ok(None);
+        let is_last = next.len() > most || are_same(sums.as_slice(), next.as_slice());
+        *sums = next;
+        if is_last {
+            break;
         }
-        if are_same(sums.as_slice(), next.as_slice()) {
-            return Ok(Some(next));
-        }
-        sums = next;
     }
-    Ok(Some(sums))
+    Ok(sums.len() <= most)
 }
 
 /// What fits the facts of a scope, if `left` interrupts are left.
@@ -338,7 +365,7 @@ fn no_parts(alloc: Global) -> Result<Vec<Sum>, AllocError> {
     Ok(sums)
 }
 
-/// The choices of the parts of a run.
+/// What each part of a run may add to the counts.
 fn choices_of(
     alloc: Global,
     table: &Table,
@@ -346,46 +373,45 @@ fn choices_of(
     needs: Needs,
     run: &Run,
 ) -> Result<Vec<Sum>, AllocError> {
-    choices(
-        alloc,
-        facts.joiner,
-        needs,
-        run.part,
-        table.ways_of(run.part),
-    )
+    let mut found = Vec::new(alloc);
+    let ways = table.ways_of(run.part);
+    push_choices(facts.joiner, needs, run.part, ways, &mut found)?;
+    Ok(found)
 }
 
-/// The sums of all parts of a scope, if no part makes more than `most`.
-fn sums(
+/// Goes on to the sums with all parts of a scope more, and returns whether no part made more than
+/// `most`.
+fn extend_by_all(
     alloc: Global,
     table: &Table,
     scope: &Seen,
     left: u32,
     needs: Needs,
     most: usize,
-) -> Result<Option<Vec<Sum>>, AllocError> {
+    sums: &mut Vec<Sum>,
+) -> Result<bool, AllocError> {
     let bounds = bounds_of(&scope.facts, left);
-    let mut found = no_parts(alloc)?;
     for run in scope.runs.as_slice() {
         let choices = choices_of(alloc, table, &scope.facts, needs, run)?;
-        let next = after_run(alloc, &bounds, found, choices.as_slice(), run.count, most)?;
-        let Some(next) = next else {
-            return Ok(None);
-        };
-        found = next;
+        if !extend(alloc, &bounds, sums, choices.as_slice(), run.count, most)? {
+            return Ok(false);
+        }
     }
-    Ok(Some(found))
+    Ok(true)
 }
 
-/// Those of some sums that fit what is known of a scope.
-fn those_that_fit(alloc: Global, facts: &Facts, sums: &[Sum]) -> Result<Vec<Sum>, AllocError> {
-    let mut found = Vec::new(alloc);
+/// Adds those of some sums that fit what is known of a scope.
+fn push_those_that_fit(
+    facts: &Facts,
+    sums: &[Sum],
+    found: &mut Vec<Sum>,
+) -> Result<(), AllocError> {
     for sum in sums {
         if fits(facts, sum.count) {
             found.push(*sum)?;
         }
     }
-    Ok(found)
+    Ok(())
 }
 
 /// The counts that fit a scope, if `left` interrupts are left, with the needed ones. Each comes
@@ -398,10 +424,13 @@ pub fn fitting_within(
     needs: Needs,
     most: usize,
 ) -> Result<Option<Vec<Sum>>, AllocError> {
-    match sums(alloc, table, scope, left, needs, most)? {
-        Some(sums) => Ok(Some(those_that_fit(alloc, &scope.facts, sums.as_slice())?)),
-        None => Ok(None),
+    let mut sums = no_parts(alloc)?;
+    let is_whole = extend_by_all(alloc, table, scope, left, needs, most, &mut sums)?;
+    let mut found = Vec::new(alloc);
+    if is_whole {
+        push_those_that_fit(&scope.facts, sums.as_slice(), &mut found)?;
     }
+    Ok(is_whole.then_some(found))
 }
 
 /// The same, however many counts there are.
@@ -456,22 +485,21 @@ fn push_layers(
     Ok(())
 }
 
-/// The sums of no part, of the first one, of the first two, and so on.
-fn layers(
+/// Adds the sums of the first part of a scope, of the first two, and so on.
+fn push_all_layers(
     alloc: Global,
     table: &Table,
     scope: &Seen,
     left: u32,
-) -> Result<Vec<Vec<Sum>>, AllocError> {
+    layers: &mut Vec<Vec<Sum>>,
+) -> Result<(), AllocError> {
     let bounds = bounds_of(&scope.facts, left);
     let needs = Needs::asked(scope.facts.asked);
-    let mut found = Vec::new(alloc);
-    found.push(no_parts(alloc)?)?;
     for run in scope.runs.as_slice() {
         let choices = choices_of(alloc, table, &scope.facts, needs, run)?;
-        push_layers(alloc, &bounds, &mut found, choices.as_slice(), run.count)?;
+        push_layers(alloc, &bounds, layers, choices.as_slice(), run.count)?;
     }
-    Ok(found)
+    Ok(())
 }
 
 /// The place of the sum that fits for the fewest interrupts.
@@ -487,6 +515,35 @@ fn best(facts: &Facts, sums: &[Sum]) -> Option<u32> {
     found
 }
 
+/// The sum at a place of a layer.
+fn sum_at(layers: &[Vec<Sum>], layer: usize, place: u32) -> Option<Sum> {
+    layers.get(layer)?.get(place as usize).copied()
+}
+
+/// Adds the ways of a pick that fits for the fewest interrupts, the last part's first. Returns
+/// whether there is one.
+fn push_picked(
+    facts: &Facts,
+    layers: &[Vec<Sum>],
+    picked: &mut Vec<Option<u32>>,
+) -> Result<bool, AllocError> {
+    let found = match layers.last() {
+        None => None,
+        Some(last) => best(facts, last.as_slice()),
+    };
+    let Some(mut place) = found else {
+        return Ok(false);
+    };
+    for layer in (1..layers.len()).rev() {
+        let Some(sum) = sum_at(layers, layer, place) else {
+            return Ok(false);
+        };
+        picked.push(sum.way)?;
+        place = sum.before;
+    }
+    Ok(true)
+}
+
 /// A pick that fits for the fewest interrupts: the way of each part, or `None` if it is
 /// unavailable.
 pub fn pick(
@@ -495,21 +552,36 @@ pub fn pick(
     scope: &Seen,
     left: u32,
 ) -> Result<Option<Vec<Option<u32>>>, AllocError> {
-    let mut layers = layers(alloc, table, scope, left)?;
+    let mut layers = Vec::new(alloc);
+    layers.push(no_parts(alloc)?)?;
+    push_all_layers(alloc, table, scope, left, &mut layers)?;
     let mut picked = Vec::new(alloc);
-    let last = layers.pop().unwrap_or(Vec::new(alloc));
-    let Some(mut place) = best(&scope.facts, last.as_slice()) else {
-        return Ok(None);
-    };
-    let mut layer = last;
-    for _ in 0..layers.len() {
-        let Some(sum) = layer.get(place as usize).copied() else {
-            return Ok(None);
-        };
-        picked.push(sum.way)?;
-        place = sum.before;
-        layer = layers.pop().unwrap_or(Vec::new(alloc));
-    }
+    let is_whole = push_picked(&scope.facts, layers.as_slice(), &mut picked)?;
     picked.reverse();
-    Ok(Some(picked))
+    Ok(is_whole.then_some(picked))
+}
+
+/// The scope with other facts and another part at a place, if some pick fits it then.
+pub fn with_fitting(
+    alloc: Global,
+    table: &Table,
+    scope: &Seen,
+    left: u32,
+    facts: Facts,
+    place: u32,
+    part: Part,
+) -> Result<Option<Seen>, AllocError> {
+    let runs = with_part(alloc, scope.runs.as_slice(), place, part)?;
+    if_fits(alloc, table, Seen { facts, runs }, left)
+}
+
+/// The scope, if some pick fits it.
+pub fn if_fits(
+    alloc: Global,
+    table: &Table,
+    scope: Seen,
+    left: u32,
+) -> Result<Option<Seen>, AllocError> {
+    let fits = some_fits(alloc, table, &scope, left)?;
+    Ok(fits.then_some(scope))
 }

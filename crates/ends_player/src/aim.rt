@@ -1,7 +1,7 @@
 //! The task that a run is about, and the way there.
 
-use crate::part::{Filter, Part, part_at, with_part};
-use crate::seen::Seen;
+use ends_known::part::{Filter, Part, part_at, with_part};
+use ends_known::seen::Seen;
 use std::alloc::{AllocError, Global};
 
 /// What a run makes of a subtask.

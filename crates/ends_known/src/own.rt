@@ -1,11 +1,11 @@
 //! A state of one task by itself.
 
+use crate::hash::{mixed, mixed_entries, mixed_values};
 use crate::seen::Seen;
-use ends_plain::hash::{mixed, mixed_values};
 use std::alloc::{AllocError, Global};
-use sts_code::LAST_SLOT;
-use sts_frames::copy_frame;
-use sts_model::{Entry, Frame, KeptEntry};
+use sts_code::{Instr, LAST_SLOT};
+use sts_frames::{copy_frame, is_local};
+use sts_model::Frame;
 use sts_same::same::Same;
 
 /// What a slot of the task holds, by place: its open scopes are counted from the outermost, and the
@@ -16,6 +16,15 @@ pub enum Held {
     Lent,
     Own(u32),
     Sub { scope: u32, part: u32 },
+}
+
+/// Is it an instruction that changes only the frame, and that a path does at once?
+pub fn is_at_once(instr: Instr) -> bool {
+    match instr {
+        Instr::Bind(_) | Instr::Unbind => true,
+        Instr::Read(_) | Instr::Bound(_) | Instr::OrElse(_) => true,
+        _ => is_local(instr),
+    }
 }
 
 /// A state of one task by itself.
@@ -43,19 +52,6 @@ fn mixed_held(hash: u64, held: &[Held]) -> u64 {
     let mut hash = hash;
     for one in held {
         hash = mixed(hash, number_of_held(*one));
-    }
-    hash
-}
-
-fn mixed_entries(hash: u64, entries: &[KeptEntry]) -> u64 {
-    let mut hash = hash;
-    for entry in entries {
-        hash = match entry.get() {
-            Entry::Scope(place) => mixed(hash, u64::from(place)),
-            Entry::Binding(key, value) => {
-                mixed(mixed(hash, 256 + u64::from(key)), value.cast_unsigned())
-            }
-        };
     }
     hash
 }

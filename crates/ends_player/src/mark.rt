@@ -4,8 +4,8 @@
 //! step. All this is the same for each end that the same subtasks lead to. So the run is marked there,
 //! and a run to another end may go on from the mark.
 
+use crate::basis::Basis;
 use crate::played::{Played, PlayedScope, Start};
-use crate::table::{Explored, Table};
 use std::alloc::{AllocError, Global};
 
 /// The steps of the root up to a cancel of its only open scope.
@@ -62,13 +62,48 @@ impl Mark {
         })
     }
 
+    /// The scope that the root opens on one of its ways, as it is at the mark, if it is the same up to
+    /// there.
+    fn scope(
+        &self,
+        alloc: Global,
+        basis: &Basis<'_>,
+        top: &Played,
+    ) -> Result<Option<PlayedScope>, AllocError> {
+        let Some(opened) = top.opening(alloc, basis, basis.root, self.birth, true)? else {
+            return Ok(None);
+        };
+        let mut scope = opened;
+        scope.births = Vec::from_slice(alloc, self.births.as_slice())?;
+        scope.played = Vec::from_slice(alloc, self.played.as_slice())?;
+        Ok(Some(scope))
+    }
+
+    /// Lets the root go on from the mark on its way, if it can. Returns whether it does.
+    fn resume(
+        &self,
+        alloc: Global,
+        basis: &Basis<'_>,
+        top: &mut Played,
+    ) -> Result<bool, AllocError> {
+        if !top.path.as_slice().starts_with(self.path.as_slice()) {
+            return Ok(false);
+        }
+        top.at = self.opened;
+        let Some(scope) = self.scope(alloc, basis, top)? else {
+            return Ok(false);
+        };
+        top.at = self.path.len().saturating_sub(1);
+        let fits = scope.is_cancelled_at(top.at) && self.fits(&scope);
+        top.scopes.push(scope)?;
+        Ok(fits)
+    }
+
     /// The root at the mark, on one of its ways, if it can go on from there.
     pub fn resumed(
         &self,
         alloc: Global,
-        table: &Table,
-        root: &Explored,
-        interrupts: u32,
+        basis: &Basis<'_>,
         way: u32,
     ) -> Result<Option<Played>, AllocError> {
         let start = Start {
@@ -76,25 +111,11 @@ impl Mark {
             way,
             birth: 0,
         };
-        let Some(played) = Played::begin(alloc, root, start)? else {
+        let Some(played) = Played::begin(alloc, basis.root, start)? else {
             return Ok(None);
         };
         let mut top = played;
-        if !top.path.as_slice().starts_with(self.path.as_slice()) {
-            return Ok(None);
-        }
-        top.at = self.opened;
-        let Some(opened) = top.opening(alloc, table, root, interrupts, self.birth)? else {
-            return Ok(None);
-        };
-        let mut scope = opened;
-        scope.births = Vec::from_slice(alloc, self.births.as_slice())?;
-        scope.played = Vec::from_slice(alloc, self.played.as_slice())?;
-        top.at = self.path.len().saturating_sub(1);
-        if !scope.is_cancelled_at(top.at) || !self.fits(&scope) {
-            return Ok(None);
-        }
-        top.scopes.push(scope)?;
-        Ok(Some(top))
+        let goes_on = self.resume(alloc, basis, &mut top)?;
+        Ok(goes_on.then_some(top))
     }
 }

@@ -1,13 +1,15 @@
 //! The search: each call is explored once, by itself.
 
 use crate::begin::{first_state, root_call};
-use crate::call::{Call, Way, number};
-use crate::own::Own;
-use crate::steps::{Around, Outcome, Step, followed};
-use crate::table::{Explored, Label, Node, Table};
-use ends_plain::config::Setting;
+use crate::next::{Around, Step};
+use crate::steps::{Outcome, followed};
+use ends_known::call::{Call, Way, number};
+use ends_known::outside::Outside;
+use ends_known::own::Own;
+use ends_known::table::{Explored, Label, Node, Table};
 use ends_search::index::Index;
 use std::alloc::{AllocError, Global};
+use sts_code::Program;
 use sts_model::End;
 
 /// A call whose states are being found.
@@ -25,6 +27,7 @@ pub struct Search {
     pub table: Table,
     /// The calls that are being explored. Each waits for the one behind it.
     stack: Vec<Exploring>,
+    pub outside: Outside,
     /// How many states were found.
     pub states: usize,
     /// Could each instruction be done, with no more totals of a scope than the search keeps?
@@ -43,7 +46,7 @@ impl Exploring {
     /// A call of which the first state was found.
     fn begin(
         alloc: Global,
-        setting: &Setting,
+        outside: Outside,
         call: Call,
         is_root: bool,
     ) -> Result<Exploring, AllocError> {
@@ -55,7 +58,7 @@ impl Exploring {
                 ways: Vec::new(alloc),
             },
             index: Index::new(alloc)?,
-            waiting: empty_lists(alloc, setting.interrupts)?,
+            waiting: empty_lists(alloc, outside.interrupts)?,
         };
         let hash = first.hash();
         exploring.push(alloc, first, hash, None, Label::Plain)?;
@@ -208,16 +211,16 @@ impl Exploring {
 
 impl Search {
     /// A search that has found the first state.
-    pub fn begin(alloc: Global, setting: &Setting) -> Result<Search, AllocError> {
-        let mut stack = Vec::new(alloc);
-        let root = root_call(alloc, &setting.program);
-        stack.push(Exploring::begin(alloc, setting, root, true)?)?;
-        Ok(Search {
+    pub fn begin(alloc: Global, program: &Program, outside: Outside) -> Result<Search, AllocError> {
+        let mut search = Search {
             table: Table::new(alloc)?,
-            stack,
-            states: 1,
+            stack: Vec::new(alloc),
+            outside,
+            states: 0,
             is_fine: true,
-        })
+        };
+        search.ask(alloc, root_call(alloc, program), true)?;
+        Ok(search)
     }
 
     /// Was each state expanded?
@@ -235,22 +238,22 @@ impl Search {
 
     /// Keeps the innermost call, all of whose states were found.
     fn keep(&mut self, alloc: Global) -> Result<(), AllocError> {
-        if let Some(done) = self.stack.pop() {
-            self.table.add(alloc, done.explored)?;
+        match self.stack.pop() {
+            Some(done) => self.table.add(alloc, done.explored),
+            None => Ok(()),
         }
-        Ok(())
     }
 
     /// Begins with another call.
-    fn ask(&mut self, alloc: Global, setting: &Setting, call: Call) -> Result<(), AllocError> {
-        self.stack
-            .push(Exploring::begin(alloc, setting, call, false)?)?;
+    fn ask(&mut self, alloc: Global, call: Call, is_root: bool) -> Result<(), AllocError> {
+        let exploring = Exploring::begin(alloc, self.outside, call, is_root)?;
+        self.stack.push(exploring)?;
         self.states = self.states.saturating_add(1);
         Ok(())
     }
 
     /// What comes of a state of the innermost call.
-    fn outcome(&self, alloc: Global, setting: &Setting, place: u32) -> Result<Outcome, AllocError> {
+    fn outcome(&self, alloc: Global, program: &Program, place: u32) -> Result<Outcome, AllocError> {
         let Some(top) = self.stack.last() else {
             return Ok(Outcome::Breaks);
         };
@@ -258,35 +261,46 @@ impl Search {
             return Ok(Outcome::Breaks);
         };
         let around = Around {
-            setting,
+            program,
+            outside: self.outside,
             table: &self.table,
             call: &top.explored.call,
         };
         followed(alloc, &around, &node.own)
     }
 
-    /// Goes on with what comes of a state.
-    fn follow(
-        &mut self,
-        alloc: Global,
-        setting: &Setting,
-        place: u32,
-        outcome: Outcome,
-    ) -> Result<(), AllocError> {
+    /// Adds the states after one of the innermost call.
+    fn add_all(&mut self, alloc: Global, place: u32, steps: Vec<Step>) -> Result<(), AllocError> {
         let Some(top) = self.stack.last_mut() else {
             return Ok(());
         };
+        let count = top.add_all(alloc, steps, place)?;
+        self.states = self.states.saturating_add(count);
+        Ok(())
+    }
+
+    /// Lets a state of the innermost call wait for another call.
+    fn wait_for(&mut self, alloc: Global, place: u32, call: Call) -> Result<(), AllocError> {
+        if let Some(top) = self.stack.last_mut() {
+            top.wait_again(place)?;
+        }
+        self.ask(alloc, call, false)
+    }
+
+    /// Adds an end of the innermost call.
+    fn end(&mut self, place: u32, end: End) -> Result<(), AllocError> {
+        match self.stack.last_mut() {
+            Some(top) => top.end(place, end),
+            None => Ok(()),
+        }
+    }
+
+    /// Goes on with what comes of a state.
+    fn follow(&mut self, alloc: Global, place: u32, outcome: Outcome) -> Result<(), AllocError> {
         match outcome {
-            Outcome::Ends(end) => top.end(place, end),
-            Outcome::Goes(steps) => {
-                let count = top.add_all(alloc, steps, place)?;
-                self.states = self.states.saturating_add(count);
-                Ok(())
-            }
-            Outcome::Asks(call) => {
-                top.wait_again(place)?;
-                self.ask(alloc, setting, call)
-            }
+            Outcome::Ends(end) => self.end(place, end),
+            Outcome::Goes(steps) => self.add_all(alloc, place, steps),
+            Outcome::Asks(call) => self.wait_for(alloc, place, call),
             Outcome::Breaks => {
                 self.is_fine = false;
                 Ok(())
@@ -294,30 +308,45 @@ impl Search {
         }
     }
 
+    /// Takes a state of the innermost call that waits, if one does.
+    fn take(&mut self) -> Option<u32> {
+        self.stack.last_mut()?.take()
+    }
+
+    /// Marks a state of the innermost call as done. Returns whether it was not.
+    fn finish(&mut self, place: u32) -> bool {
+        match self.stack.last_mut() {
+            Some(top) => top.finish(place),
+            None => false,
+        }
+    }
+
     /// Expands one state.
-    fn advance(&mut self, alloc: Global, setting: &Setting) -> Result<(), AllocError> {
-        let Some(top) = self.stack.last_mut() else {
-            return Ok(());
-        };
-        let Some(place) = top.take() else {
+    fn advance(&mut self, alloc: Global, program: &Program) -> Result<(), AllocError> {
+        let Some(place) = self.take() else {
             return self.keep(alloc);
         };
-        if !top.finish(place) {
+        if !self.finish(place) {
             return Ok(());
         }
-        let outcome = self.outcome(alloc, setting, place)?;
-        self.follow(alloc, setting, place, outcome)
+        let outcome = self.outcome(alloc, program, place)?;
+        self.follow(alloc, place, outcome)
     }
 }
 
 /// A search that has expanded each state, unless it found more than `most` of them.
-pub fn explored(alloc: Global, setting: &Setting, most: usize) -> Result<Search, AllocError> {
-    let mut search = Search::begin(alloc, setting)?;
+pub fn explored(
+    alloc: Global,
+    program: &Program,
+    outside: Outside,
+    most: usize,
+) -> Result<Search, AllocError> {
+    let mut search = Search::begin(alloc, program, outside)?;
     for _ in 0..u64::MAX {
         if search.stack.is_empty() || !search.is_fine || search.states > most {
             break;
         }
-        search.advance(alloc, setting)?;
+        search.advance(alloc, program)?;
     }
     Ok(search)
 }
