@@ -76,7 +76,7 @@ fn add_cancelled(
     Ok(())
 }
 
-/// Adds the states after a look that shows a cancel of a scope, of which its owner doesn't know.
+/// Adds the states after a look that shows that a scope is cancelled. Its owner didn't know it.
 fn looked(
     alloc: Global,
     around: &Around,

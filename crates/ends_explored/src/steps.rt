@@ -27,8 +27,8 @@ pub enum Outcome {
     Breaks,
 }
 
-/// A `fork`: the place of the scope among the open ones, how many operands are the arguments, the call
-/// by its number if it may run, and the slot that is to hold the subtask.
+/// A `fork`: the place of the scope among the open ones, and how many operands are the arguments. Then
+/// come the call by its number, if it may run, and the slot that is to hold the subtask.
 #[derive(Clone, Copy)]
 struct Fork {
     place: u32,

@@ -39,8 +39,8 @@ pub struct PlayedScope {
     pub is_late: bool,
 }
 
-/// A scope that the next step opens, as its owner knows it before its close: its place among the open
-/// ones, the number of steps before its close, and how many interrupts its owner took by then.
+/// A scope that the next step opens, as its owner knows it before its close. It has its place among
+/// the open ones, the number of steps before its close, and how many interrupts its owner took by then.
 #[derive(Drop)]
 struct Opened<'t> {
     place: u32,

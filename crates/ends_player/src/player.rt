@@ -414,8 +414,8 @@ impl<'a> Player<'a> {
         self.start(alloc, start)
     }
 
-    /// Takes the event that comes next. What is played of a task is left, once it has taken its first
-    /// steps.
+    /// Takes the event that comes next, if there is one. Of a task that is cut, only the first steps are
+    /// played: then the player leaves it.
     fn take_coming(&mut self) -> Option<Event> {
         let event = self.coming.pop()?;
         let Some((tasks, left)) = self.cut else {

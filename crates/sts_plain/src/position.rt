@@ -35,7 +35,7 @@ impl Model for Position {
     ghost view = { λ p. state_of p.misstep p.world };
 }
 
-/// The fault of a step of a living task that stands there. At a `join` there is none.
+/// The fault of a step of a living task at this place. At a `join` there is none.
 #[tactic(auto, using(crate::proofs::Stands::joins_well))]
 fn misuse_at(world: &World, program: &Program, t: u32, stand: Stand) -> Option<Fault>
     requires born { t < length world.now.tasks }
