@@ -4,6 +4,7 @@ use Rattle.std.specs.Result.{IsOk, OnOk}
 use Rattle.std.specs.List.{AllWithin}
 use Rattle.std.specs.Prelude.{nat_eq}
 use Rattle.std.proofs.lemmas.Bool.Decides.{nat_tests}
+use Rattle.std.proofs.lemmas.Result.{on_ok_weaker}
 use Rattle.std.proofs.lemmas.List.{get_or_default}
 use Rattle.std.proofs.lemmas.List.Elements.{AllWithin-more}
 
@@ -11,6 +12,10 @@ use Rattle.std.proofs.lemmas.List.Elements.{AllWithin-more}
 pub by_ok : {T E P : Type 0} (r : Result T E) → IsOk r → OnOk r P → P
 by_ok (Ok x) ok h = h
 by_ok (Err e) ok h = cc
+
+-- a step shows what follows from what its last part shows
+pub on_ok : {T E P Q : Type 0} (r : Result T E) → OnOk r P → (P → Q) → OnOk r Q
+on_ok r h f = on_ok_weaker r f h
 
 -- one element more
 pub one_more : {X : Type 0} (P : X → Type 0) (xs : List X) (i : ℕ) (d : X) → i < length xs → AllWithin P xs 0 i → P (get_or xs i d) → AllWithin P xs 0 (i + 1)

@@ -23,7 +23,7 @@ use Rattle.laws_calls.specs.declared.table.Call.{Call}
 use Rattle.laws_calls.specs.declared.table.Own.{Own}
 use Rattle.laws_calls.specs.declared.table.Seen.{Seen}
 use Rattle.laws_calls.specs.declared.table.Part.{Part}
-use Rattle.laws_calls.specs.Steps.{Table, Leads, LeadsBy, born_by, Owns, Knows, to, pushes, opened, closed}
+use Rattle.laws_calls.specs.Steps.{Table, Leads, LeadsBy, Forks, born_by, Owns, Knows, to, pushes, forked, opened, closed}
 use Rattle.laws_calls.specs.Steps.{local_step, read_step, bound_step, or_else_step, bind_step}
 use Rattle.laws_calls.specs.Steps.{unbind_step, forget_step, calm_step, interrupted_step, lent_step}
 use Rattle.laws_calls.specs.Steps.{lent_cancelled_step, going_step, cancelled_step, expired_step, open_step}
@@ -34,7 +34,7 @@ use Rattle.laws_calls.specs.Steps.{tally_step, total_step}
 use Rattle.laws_calls.specs.Steps.{is_cancelled, may_decide, may_be_late}
 use Rattle.laws_calls.specs.Steps.{with_seen, after_cancel, after_expiry}
 use Rattle.ends_table.specs.Answered.{TalliesLead, TotalsLead}
-use Rattle.ends_table.specs.Led.{AllLead, LooksLead, AttemptLeads, JoinsLead, CasesLead, ReadsLead, ForkLeads}
+use Rattle.ends_table.specs.Led.{AllLead, LooksLead, AttemptLeads, JoinsLead, CasesLead, ReadsLead}
 
 module _ (p : Program) (outside : Outside) (c : Call) (states : List Own) (own : Own) where
   -- ---- what a slot holds
@@ -148,9 +148,19 @@ module _ (p : Program) (outside : Outside) (c : Call) (states : List Own) (own :
   close_leads x h next (local_step e) = cc
   close_leads x h next close_step = h
 
-  pub fork_leads : (t : Table) (x g : ℕ) (q : Option ℕ) → ((place : ℕ) (seen : Seen) → Owns own x place seen → ForkLeads p outside t states own x g q place seen) → AllLead p outside c states own (Fork x g q)
-  fork_leads t x g q h next (local_step e) = cc
-  fork_leads t x g q h next (unstarted_step place seen o gone) = (h place seen o).unstarted gone
+  pub fork_leads : (x g : ℕ) (q : Option ℕ) (place : ℕ) (seen : Seen) → Owns own x place seen → (is_cancelled seen.knowledge ≡ true → LeadsBy (per_birth outside) states (forked p own place seen [] g q)) → AllLead p outside c states own (Fork x g q)
+  fork_leads x g q place seen o h next (local_step e) = cc
+  fork_leads x g q place seen o h next (unstarted_step place2 seen2 k gone) = owned (λ a s. is_cancelled s.knowledge ≡ true → LeadsBy (per_birth outside) states (forked p own a s [] g q)) x place place2 seen seen2 o k h gone
+
+  -- an instruction is one `fork`
+  pub fork_starts : (t : Table) (x g : ℕ) (q : Option ℕ) (place : ℕ) (seen : Seen) → Owns own x place seen → (is_cancelled seen.knowledge ≡ false → (y : ℕ) → Forks p outside t states own y g q place seen) → (y k place2 : ℕ) (h : Option ℕ) (seen2 : Seen) → Fork x g q ≡ Fork y k h → Owns own y place2 seen2 → is_cancelled seen2.knowledge ≡ false → (z : ℕ) → Forks p outside t states own z k h place2 seen2
+  fork_starts t x g q place seen o starts y k place2 h seen2 is o2 free z =
+      let slots : y ≡ x = cc in
+      let functions : g ≡ k = cc in
+      let handles : q ≡ h = cc in
+      let owns : Owns own x place2 seen2 = subst (λ (n : ℕ). Owns own n place2 seen2) slots o2 in
+      let forks : Forks p outside t states own z g q place2 seen2 = owned (λ a s. is_cancelled s.knowledge ≡ false → (n : ℕ) → Forks p outside t states own n g q a s) x place place2 seen seen2 o owns starts free z in
+      subst (λ (n : Option ℕ). Forks p outside t states own z k n place2 seen2) handles (subst (λ (n : ℕ). Forks p outside t states own z n q place2 seen2) functions forks)
 
   not_lent : (x place : ℕ) (seen : Seen) → held_at own x ≡ held.Lent → Owns own x place seen → ⊥
   not_lent x place seen holds o = let e : held.Lent ≡ held.Own place = sym holds ∙ o.holds in cc

@@ -1,7 +1,7 @@
 -- What a check of one state of a row shows: each step leads to a state of the row (this project's
 -- own).
 use Rattle.std.specs.Prelude.{◌≡◌, ℕ, ◌+◌, ℤ, List, [], ◌∷◌, length, Bool, true, false, Option}
-use Rattle.std.specs.Prelude.{Some, All}
+use Rattle.std.specs.Prelude.{Some, All, ◌&&◌}
 use Rattle.std.specs.List.{list_any}
 use Rattle.sts_code.specs.Program.{Program}
 use Rattle.sts_code.specs.declared.instr.Instr.{Instr}
@@ -13,7 +13,6 @@ use Rattle.sts_model.specs.Local.{truth, goes}
 use Rattle.sts_model.specs.World.{instr_at}
 use Rattle.laws_calls.specs.declared.table.Held.TheVariants as held
 use Rattle.laws_calls.specs.declared.table.Outside.{Outside}
-use Rattle.laws_calls.specs.Outside.{per_birth}
 use Rattle.laws_calls.specs.Tasks.{Among, HasWay, begin}
 use Rattle.laws_calls.specs.declared.table.Part.{Part}
 use Rattle.laws_calls.specs.declared.table.Seen.{Seen}
@@ -25,9 +24,11 @@ use Rattle.laws_calls.specs.Steps.{may_decide, may_be_late, is_heard, is_by_one,
 use Rattle.laws_calls.specs.Steps.{is_unseen, attempted}
 use Rattle.laws_calls.specs.Steps.{pushes, to, with_seen, with_part, after_cancel, after_expiry}
 use Rattle.laws_calls.specs.Steps.{after_all, decided, timed_out, joined, told, saw_failure, missed}
-use Rattle.laws_calls.specs.Steps.{forked, only, end_by, IsTable, root_call}
+use Rattle.laws_calls.specs.Steps.{only, end_by, IsTable, root_call}
 use Rattle.laws_calls.specs.Triggers.{is_trigger}
-use Rattle.ends_table.specs.declared.steps.Around.{Around}
+use Rattle.ends_table.specs.declared.around.Around.{Around}
+use Rattle.ends_table.specs.declared.joins.Deciding.{Deciding}
+use Rattle.ends_table.specs.declared.joins.Deciding.TheVariants.{Counting, Failing}
 
 -- each step leads to a state that is there, or to one that isn't possible
 abbrev pub AllLead : Program → Outside → Call → List Own → Own → Instr → Type 0
@@ -45,6 +46,11 @@ abbrev pub of_kind : Bool → End → Bool
 of_kind true e = is_success e
 of_kind false e = is_failure e
 
+-- may this end of the part decide what a `join` answers?
+abbrev pub decides : Deciding → Seen → Part → End → Bool
+decides Counting seen part e = is_trigger seen.joiner e
+decides Failing seen part e = part.is_early && is_failure e
+
 -- the value, or the code of the failure
 abbrev pub value_in : End → ℤ
 value_in (Success v) = v
@@ -56,6 +62,11 @@ noted true x = x
 noted false x = saw_failure x
 
 -- ---- instructions
+
+-- 0 is pushed, or else 1, if that may be
+pub record AnswersLead (states : List Own) (own : Own) (may : Bool) : Type 0 where
+  pub no : Leads states (pushes own 0 (truth false))
+  pub yes : may ≡ true → Leads states (pushes own 0 (truth true))
 
 -- `cancelled` of a scope at this place
 pub record LooksLead (states : List Own) (own : Own) (place : ℕ) (seen : Seen) : Type 0 where
@@ -127,13 +138,16 @@ ReadsLead states own place seen i part succeeds =
     (e : End) → HasWay part.ways e → of_kind succeeds e ≡ true
     → Leads states (pushes (with_part own place seen i (only e part)) 0 (value_in e))
 
--- `fork` in a scope at this place
-pub record ForkLeads (p : Program) (outside : Outside) (t : Table) (states : List Own) (own : Own)
-    (x g : ℕ) (h : Option ℕ) (place : ℕ) (seen : Seen) : Type 0 where
-  pub started : is_cancelled seen.knowledge ≡ false
-      → Forks p outside t states own x g h place seen
-  pub unstarted : is_cancelled seen.knowledge ≡ true
-      → LeadsBy (per_birth outside) states (forked p own place seen [] g h)
+-- `fork` in a scope at this place that is not known to be cancelled
+abbrev pub Starts : Around → ℕ → Seen → ℕ → Option ℕ → Type 0
+Starts a place seen g h =
+    (x : ℕ) → Forks a.program.now a.outside a.table.now a.states.now a.own.now x g h place seen
+
+-- the same for the instruction, if it is a `fork`
+abbrev pub StartsOn : Around → Instr → Type 0
+StartsOn a i =
+    (x g place : ℕ) (h : Option ℕ) (seen : Seen) → i ≡ Fork x g h → Owns a.own.now x place seen
+    → is_cancelled seen.knowledge ≡ false → Starts a place seen g h
 
 -- ---- a state, a row
 

@@ -49,7 +49,7 @@ pub fn bindings(alloc: Global, call: &Call, own: &Own) -> Result<Items<Bound>, A
 }
 
 /// The value of the first binding of a key.
-fn value_of(bindings: &[Bound], key: u8) -> Option<i64>
+pub fn value_of(bindings: &[Bound], key: u8) -> Option<i64>
     ensures { result ≡ scoped.read bindings.now key }
 {
     bindings

@@ -1,50 +1,21 @@
 //! A check that a table is closed under the steps of tasks.
 
-ghost use Rattle.std.specs.Prelude.{◌≡◌, ℕ, Option, OnOk, IfOk, All, Some, false, true};
+ghost use Rattle.std.specs.Prelude.{◌≡◌, OnOk, IfOk, All, true};
 ghost use Rattle.ends_table.specs.Led as led;
 ghost use Rattle.laws_calls.specs.declared.table.Held.TheVariants.{Empty};
 ghost use Rattle.laws_calls.specs.Steps as def;
 ghost use Rattle.laws_calls.specs.Tasks as tasks;
-ghost use Rattle.laws_calls.specs.declared.table.Seen.{Seen};
-ghost use Rattle.sts_code.specs.declared.instr.Instr.TheVariants as instrs;
 
+use crate::around::Around;
 use crate::beginning::{first_state, root_call};
-use crate::forks::forks;
 use crate::reached::is_among;
 use crate::rows::ends;
-use crate::steps::Around;
 use crate::stop::Stop;
-use laws_calls::table::{Held, Outside, Own, Row};
+use laws_calls::table::{Call, Held, Outside, Own, Row};
 use std::alloc::{AllocError, Global};
 use sts_code::{Instr, Program};
 use sts_frames::instr_at;
 use sts_same::same::Same;
-
-/// If the instruction is a `fork`, the call of the new task has a row.
-fn check_fork(
-    alloc: Global,
-    program: &Program,
-    outside: Outside,
-    table: &[Row],
-    row: &Row,
-    own: &Own,
-    instr: Instr,
-) -> Result<(), Stop>
-    ensures { OnOk result (led.ForksLead program.now outside table.now row.now own.now instr) }
-{
-    if let Instr::Fork {
-        slot,
-        function,
-        handle,
-    } = instr
-    {
-        let states = row.states.as_slice();
-        forks(
-            alloc, program, outside, table, states, own, slot, function, handle,
-        )?;
-    }
-    Ok(())
-}
 
 /// All that a table owes at a state whose next instruction is this.
 fn check_instr(
@@ -58,17 +29,19 @@ fn check_instr(
 ) -> Result<(), Stop>
     ensures { OnOk result (led.IsLed program.now outside table.now row.now own.now instr) }
 {
+    let states = row.states.as_slice();
+    let ways = row.ways.as_slice();
     let around = Around {
         program,
         outside,
         table,
         call: &row.call,
-        states: row.states.as_slice(),
+        states,
         own,
     };
-    check_fork(alloc, program, outside, table, row, own, instr)?;
+    around.starts(alloc, instr)?;
     around.steps(alloc, instr)?;
-    ends(row.ways.as_slice(), own, instr)?;
+    ends(ways, own, instr)?;
     Ok(())
 }
 
@@ -121,13 +94,31 @@ fn check_rows(alloc: Global, program: &Program, outside: Outside, table: &[Row])
     Ok(())
 }
 
+/// Is it the root's call?
+fn is_root_call(alloc: Global, program: &Program, call: &Call) -> Result<bool, Stop>
+    ensures { IfOk result (λ yes. yes ≡ true → call.now ≡ def.root_call program.now) }
+{
+    let root = root_call(alloc, program)?;
+    Ok(call.same(&root))
+}
+
+/// Has the row the first state of its call, if slot 0 is empty?
+fn begins(alloc: Global, row: &Row) -> Result<bool, Stop>
+    ensures { IfOk result (λ yes. yes ≡ true
+        → tasks.Among row.now.states (tasks.begin Empty row.now.call row.now.births)) }
+{
+    let first = first_state(alloc, &row.call, Held::Empty, row.births)?;
+    Ok(is_among(row.states.as_slice(), &first))
+}
+
 /// The row is that of the root's call, and has its first state.
 fn check_root(alloc: Global, program: &Program, root: &Row) -> Result<(), Stop>
     ensures { OnOk result (led.IsRoot program.now root.now) }
 {
-    let call = root_call(alloc, program)?;
-    let first = first_state(alloc, &call, Held::Empty, root.births)?;
-    if !root.call.same(&call) || !is_among(root.states.as_slice(), &first) {
+    if !is_root_call(alloc, program, &root.call)? {
+        return Err(Stop::Unknown);
+    }
+    if !begins(alloc, root)? {
         return Err(Stop::Unknown);
     }
     Ok(())

@@ -3,19 +3,18 @@
 ghost use Rattle.std.specs.Prelude.{IfOk, IfSome};
 ghost use Rattle.ends_table.specs.Led as led;
 
+use crate::around::Around;
 use crate::beginning::{first_state, root_call};
 use crate::births::{Births, Steps};
 use crate::check::is_closed;
 use crate::fingerprints::{fingerprint, sort};
-use crate::forks::{born_by_fork, forks};
 use crate::rows::ends;
-use crate::steps::Around;
 use crate::stop::Stop;
 use ends_search::index::Index;
 use laws_calls::shared::Shared;
 use laws_calls::table::{Call, Held, Outside, Own, Row, Seen, Way};
 use std::alloc::{AllocError, Global};
-use sts_code::{Instr, Program};
+use sts_code::Program;
 use sts_frames::instr_at;
 use sts_model::{End, Items};
 use sts_same::same::Same;
@@ -85,61 +84,26 @@ fn size(own: &Own) -> usize {
     size
 }
 
-/// If the instruction is a `fork`, looks for the row of the call.
-fn fork_of(
-    alloc: Global,
-    program: &Program,
-    outside: Outside,
-    rows: &[Row],
-    next: &[Own],
-    own: &Own,
-    instr: Instr,
-) -> Result<(), Stop> {
-    if let Instr::Fork {
-        slot,
-        function,
-        handle,
-    } = instr
-    {
-        forks(
-            alloc, program, outside, rows, next, own, slot, function, handle,
-        )?;
-    }
-    Ok(())
-}
-
-/// The births by the steps of a state.
-fn born_at(
-    alloc: Global,
-    program: &Program,
-    outside: Outside,
-    rows: &[Row],
-    own: &Own,
-) -> Result<u32, Stop> {
-    match instr_at(program, &own.frame) {
-        Some(Instr::Open { .. }) => Ok(outside.per_birth()),
-        Some(Instr::Fork { slot, function, .. }) => {
-            born_by_fork(alloc, program, outside, rows, own, slot, function)
-        }
-        _ => Ok(0),
-    }
-}
-
 impl Open {
-    /// The row of a call, with its first state.
-    fn begin(alloc: Global, call: Call, first: Held) -> Result<Open, Stop> {
-        let own = first_state(alloc, &call, first, PLENTY)?;
-        let mut open = Open {
+    /// The row of a call, with no state.
+    fn new(alloc: Global, call: Call) -> Result<Open, AllocError> {
+        let index = Index::new(alloc)?;
+        Ok(Open {
             call,
             states: Vec::new(alloc),
             births: Births::new(alloc),
-            index: Index::new(alloc)?,
+            index,
             ways: Items::new(alloc),
             done: 0,
             next: Vec::new(alloc),
-        };
-        open.add(alloc, own)?;
-        Ok(open)
+        })
+    }
+
+    /// Adds the call's first state, with this in slot 0.
+    fn add_first(&mut self, alloc: Global, first: Held) -> Result<(), Stop> {
+        let own = first_state(alloc, &self.call, first, PLENTY)?;
+        self.add(alloc, own)?;
+        Ok(())
     }
 
     fn is_at(&self, place: usize, own: &Own) -> bool {
@@ -168,8 +132,8 @@ impl Open {
     fn push(&mut self, alloc: Global, own: Own, print: u64) -> Result<(), AllocError> {
         let mut state = own;
         state.left = PLENTY;
-        self.index.add(alloc, print)?;
         self.states.push(state)?;
+        self.index.add(alloc, print)?;
         Ok(())
     }
 
@@ -227,7 +191,7 @@ impl Open {
         sort(&mut self.next)
     }
 
-    /// Looks at a state. The error has what is missing.
+    /// The births by the steps of a state. The error has what is missing.
     fn look(
         &self,
         alloc: Global,
@@ -235,22 +199,22 @@ impl Open {
         outside: Outside,
         rows: &[Row],
         own: &Own,
-    ) -> Result<(), Stop> {
+    ) -> Result<u32, Stop> {
         let Some(instr) = instr_at(program, &own.frame) else {
-            return Ok(());
+            return Ok(0);
         };
-        let next = self.next.as_slice();
         let around = Around {
             program,
             outside,
             table: rows,
             call: &self.call,
-            states: next,
+            states: self.next.as_slice(),
             own,
         };
-        fork_of(alloc, program, outside, rows, next, own, instr)?;
+        around.starts(alloc, instr)?;
         around.steps(alloc, instr)?;
-        ends(self.ways.as_slice(), own, instr)
+        ends(self.ways.as_slice(), own, instr)?;
+        around.born_by(alloc, instr)
     }
 
     /// The row, with its states in order.
@@ -305,7 +269,8 @@ impl Closing {
 
     /// Begins with another call.
     fn begin(&mut self, alloc: Global, call: Call, first: Held) -> Result<(), Stop> {
-        let open = Open::begin(alloc, call, first)?;
+        let mut open = Open::new(alloc, call)?;
+        open.add_first(alloc, first)?;
         Ok(self.push_open(open)?)
     }
 
@@ -318,10 +283,7 @@ impl Closing {
             return Look::Done;
         };
         match top.look(alloc, program, self.outside, self.rows.as_slice(), own) {
-            Ok(()) => match born_at(alloc, program, self.outside, self.rows.as_slice(), own) {
-                Ok(born) => Look::Passed(born),
-                Err(stop) => Look::Lacks(stop),
-            },
+            Ok(born) => Look::Passed(born),
             Err(stop) => Look::Lacks(stop),
         }
     }

@@ -1,15 +1,16 @@
 //! The states after `fork`.
 
-ghost use Rattle.std.specs.Prelude.{◌≡◌, ◌+◌, ℕ, [], ◌∷◌, ◌++◌, IfOk, OnOk, reverse, take};
+ghost use Rattle.std.specs.Prelude.{◌≡◌, ◌+◌, [], ◌∷◌, ◌++◌, IfOk, OnOk, reverse, take};
 ghost use Rattle.ends_table.specs.Led as led;
 ghost use Rattle.laws_calls.specs.Outside.{per_birth};
 ghost use Rattle.laws_calls.specs.Steps as def;
-ghost use Rattle.laws_calls.specs.declared.table.Seen.{Seen};
 ghost use Rattle.sts_code.specs.Program.{routine};
+ghost use Rattle.sts_code.specs.declared.instr.Instr.TheVariants as instrs;
 
+use crate::around::Around;
 use crate::beginning::first_state;
 use crate::frames::stepped;
-use crate::places::{number, owned, set_held, with_scope};
+use crate::places::{number, owned, set_held, with_parts, with_scope};
 use crate::reached::leads_after;
 use crate::rows::row_of;
 use crate::stop::Stop;
@@ -17,9 +18,9 @@ use ends_picks::joiners::is_cancelled;
 use laws_calls::shared::Shared;
 use laws_calls::table::{Call, Held, Outside, Own, Part, Row, Seen, Way};
 use std::alloc::{AllocError, Global};
-use sts_code::{Program, args};
+use sts_code::{Instr, Program, args};
 use sts_model::Items;
-use sts_same::copied::{Copied, copy_items};
+use sts_same::copied::copy_items;
 
 /// Numbers as a list that grows.
 fn listed(alloc: Global, values: &[i64]) -> Result<Items<i64>, AllocError>
@@ -84,31 +85,8 @@ fn with_new_part(alloc: Global, seen: &Seen, ways: &Shared<Way>) -> Result<Seen,
         is_open: true,
         is_early: !seen.has_failure,
     };
-    let mut after = seen.copied(alloc)?;
-    after.parts = seen.parts.pushed(alloc, part)?;
-    Ok(after)
-}
-
-/// The state after a `fork` in a scope at this place. The new part has these ways.
-fn forked(
-    alloc: Global,
-    program: &Program,
-    own: &Own,
-    place: u32,
-    seen: &Seen,
-    ways: &Shared<Way>,
-    function: u32,
-    handle: Option<u8>,
-) -> Result<Own, Stop>
-    ensures { IfOk result (λ o. o
-        ≡ def.forked program.now own.now place seen.now ways.now function handle) }
-{
-    let count = number(seen.parts.len())?;
-    let after = with_new_part(alloc, seen, ways)?;
-    let frame = stepped(&own.frame, args(program, function) as usize)?;
-    let mut next = with_scope(alloc, own, place, after, frame)?;
-    next.held = with_handle(&own.held, handle, Held::Sub(place, count));
-    Ok(next)
+    let parts = seen.parts.pushed(alloc, part)?;
+    with_parts(alloc, seen, parts)
 }
 
 /// The births by a `fork`: the new task, and all that may be born of it.
@@ -122,133 +100,159 @@ fn born_with(outside: Outside, row: &Row) -> Result<u32, Stop>
     Ok(one + row.births)
 }
 
-/// The row of the new task's call, and the state after the `fork`.
-fn started(
-    alloc: Global,
-    program: &Program,
-    outside: Outside,
-    table: &[Row],
-    states: &[Own],
-    own: &Own,
-    place: u32,
-    seen: &Seen,
-    slot: u8,
-    function: u32,
-    handle: Option<u8>,
-) -> Result<(), Stop>
-    ensures { OnOk result (def.Forks program.now outside table.now states.now own.now slot function handle
-        place seen.now) }
-{
-    let call = call_of(alloc, program, own, seen, function)?;
-    let first = first_state(alloc, &call, Held::Lent, 0)?;
-    let Some(row) = row_of(table, &call, &first) else {
-        return Err(Stop::Call(call));
-    };
-    let next = forked(
-        alloc, program, own, place, seen, &row.ways, function, handle,
-    )?;
-    let born = born_with(outside, row)?;
-    leads_after(states, next, born)?;
-    Ok(())
-}
-
-/// The births by the `fork` of a state.
-pub fn born_by_fork(
-    alloc: Global,
-    program: &Program,
-    outside: Outside,
-    table: &[Row],
-    own: &Own,
-    slot: u8,
-    function: u32,
-) -> Result<u32, Stop> {
-    let (_, seen) = owned(own, slot)?;
-    if is_cancelled(seen.knowledge) {
-        return Ok(outside.per_birth());
-    }
-    let call = call_of(alloc, program, own, seen, function)?;
-    let first = first_state(alloc, &call, Held::Lent, 0)?;
-    match row_of(table, &call, &first) {
-        Some(row) => born_with(outside, row),
-        None => Err(Stop::Call(call)),
-    }
-}
-
 fn no_ways(alloc: Global) -> Result<Shared<Way>, AllocError>
     ensures { IfOk result (λ ways. ways ≡ []) }
 {
     Shared::new(alloc, Items::new(alloc))
 }
 
-/// The state after a `fork` in a scope that is known to be cancelled.
-fn unstarted(
-    alloc: Global,
-    program: &Program,
-    outside: Outside,
-    states: &[Own],
-    own: &Own,
-    place: u32,
-    seen: &Seen,
-    function: u32,
-    handle: Option<u8>,
-) -> Result<(), Stop>
-    ensures { OnOk result (def.LeadsBy (per_birth outside) states.now
-        (def.forked program.now own.now place seen.now [] function handle)) }
-{
-    let none = no_ways(alloc)?;
-    let next = forked(alloc, program, own, place, seen, &none, function, handle)?;
-    leads_after(states, next, outside.per_birth())?;
-    Ok(())
-}
-
-/// The states after a `fork` in a scope at this place.
-fn forks_at(
-    alloc: Global,
-    program: &Program,
-    outside: Outside,
-    table: &[Row],
-    states: &[Own],
-    own: &Own,
-    place: u32,
-    seen: &Seen,
-    slot: u8,
-    function: u32,
-    handle: Option<u8>,
-) -> Result<(), Stop>
-    ensures { OnOk result (led.ForkLeads program.now outside table.now states.now own.now slot function
-        handle place seen.now) }
-{
-    if is_cancelled(seen.knowledge) {
-        unstarted(
-            alloc, program, outside, states, own, place, seen, function, handle,
-        )?;
-    } else {
-        started(
-            alloc, program, outside, table, states, own, place, seen, slot, function, handle,
-        )?;
+impl<'a> Around<'a> {
+    /// The row of the call of a new task in a scope.
+    fn row_of_task(&self, alloc: Global, seen: &Seen, function: u32) -> Result<&'a Row, Stop>
+        ensures { IfOk result (λ row. def.IsRowOf self.now.table.now row.now
+            (def.call_of self.now.program.now self.now.own.now seen.now function)) }
+    {
+        let call = call_of(alloc, self.program, self.own, seen, function)?;
+        let first = first_state(alloc, &call, Held::Lent, 0)?;
+        match row_of(self.table, &call, &first) {
+            Some(row) => Ok(row),
+            None => Err(Stop::Call(call)),
+        }
     }
-    Ok(())
-}
 
-/// The states after a `fork`.
-pub fn forks(
-    alloc: Global,
-    program: &Program,
-    outside: Outside,
-    table: &[Row],
-    states: &[Own],
-    own: &Own,
-    slot: u8,
-    function: u32,
-    handle: Option<u8>,
-) -> Result<(), Stop>
-    ensures { OnOk result ((place : ℕ) → (seen : Seen) → def.Owns own.now slot place seen
-        → led.ForkLeads program.now outside table.now states.now own.now slot function handle place
-        seen) }
-{
-    let (place, seen) = owned(own, slot)?;
-    forks_at(
-        alloc, program, outside, table, states, own, place, seen, slot, function, handle,
-    )?;
-    Ok(())
+    /// The state after a `fork` in a scope at this place. The new part has these ways.
+    fn forked(
+        &self,
+        alloc: Global,
+        place: u32,
+        seen: &Seen,
+        ways: &Shared<Way>,
+        function: u32,
+        handle: Option<u8>,
+    ) -> Result<Own, Stop>
+        ensures { IfOk result (λ o. o ≡ def.forked self.now.program.now self.now.own.now place
+            seen.now ways.now function handle) }
+    {
+        let count = number(seen.parts.len())?;
+        let frame = stepped(&self.own.frame, args(self.program, function) as usize)?;
+        let after = with_new_part(alloc, seen, ways)?;
+        let mut next = with_scope(alloc, self.own, place, after, frame)?;
+        next.held = with_handle(&self.own.held, handle, Held::Sub(place, count));
+        Ok(next)
+    }
+
+    /// If that state may be possible, it is among the states after these births, or the error has
+    /// it.
+    fn leads_forked(
+        &self,
+        alloc: Global,
+        place: u32,
+        seen: &Seen,
+        ways: &Shared<Way>,
+        function: u32,
+        handle: Option<u8>,
+        born: u32,
+    ) -> Result<(), Stop>
+        ensures { OnOk result (def.LeadsBy born self.now.states.now (def.forked
+            self.now.program.now self.now.own.now place seen.now ways.now function handle)) }
+    {
+        let next = self.forked(alloc, place, seen, ways, function, handle)?;
+        leads_after(self.states, next, born)
+    }
+
+    /// The row of the new task's call, and the state after the `fork`.
+    fn started(
+        &self,
+        alloc: Global,
+        place: u32,
+        seen: &Seen,
+        function: u32,
+        handle: Option<u8>,
+    ) -> Result<(), Stop>
+        ensures { OnOk result (led.Starts self.now place seen.now function handle) }
+    {
+        let row = self.row_of_task(alloc, seen, function)?;
+        let born = born_with(self.outside, row)?;
+        self.leads_forked(alloc, place, seen, &row.ways, function, handle, born)
+    }
+
+    /// The state after a `fork` in a scope that is known to be cancelled.
+    fn unstarted(
+        &self,
+        alloc: Global,
+        place: u32,
+        seen: &Seen,
+        function: u32,
+        handle: Option<u8>,
+    ) -> Result<(), Stop>
+        ensures { OnOk result (def.LeadsBy (per_birth self.now.outside) self.now.states.now
+            (def.forked self.now.program.now self.now.own.now place seen.now [] function
+            handle)) }
+    {
+        let none = no_ways(alloc)?;
+        let born = self.outside.per_birth();
+        self.leads_forked(alloc, place, seen, &none, function, handle, born)
+    }
+
+    /// The state after a `fork` in a scope that is known to be cancelled.
+    pub fn fork(
+        &self,
+        alloc: Global,
+        slot: u8,
+        function: u32,
+        handle: Option<u8>,
+    ) -> Result<(), Stop>
+        ensures { OnOk result (led.LeadsOn self.now (instrs.Fork slot function handle)) }
+    {
+        let (place, seen) = owned(self.own, slot)?;
+        if !is_cancelled(seen.knowledge) {
+            return Ok(());
+        }
+        self.unstarted(alloc, place, seen, function, handle)
+    }
+
+    /// The state after a `fork` in another scope.
+    fn start(&self, alloc: Global, slot: u8, function: u32, handle: Option<u8>) -> Result<(), Stop>
+        ensures { OnOk result (led.StartsOn self.now (instrs.Fork slot function handle)) }
+    {
+        let (place, seen) = owned(self.own, slot)?;
+        if is_cancelled(seen.knowledge) {
+            return Ok(());
+        }
+        self.started(alloc, place, seen, function, handle)
+    }
+
+    /// If the instruction is a `fork` in a scope that may not be cancelled, the new task's call has a
+    /// row, and the state after it is among the states.
+    pub fn starts(&self, alloc: Global, instr: Instr) -> Result<(), Stop>
+        ensures { OnOk result (led.StartsOn self.now instr) }
+    {
+        match instr {
+            Instr::Fork {
+                slot,
+                function,
+                handle,
+            } => self.start(alloc, slot, function, handle),
+            _ => Ok(()),
+        }
+    }
+
+    /// The births by a `fork`.
+    fn born_by_fork(&self, alloc: Global, slot: u8, function: u32) -> Result<u32, Stop> {
+        let (_, seen) = owned(self.own, slot)?;
+        if is_cancelled(seen.knowledge) {
+            return Ok(self.outside.per_birth());
+        }
+        let row = self.row_of_task(alloc, seen, function)?;
+        born_with(self.outside, row)
+    }
+
+    /// The births by an instruction.
+    pub fn born_by(&self, alloc: Global, instr: Instr) -> Result<u32, Stop> {
+        match instr {
+            Instr::Open { .. } => Ok(self.outside.per_birth()),
+            Instr::Fork { slot, function, .. } => self.born_by_fork(alloc, slot, function),
+            _ => Ok(0),
+        }
+    }
 }

@@ -1,6 +1,7 @@
 //! Tables of calls: a check that a table is closed under the steps of tasks.
 #![tactic(auto)]
 
+pub mod around;
 pub mod beginning;
 pub mod bindings;
 pub mod births;

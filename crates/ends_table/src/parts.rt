@@ -1,6 +1,6 @@
 //! What an owner knows of its subtasks after it looked.
 
-ghost use Rattle.std.specs.Prelude.{◌≡◌, [], ◌∷◌, IfOk, map, ◌<◌, length, true, not};
+ghost use Rattle.std.specs.Prelude.{◌≡◌, IfOk, map, ◌<◌, length, true};
 ghost use Rattle.std.specs.List.{filter, list_any};
 ghost use Rattle.ends_table.specs.Led as led;
 ghost use Rattle.laws_calls.specs.Steps as def;
@@ -8,7 +8,7 @@ ghost use Rattle.laws_calls.specs.declared.table.Part.{Part};
 ghost use Rattle.laws_calls.specs.declared.table.Way.{Way};
 ghost use Rattle.sts_repeats.specs.declared.runs.Run.{Run};
 
-use crate::places::with_part;
+use crate::places::{with_part, with_parts};
 use ends_picks::counts::sure_count;
 use ends_picks::joiners::{is_failure, is_success, is_trigger, is_unseen, most};
 use laws_calls::shared::Shared;
@@ -21,7 +21,7 @@ use sts_repeats::runs::{Run, push_run};
 use sts_same::copied::Copied;
 
 /// The part has ended by this end.
-pub fn only(alloc: Global, end: End, part: &Part) -> Result<Part, AllocError>
+fn only(alloc: Global, end: End, part: &Part) -> Result<Part, AllocError>
     ensures { IfOk result (λ x. x ≡ def.only end part.now) }
 {
     let mut ways = Items::new(alloc);
@@ -45,7 +45,7 @@ fn ended(part: &Part) -> Result<Part, AllocError>
 }
 
 /// Each part has ended.
-pub fn all_ended(alloc: Global, parts: &Repeats<Part>) -> Result<Repeats<Part>, AllocError>
+fn all_ended(alloc: Global, parts: &Repeats<Part>) -> Result<Repeats<Part>, AllocError>
     ensures { IfOk result (λ xs. xs ≡ map def.ended parts.now) }
 {
     let mut after = Vec::new(alloc);
@@ -53,6 +53,31 @@ pub fn all_ended(alloc: Global, parts: &Repeats<Part>) -> Result<Repeats<Part>, 
         push_run(&mut after, ended(&run.value)?, run.more)?;
     }
     Repeats::of(alloc, after)
+}
+
+/// The scope after all its subtasks ended.
+pub fn after_all(alloc: Global, seen: &Seen) -> Result<Seen, AllocError>
+    ensures { IfOk result (λ x. x ≡ def.after_all seen.now) }
+{
+    let parts = all_ended(alloc, &seen.parts)?;
+    let mut after = with_parts(alloc, seen, parts)?;
+    after.knowledge = Knowledge::Heard;
+    Ok(after)
+}
+
+/// The scope after one part has ended by this end.
+pub fn with_end(
+    alloc: Global,
+    seen: &Seen,
+    i: u32,
+    part: &Part,
+    end: End,
+) -> Result<Seen, AllocError>
+    requires { i < length seen.now.parts }
+    ensures { IfOk result (λ x. x ≡ def.decided seen.now i end part.now) }
+{
+    let part = only(alloc, end, part)?;
+    with_part(alloc, seen, i, part)
 }
 
 /// May a part of some run be unavailable?
@@ -119,15 +144,34 @@ fn settled(seen: Seen) -> Seen
     seen
 }
 
-/// The scope after its owner saw a failure, if there was one.
-fn noted(alloc: Global, seen: &Seen, succeeds: bool) -> Result<Seen, AllocError>
-    ensures { IfOk result (λ x. x ≡ led.noted succeeds seen.now) }
+/// The part has ended by one of its ways of this kind that count towards a cancel, or don't.
+fn kept(
+    alloc: Global,
+    joiner: Joiner,
+    part: &Part,
+    counting: bool,
+    succeeds: bool,
+) -> Result<Part, AllocError>
+    ensures { IfOk result
+        (λ x. x ≡ def.kept (def.split joiner counting (led.of_kind succeeds)) part.now) }
 {
-    let mut after = seen.copied(alloc)?;
+    let ways = split(alloc, joiner, counting, succeeds, part.ways.as_slice())?;
+    Ok(Part {
+        ways: Shared::new(alloc, ways)?,
+        is_open: false,
+        is_early: part.is_early,
+    })
+}
+
+/// The scope after its owner saw a failure, if there was one.
+fn noted(seen: Seen, succeeds: bool) -> Seen
+    ensures { result ≡ led.noted succeeds seen }
+{
+    let mut after = seen;
     if !succeeds {
         after.has_failure = true;
     }
-    Ok(after)
+    after
 }
 
 /// The scope after its owner saw that a part has ended by an end of this kind.
@@ -143,14 +187,9 @@ pub fn told(
     ensures { IfOk result (λ x. x ≡ def.told (led.noted succeeds seen.now) i part.now counting
         (led.of_kind succeeds)) }
 {
-    let ways = split(alloc, seen.joiner, counting, succeeds, part.ways.as_slice())?;
-    let part = Part {
-        ways: Shared::new(alloc, ways)?,
-        is_open: false,
-        is_early: part.is_early,
-    };
-    let after = noted(alloc, seen, succeeds)?;
-    Ok(settled(with_part(alloc, &after, i, part)?))
+    let part = kept(alloc, seen.joiner, part, counting, succeeds)?;
+    let after = with_part(alloc, seen, i, part)?;
+    Ok(settled(noted(after, succeeds)))
 }
 
 /// The part had not ended when the owner looked.

@@ -10,6 +10,7 @@ use laws_calls::table::{Held, Own, Part, Seen};
 use std::alloc::{AllocError, Global};
 use sts_code::LAST_SLOT;
 use sts_model::Frame;
+use sts_repeats::repeats::Repeats;
 use sts_same::copied::copy_items;
 
 /// A number of 32 bits.
@@ -129,19 +130,28 @@ pub fn with_scope(
     })
 }
 
+/// The scope with other parts.
+pub fn with_parts(alloc: Global, seen: &Seen, parts: Repeats<Part>) -> Result<Seen, AllocError>
+    ensures { IfOk result (λ x. x ≡ record seen.now { parts = parts }) }
+{
+    let environment = copy_items(alloc, &seen.environment)?;
+    Ok(Seen {
+        joiner: seen.joiner,
+        timed: seen.timed,
+        environment,
+        phase: seen.phase,
+        knowledge: seen.knowledge,
+        asked: seen.asked,
+        has_failure: seen.has_failure,
+        parts,
+    })
+}
+
 /// The scope with another part.
 pub fn with_part(alloc: Global, seen: &Seen, i: u32, part: Part) -> Result<Seen, AllocError>
     requires { i < length seen.now.parts }
     ensures { IfOk result (λ x. x ≡ def.parts_with seen.now i part) }
 {
-    Ok(Seen {
-        joiner: seen.joiner,
-        timed: seen.timed,
-        environment: copy_items(alloc, &seen.environment)?,
-        phase: seen.phase,
-        knowledge: seen.knowledge,
-        asked: seen.asked,
-        has_failure: seen.has_failure,
-        parts: seen.parts.with(alloc, i as usize, part)?,
-    })
+    let parts = seen.parts.with(alloc, i as usize, part)?;
+    with_parts(alloc, seen, parts)
 }

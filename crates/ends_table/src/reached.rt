@@ -1,10 +1,13 @@
 //! Whether a state is among those of a row.
 
-ghost use Rattle.std.specs.Prelude.{◌≡◌, ◌+◌, ◌≤◌, ℕ, true, OnOk, IfSome};
+ghost use Rattle.std.specs.Prelude.{◌≡◌, ◌+◌, ◌≤◌, ℕ, [], ◌∷◌, true, OnOk, IfSome};
 ghost use Rattle.laws_calls.specs.Steps as def;
 ghost use Rattle.laws_calls.specs.Tasks.{Among};
+ghost use Rattle.sts_model.specs.Local as locals;
 
+use crate::around::Around;
 use crate::fingerprints::{first_like, is_past};
+use crate::frames::{jumped, pushed};
 use crate::places::{with_frame, with_scope};
 use crate::stop::Stop;
 use ends_picks::possible::is_possible;
@@ -88,24 +91,41 @@ pub fn leads(states: &[Own], next: Own) -> Result<(), Stop>
     leads_after(states, next, 0)
 }
 
-/// The same for the state with another frame.
-pub fn leads_by(alloc: Global, states: &[Own], own: &Own, frame: Frame) -> Result<(), Stop>
-    ensures { OnOk result (def.Leads states.now (def.to own.now frame)) }
-{
-    leads(states, with_frame(alloc, own, frame)?)
-}
+impl<'a> Around<'a> {
+    /// The same for the state with another frame.
+    pub fn leads_by(&self, alloc: Global, frame: Frame) -> Result<(), Stop>
+        ensures { OnOk result
+            (def.Leads self.now.states.now (def.to self.now.own.now frame)) }
+    {
+        let next = with_frame(alloc, self.own, frame)?;
+        leads(self.states, next)
+    }
 
-/// The same for the state with another scope at a place, and another frame.
-pub fn leads_with(
-    alloc: Global,
-    states: &[Own],
-    own: &Own,
-    place: u32,
-    seen: Seen,
-    frame: Frame,
-) -> Result<(), Stop>
-    ensures { OnOk result
-        (def.Leads states.now (def.to (def.with_seen own.now place seen) frame)) }
-{
-    leads(states, with_scope(alloc, own, place, seen, frame)?)
+    /// The same for the state with another scope at a place, and another frame.
+    pub fn leads(&self, alloc: Global, place: u32, seen: Seen, frame: Frame) -> Result<(), Stop>
+        ensures { OnOk result (def.Leads self.now.states.now
+            (def.to (def.with_seen self.now.own.now place seen) frame)) }
+    {
+        let next = with_scope(alloc, self.own, place, seen, frame)?;
+        leads(self.states, next)
+    }
+
+    /// The same, where the frame is at the next place, after it pushed a value.
+    pub fn pushes(&self, alloc: Global, place: u32, seen: Seen, value: i64) -> Result<(), Stop>
+        ensures { OnOk result (def.Leads self.now.states.now
+            (def.to (def.with_seen self.now.own.now place seen)
+            (locals.steps self.now.own.now.frame 0 (value ∷ [])))) }
+    {
+        let frame = pushed(&self.own.frame, 0, value)?;
+        self.leads(alloc, place, seen, frame)
+    }
+
+    /// The same, where the frame is at this place.
+    pub fn goes(&self, alloc: Global, place: u32, seen: Seen, to: u32) -> Result<(), Stop>
+        ensures { OnOk result (def.Leads self.now.states.now
+            (def.to (def.with_seen self.now.own.now place seen)
+            (locals.goes self.now.own.now.frame to 0 []))) }
+    {
+        self.leads(alloc, place, seen, jumped(&self.own.frame, to, 0))
+    }
 }

@@ -71,13 +71,15 @@ pub fn opened(
     ensures { IfOk result (λ o. o ≡ def.opened call.now own.now slot joiner timed) }
 {
     let place = number(own.scopes.as_slice().len())?;
+    let frame = entered(&own.frame)?;
+    let seen = fresh(alloc, call, own, joiner, timed)?;
+    let scopes = copy_behind(alloc, seen, own.scopes.as_slice())?;
     let mut held = own.held;
     set_held(&mut held, slot, Held::Own(place));
-    let seen = fresh(alloc, call, own, joiner, timed)?;
     Ok(Own {
-        frame: entered(&own.frame)?,
+        frame,
         held,
-        scopes: copy_behind(alloc, seen, own.scopes.as_slice())?,
+        scopes,
         left: own.left,
     })
 }
@@ -129,10 +131,11 @@ fn outer(alloc: Global, scopes: &[Seen]) -> Result<Items<Seen>, AllocError>
 pub fn closed(alloc: Global, own: &Own) -> Result<Own, Stop>
     ensures { IfOk result (λ o. o ≡ def.closed own.now) }
 {
+    let frame = left(&own.frame)?;
     let scopes = outer(alloc, own.scopes.as_slice())?;
     let place = number(scopes.as_slice().len())?;
     Ok(Own {
-        frame: left(&own.frame)?,
+        frame,
         held: cleared(place, &own.held),
         scopes,
         left: own.left,

@@ -8,21 +8,17 @@ ghost use Rattle.laws_calls.specs.declared.table.Held.TheVariants as held;
 ghost use Rattle.sts_code.specs.declared.instr.Instr.TheVariants as instrs;
 ghost use Rattle.sts_model.specs.Local as locals;
 
+use crate::around::Around;
 use crate::bindings::{after_bound, after_or_else, after_read, bound};
-use crate::cases::{cases, reads};
-use crate::forks::forks;
-use crate::frames::{after_local, left, pushed, stepped};
-use crate::joins::{attempted, joins, target};
-use crate::looks::{interrupted, lent_cancelled, looks, not_cancelled};
+use crate::frames::{after_local, left, stepped};
+use crate::joins::target;
 use crate::places::{held_at, known, owned, set_held, with_frame};
-use crate::reached::{leads, leads_after, leads_by};
+use crate::reached::{leads, leads_after};
 use crate::scopes::{closed, opened};
 use crate::stop::Stop;
-use crate::sums::totals;
-use crate::tallies::tallies;
-use laws_calls::table::{Call, Held, Outside, Own, Row, Seen};
+use laws_calls::table::{Held, Own, Seen};
 use std::alloc::Global;
-use sts_code::{Instr, Joiner, Kind, Program};
+use sts_code::{Instr, Joiner, Kind};
 use sts_frames::is_local;
 
 /// The state after a handle was forgotten.
@@ -38,132 +34,89 @@ fn forgotten(alloc: Global, own: &Own, handle: u8) -> Result<Own, Stop>
     Ok(next)
 }
 
-/// A state of a row, and what its steps depend on.
-#[derive(Drop)]
-pub struct Around<'a> {
-    pub program: &'a Program,
-    /// What may come to a task from outside.
-    pub outside: Outside,
-    pub table: &'a [Row],
-    pub call: &'a Call,
-    pub states: &'a [Own],
-    pub own: &'a Own,
-}
-
 impl<'a> Around<'a> {
     fn local(&self, alloc: Global, instr: Instr) -> Result<(), Stop>
         requires { locals.is_local instr ≡ true }
         ensures { OnOk result (led.LeadsOn self.now instr) }
     {
         let frame = after_local(&self.own.frame, self.program, instr)?;
-        leads_by(alloc, self.states, self.own, frame)?;
-        Ok(())
+        self.leads_by(alloc, frame)
     }
 
     fn read(&self, alloc: Global, key: u8) -> Result<(), Stop>
         ensures { OnOk result (led.LeadsOn self.now (instrs.Read key)) }
     {
         let frame = after_read(alloc, self.call, self.own, key)?;
-        leads_by(alloc, self.states, self.own, frame)?;
-        Ok(())
+        self.leads_by(alloc, frame)
     }
 
     fn is_bound(&self, alloc: Global, key: u8) -> Result<(), Stop>
         ensures { OnOk result (led.LeadsOn self.now (instrs.Bound key)) }
     {
         let frame = after_bound(alloc, self.call, self.own, key)?;
-        leads_by(alloc, self.states, self.own, frame)?;
-        Ok(())
+        self.leads_by(alloc, frame)
     }
 
     fn or_else(&self, alloc: Global, key: u8) -> Result<(), Stop>
         ensures { OnOk result (led.LeadsOn self.now (instrs.OrElse key)) }
     {
         let frame = after_or_else(alloc, self.call, self.own, key)?;
-        leads_by(alloc, self.states, self.own, frame)?;
-        Ok(())
+        self.leads_by(alloc, frame)
     }
 
     fn bind(&self, alloc: Global, key: u8) -> Result<(), Stop>
         ensures { OnOk result (led.LeadsOn self.now (instrs.Bind key)) }
     {
         let frame = bound(&self.own.frame, key)?;
-        leads_by(alloc, self.states, self.own, frame)?;
-        Ok(())
+        self.leads_by(alloc, frame)
     }
 
     fn unbind(&self, alloc: Global) -> Result<(), Stop>
         ensures { OnOk result (led.LeadsOn self.now instrs.Unbind) }
     {
         let frame = left(&self.own.frame)?;
-        leads_by(alloc, self.states, self.own, frame)?;
-        Ok(())
+        self.leads_by(alloc, frame)
     }
 
     fn interrupted(&self, alloc: Global) -> Result<(), Stop>
         ensures { OnOk result (led.LeadsOn self.now instrs.Interrupted) }
     {
-        not_cancelled(alloc, self.states, self.own)?;
-        interrupted(alloc, self.states, self.own, self.outside)?;
-        Ok(())
+        self.answers_by(alloc, self.outside.may_flag())
     }
 
     fn forget(&self, alloc: Global, handle: u8) -> Result<(), Stop>
         ensures { OnOk result (led.LeadsOn self.now (instrs.Forget handle)) }
     {
         let next = forgotten(alloc, self.own, handle)?;
-        leads(self.states, next)?;
-        Ok(())
+        leads(self.states, next)
     }
 
     fn open(&self, alloc: Global, slot: u8, joiner: Joiner, timed: bool) -> Result<(), Stop>
         ensures { OnOk result (led.LeadsOn self.now (instrs.Open slot timed joiner)) }
     {
         let next = opened(alloc, self.call, self.own, slot, joiner, timed)?;
-        leads_after(self.states, next, self.outside.per_birth())?;
-        Ok(())
+        leads_after(self.states, next, self.outside.per_birth())
     }
 
     fn close(&self, alloc: Global, slot: u8) -> Result<(), Stop>
         ensures { OnOk result (led.LeadsOn self.now (instrs.Close slot)) }
     {
         let next = closed(alloc, self.own)?;
-        leads(self.states, next)?;
-        Ok(())
-    }
-
-    fn fork(&self, alloc: Global, slot: u8, function: u32, handle: Option<u8>) -> Result<(), Stop>
-        ensures { OnOk result (led.LeadsOn self.now (instrs.Fork slot function handle)) }
-    {
-        forks(
-            alloc,
-            self.program,
-            self.outside,
-            self.table,
-            self.states,
-            self.own,
-            slot,
-            function,
-            handle,
-        )?;
-        Ok(())
+        leads(self.states, next)
     }
 
     fn cancelled_own(&self, alloc: Global, slot: u8) -> Result<(), Stop>
         ensures { OnOk result (led.LeadsOn self.now (instrs.Cancelled slot)) }
     {
         let (place, seen) = owned(self.own, slot)?;
-        looks(alloc, self.states, self.own, place, seen)?;
-        Ok(())
+        self.looks(alloc, place, seen)
     }
 
     fn cancelled_lent(&self, alloc: Global, slot: u8) -> Result<(), Stop>
         requires { tasks.held_at self.now.own.now slot ≡ held.Lent }
         ensures { OnOk result (led.LeadsOn self.now (instrs.Cancelled slot)) }
     {
-        not_cancelled(alloc, self.states, self.own)?;
-        lent_cancelled(alloc, self.states, self.own, self.outside)?;
-        Ok(())
+        self.answers_by(alloc, self.outside.cancels)
     }
 
     fn cancelled(&self, alloc: Global, slot: u8) -> Result<(), Stop>
@@ -183,7 +136,7 @@ impl<'a> Around<'a> {
         if !self.outside.may_flag() {
             return Ok(());
         }
-        attempted(alloc, self.states, self.own, place, seen, to)
+        self.attempted(alloc, place, seen, to)
     }
 
     fn join(
@@ -200,58 +153,42 @@ impl<'a> Around<'a> {
         self.attempt(alloc, place, seen, interrupted)?;
         let failed = target(failed);
         let timeout = target(timeout);
-        joins(alloc, self.states, self.own, place, seen, failed, timeout)?;
-        Ok(())
+        self.joins(alloc, place, seen, failed, timeout)
     }
 
     fn case(&self, alloc: Global, handle: u8, success: u32, failed: u32) -> Result<(), Stop>
         ensures { OnOk result (led.LeadsOn self.now (instrs.Case handle success failed)) }
     {
         let (place, seen, i, part) = known(self.own, handle)?;
-        cases(
-            alloc,
-            self.states,
-            self.own,
-            place,
-            seen,
-            i,
-            part,
-            success,
-            failed,
-        )?;
-        Ok(())
+        self.cases(alloc, place, seen, i, part, success, failed)
     }
 
     fn get(&self, alloc: Global, handle: u8) -> Result<(), Stop>
         ensures { OnOk result (led.LeadsOn self.now (instrs.Get handle)) }
     {
         let (place, seen, i, part) = known(self.own, handle)?;
-        reads(alloc, self.states, self.own, place, seen, i, part, true)?;
-        Ok(())
+        self.reads(alloc, place, seen, i, part, true)
     }
 
     fn except(&self, alloc: Global, handle: u8) -> Result<(), Stop>
         ensures { OnOk result (led.LeadsOn self.now (instrs.Except handle)) }
     {
         let (place, seen, i, part) = known(self.own, handle)?;
-        reads(alloc, self.states, self.own, place, seen, i, part, false)?;
-        Ok(())
+        self.reads(alloc, place, seen, i, part, false)
     }
 
     fn tally(&self, alloc: Global, slot: u8, kind: Kind) -> Result<(), Stop>
         ensures { OnOk result (led.LeadsOn self.now (instrs.Tally slot kind)) }
     {
         let (place, seen) = owned(self.own, slot)?;
-        tallies(alloc, self.states, self.own, place, seen, kind)?;
-        Ok(())
+        self.tallies(alloc, place, seen, kind)
     }
 
     fn total(&self, alloc: Global, slot: u8) -> Result<(), Stop>
         ensures { OnOk result (led.LeadsOn self.now (instrs.Total slot)) }
     {
         let (place, seen) = owned(self.own, slot)?;
-        totals(alloc, self.states, self.own, place, seen)?;
-        Ok(())
+        self.totals(alloc, place, seen)
     }
 
     /// An instruction that reads or changes the scoped values.

@@ -5,14 +5,13 @@ ghost use Rattle.ends_picks.specs.Ranges.{IsIn};
 ghost use Rattle.ends_table.specs.Answered as led;
 ghost use Rattle.laws_calls.specs.Steps as def;
 
-use crate::frames::pushed;
+use crate::around::Around;
 use crate::missing::Missing;
 use crate::places::number;
-use crate::reached::leads_with;
 use crate::stop::Stop;
 use ends_picks::ranges::Range;
 use ends_picks::tallies::tally_range;
-use laws_calls::table::{Own, Seen};
+use laws_calls::table::Seen;
 use std::alloc::{AllocError, Global};
 use sts_code::Kind;
 use sts_same::copied::Copied;
@@ -30,23 +29,6 @@ fn told(alloc: Global, seen: &Seen, kind: Kind, count: u32) -> Result<Seen, Allo
     Ok(after)
 }
 
-/// The state after a `tally` gave this number.
-fn tallied(
-    alloc: Global,
-    states: &[Own],
-    own: &Own,
-    place: u32,
-    seen: &Seen,
-    kind: Kind,
-    count: u32,
-) -> Result<(), Stop>
-    ensures { OnOk result (led.CountLeads states.now own.now place seen.now kind count) }
-{
-    let after = told(alloc, seen, kind, count)?;
-    let frame = pushed(&own.frame, 0, i64::from(count))?;
-    leads_with(alloc, states, own, place, after, frame)
-}
-
 /// The number behind a range.
 fn behind(range: Range) -> Result<u32, Stop>
     ensures { IfOk result (λ n. (k : ℕ) → IsIn range k → k < n) }
@@ -58,42 +40,52 @@ fn behind(range: Range) -> Result<u32, Stop>
     Ok(greatest + 1)
 }
 
-/// The states after a `tally` gave a number of this range.
-fn each_of(
-    alloc: Global,
-    states: &[Own],
-    own: &Own,
-    place: u32,
-    seen: &Seen,
-    kind: Kind,
-    range: Range,
-) -> Result<(), Stop>
-    ensures { OnOk result ((n : ℕ) → IsIn range n
-        → led.CountLeads states.now own.now place seen.now kind n) }
-{
-    let least = number(range.least)?;
-    let behind = behind(range)?;
-    let mut missing = Missing::new(alloc);
-    for count in least..behind {
-        let step = tallied(alloc, states, own, place, seen, kind, count);
-        missing.note(step)?;
+impl<'a> Around<'a> {
+    /// The state after a `tally` gave this number.
+    fn tallied(
+        &self,
+        alloc: Global,
+        place: u32,
+        seen: &Seen,
+        kind: Kind,
+        count: u32,
+    ) -> Result<(), Stop>
+        ensures { OnOk result (led.CountLeads self.now.states.now self.now.own.now place
+            seen.now kind count) }
+    {
+        let after = told(alloc, seen, kind, count)?;
+        self.pushes(alloc, place, after, i64::from(count))
     }
-    missing.none()?;
-    Ok(())
-}
 
-/// The states after a `tally` of a scope at this place.
-pub fn tallies(
-    alloc: Global,
-    states: &[Own],
-    own: &Own,
-    place: u32,
-    seen: &Seen,
-    kind: Kind,
-) -> Result<(), Stop>
-    ensures { OnOk result (led.TalliesLead states.now own.now place seen.now kind) }
-{
-    let range = tally_range(seen, kind);
-    each_of(alloc, states, own, place, seen, kind, range)?;
-    Ok(())
+    /// The states after a `tally` gave a number of this range.
+    fn each_count(
+        &self,
+        alloc: Global,
+        place: u32,
+        seen: &Seen,
+        kind: Kind,
+        range: Range,
+    ) -> Result<(), Stop>
+        ensures { OnOk result ((n : ℕ) → IsIn range n
+            → led.CountLeads self.now.states.now self.now.own.now place
+            seen.now kind n) }
+    {
+        let least = number(range.least)?;
+        let behind = behind(range)?;
+        let mut missing = Missing::new(alloc);
+        for count in least..behind {
+            let step = self.tallied(alloc, place, seen, kind, count);
+            missing.note(step)?;
+        }
+        missing.none()
+    }
+
+    /// The states after a `tally`.
+    pub fn tallies(&self, alloc: Global, place: u32, seen: &Seen, kind: Kind) -> Result<(), Stop>
+        ensures { OnOk result (led.TalliesLead self.now.states.now self.now.own.now place
+            seen.now kind) }
+    {
+        let range = tally_range(seen, kind);
+        self.each_count(alloc, place, seen, kind, range)
+    }
 }

@@ -1,0 +1,8 @@
+use Rattle.ends_table.proofs.MissingLemmas.{on_ok}
+use Rattle.ends_table.proofs.StepLemmas.{cases_lead}
+use Rattle.ends_table.proofs.around.Around.case.Goals as goal
+
+pub returns : goal.returns
+returns c =
+    let a = c.args.self.now in
+    on_ok c.cases.result c.cases.ensures (λ led. cases_lead a.program.now a.outside a.call.now a.states.now a.own.now c.args.handle c.args.success c.args.failed _ _ _ _ c.in_ok-place.ensures led)

@@ -1,0 +1,10 @@
+use Rattle.ends_table.proofs.MissingLemmas.{on_ok}
+use Rattle.std.proofs.Common.{subst}
+use Rattle.laws_calls.specs.Steps.{Leads, to}
+use Rattle.ends_table.proofs.StepLemmas.{bound_leads}
+use Rattle.ends_table.proofs.around.Around.is_bound.Goals as goal
+
+pub returns : goal.returns
+returns c =
+    let a = c.args.self.now in
+    on_ok c.leads_by.result c.leads_by.ensures (λ led. bound_leads a.program.now a.outside a.call.now a.states.now a.own.now c.args.key (subst (λ f. Leads a.states.now (to a.own.now f)) c.in_ok-frame.ensures led))

@@ -1,7 +1,0 @@
-use Rattle.ends_table.proofs.StepLemmas.{cases_lead}
-use Rattle.ends_table.proofs.steps.Around.case.Goals as goal
-
-pub returns : goal.returns
-returns c =
-    let a = c.args.self.now in
-    cases_lead a.program.now a.outside a.call.now a.states.now a.own.now c.args.handle c.args.success c.args.failed _ _ _ _ c.in_ok-place.ensures c.in_ok-cases.ensures

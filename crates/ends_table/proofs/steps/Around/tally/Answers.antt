@@ -1,7 +1,0 @@
-use Rattle.ends_table.proofs.StepLemmas.{tallies_lead}
-use Rattle.ends_table.proofs.steps.Around.tally.Goals as goal
-
-pub returns : goal.returns
-returns c =
-    let a = c.args.self.now in
-    tallies_lead a.program.now a.outside a.call.now a.states.now a.own.now c.args.slot _ c.args.kind _ c.in_ok-place.ensures c.in_ok-tallies.ensures

@@ -1,0 +1,17 @@
+//! A state of a row, and what its steps depend on.
+
+use laws_calls::table::{Call, Outside, Own, Row};
+use sts_code::Program;
+
+/// A state of a row, and what its steps depend on.
+#[derive(Clone, Copy)]
+pub struct Around<'a> {
+    pub program: &'a Program,
+    /// What may come to a task from outside.
+    pub outside: Outside,
+    pub table: &'a [Row],
+    pub call: &'a Call,
+    /// The states to which its steps have to lead.
+    pub states: &'a [Own],
+    pub own: &'a Own,
+}
