@@ -414,8 +414,8 @@ impl<'a> Player<'a> {
         self.start(alloc, start)
     }
 
-    /// Takes the event that comes next, if there is one. Of a task that is cut, only the first steps are
-    /// played: then the player leaves it.
+    /// Takes the event that comes next, if there is one. The player leaves a task that is cut after its
+    /// first steps.
     fn take_coming(&mut self) -> Option<Event> {
         let event = self.coming.pop()?;
         let Some((tasks, left)) = self.cut else {
