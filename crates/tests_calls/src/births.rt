@@ -2,7 +2,7 @@
 
 ghost use Rattle.std.specs.Prelude.{◌≡◌, ◌≢◌, Some, None, slice_index_or};
 
-use std::test::Fail;
+use crate::rows::compare;
 use sts_records::Held;
 
 /// Returns the birth of a record that is added, if there is room for it.
@@ -101,11 +101,11 @@ fn two_are_left(held: &Held<u32>) -> bool {
 }
 
 #[test]
-fn births_go_on_when_keys_come_back(rt: HostRuntime) -> Result<(), Fail> {
-    let mut held = Held::with_room(rt.alloc(), 2)?;
+fn births_go_on_when_keys_come_back(rt: HostRuntime) {
+    let mut held = Held::with_room(rt.alloc(), 2).expect(&rt, "records");
     let (two, another) = (two_come(&mut held), another_comes(&mut held));
-    assert_eq!(rt; (two, another, two_are_left(&held)), (true, true, true));
-    Ok(())
+    let found = (two, another, two_are_left(&held));
+    compare(&rt, "room for two", found, (true, true, true));
 }
 
 /// Another record comes and goes, and the first one stays.
@@ -116,16 +116,30 @@ fn one_comes_and_goes(held: &mut Held<u32>, birth: usize) -> bool {
     comes && are_there && goes && is_there(held, 0, 7)
 }
 
+/// Returns the first of thousands of births that doesn't come and go.
+fn first_wrong(held: &mut Held<u32>) -> Option<usize> {
+    for birth in 1..30_000 {
+        if !one_comes_and_goes(held, birth) {
+            return Some(birth);
+        }
+    }
+    None
+}
+
+/// Returns whether the first record is there alone, and others are gone.
+fn one_is_left(held: &Held<u32>) -> bool {
+    is_there(held, 0, 7)
+        && held.room() == 1
+        && is_gone(held, 4_096)
+        && is_gone(held, 29_999)
+        && is_gone(held, 30_000)
+}
+
 /// There are three pages for two records, and eight blocks begin. So a page is given again.
 #[test]
-fn a_record_stays_while_thousands_come_and_go(rt: HostRuntime) -> Result<(), Fail> {
-    let mut held = Held::with_room(rt.alloc(), 2)?;
-    let first = push(&mut held, 7);
-    for birth in 1..30_000 {
-        assert!(rt; one_comes_and_goes(&mut held, birth), "birth {birth}");
-    }
-    let is_kept = is_there(&held, 0, 7) && held.room() == 1;
-    let are_gone = is_gone(&held, 4_096) && is_gone(&held, 29_999) && is_gone(&held, 30_000);
-    assert_eq!(rt; (first, is_kept, are_gone), (Some(0), true, true));
-    Ok(())
+fn a_record_stays_while_thousands_come_and_go(rt: HostRuntime) {
+    let mut held = Held::with_room(rt.alloc(), 2).expect(&rt, "records");
+    let (first, wrong) = (push(&mut held, 7), first_wrong(&mut held));
+    let found = (first, wrong, one_is_left(&held));
+    compare(&rt, "thousands", found, (Some(0), None, true));
 }

@@ -1,8 +1,9 @@
 //! One book or two, act by act: what each answers, and what it has recorded at the end.
 
+use crate::rows::compare;
 use crate::texts::{SEVEN, TIMED, TURNS, accepted};
 use std::alloc::{AllocError, Global};
-use std::test::Fail;
+use std::process::Abort;
 use sts_machine::Turned::{Idle, Stepped};
 use sts_machine::{Slice, Turned};
 use sts_model::Event::{Expire, Interrupt, Step};
@@ -11,7 +12,7 @@ use sts_pool::Book;
 use sts_verify::Verified;
 
 /// Which of the two books.
-#[derive(Clone, Copy, Debug)]
+#[derive(Clone, Copy)]
 enum Which {
     First,
     Second,
@@ -20,14 +21,14 @@ enum Which {
 }
 
 /// The book from which a slice was taken.
-#[derive(Clone, Copy, Debug)]
+#[derive(Clone, Copy)]
 enum Whose {
     Own,
     Others,
 }
 
 /// A call on a book, and its answer.
-#[derive(Clone, Copy, Debug)]
+#[derive(Clone, Copy)]
 enum Act {
     /// A turn of a task, which is idle.
     Idle(u32),
@@ -235,21 +236,36 @@ impl<'p> Desk<'p> {
         self.slice.as_mut().map(|s| s.run_local(limit))
     }
 
-    /// Does one act, and returns whether the answer is the one that it has. The other book's slice may
-    /// be there, too.
-    fn does(&mut self, others: &mut Option<Slice<'p>>, act: Act) -> bool {
+    /// Does an act on the book, and returns whether the answer is the one that it has. An act with a
+    /// slice does nothing.
+    fn turns(&mut self, act: Act) -> bool {
         match act {
             Act::Idle(task) => self.book.turn(task) == Idle,
             Act::Steps(task, turns) => self.steps(task, turns),
             Act::Interrupt(task, wanted) => self.book.outside(Interrupt(task)) == Ok(wanted),
             Act::Expire(scope, wanted) => self.book.outside(Expire(scope)) == Ok(wanted),
+            _ => true,
+        }
+    }
+
+    /// Does an act with a slice, and returns whether the answer is the one that it has. Any other act
+    /// does nothing.
+    fn moves(&mut self, others: &mut Option<Slice<'p>>, act: Act) -> bool {
+        match act {
             Act::Out(wanted) => self.takes_out() == wanted,
             Act::Local(limit, wanted) => self.goes_on(limit) == Some(wanted),
             Act::In(Whose::Own, taken) => {
                 gives_back(&mut self.book, &mut self.slice) == Some(taken)
             }
             Act::In(Whose::Others, taken) => gives_back(&mut self.book, others) == Some(taken),
+            _ => true,
         }
+    }
+
+    /// Does one act, and returns whether the answer is the one that it has. The other book's slice may
+    /// be there, too.
+    fn does(&mut self, others: &mut Option<Slice<'p>>, act: Act) -> bool {
+        self.turns(act) && self.moves(others, act)
     }
 }
 
@@ -299,76 +315,74 @@ fn one_by_one(alloc: Global, journal: &[(Event, u32)]) -> Result<Vec<Event>, All
 }
 
 /// Returns whether a book has recorded this end and these events.
-fn has_recorded(book: &Book<'_>, end: Option<End>, journal: &[Event]) -> bool {
-    book.root_end() == end && book.journal() == journal
+fn has_recorded<R: Abort>(rt: &R, alloc: Global, book: &Book<'_>, record: &Record) -> bool {
+    let journal = one_by_one(alloc, record.journal).expect(rt, "events");
+    book.root_end() == record.end && book.journal() == journal.as_slice()
 }
 
-fn start<'p>(alloc: Global, verified: &'p Verified) -> Result<Desk<'p>, AllocError> {
-    Ok(Desk {
-        book: Book::start(alloc, verified)?,
+fn start<'p, R: Abort>(rt: &R, alloc: Global, verified: &'p Verified) -> Desk<'p> {
+    Desk {
+        book: Book::start(alloc, verified).expect(rt, "a book"),
         slice: None,
-    })
+    }
 }
 
 /// Does the acts of a row with a book of its program. Returns the place of the first act whose answer
 /// is another one, and whether the book has recorded what it should.
-fn plays_alone(
-    alloc: Global,
-    row: &Alone,
-    verified: &Verified,
-) -> Result<(Option<usize>, bool), AllocError> {
-    let journal = one_by_one(alloc, row.record.journal)?;
-    let mut desk = start(alloc, verified)?;
+fn plays_alone<R: Abort>(rt: &R, alloc: Global, row: &Alone) -> (Option<usize>, bool) {
+    let verified = accepted(rt, alloc, row.text);
+    let mut desk = start(rt, alloc, &verified);
     let wrong = first_wrong(&mut desk, row.acts);
-    let is_well = has_recorded(&desk.book, row.record.end, journal.as_slice());
-    Ok((wrong, is_well))
+    (wrong, has_recorded(rt, alloc, &desk.book, &row.record))
 }
 
 /// Does the same with a first book and a second one of this program. Returns whether each has recorded
 /// what it should.
-fn plays_with<'p>(
+fn plays_with<'p, R: Abort>(
+    rt: &R,
     alloc: Global,
     row: &Pair,
     first: &mut Desk<'p>,
     other: &'p Verified,
-) -> Result<(Option<usize>, bool, bool), AllocError> {
-    let of_first = one_by_one(alloc, row.of_first.journal)?;
-    let of_second = one_by_one(alloc, row.of_second.journal)?;
-    let mut second = start(alloc, other)?;
+) -> (Option<usize>, bool, bool) {
+    let mut second = start(rt, alloc, other);
     let wrong = first_wrong_of_both(first, &mut second, row.acts);
-    let has_first = has_recorded(&first.book, row.of_first.end, of_first.as_slice());
-    let has_second = has_recorded(&second.book, row.of_second.end, of_second.as_slice());
-    Ok((wrong, has_first, has_second))
+    let has_first = has_recorded(rt, alloc, &first.book, &row.of_first);
+    let has_second = has_recorded(rt, alloc, &second.book, &row.of_second);
+    (wrong, has_first, has_second)
 }
 
 /// Does the same with a book of each of these programs.
-fn plays<'p>(
+fn plays<'p, R: Abort>(
+    rt: &R,
     alloc: Global,
     row: &Pair,
     one: &'p Verified,
     other: &'p Verified,
-) -> Result<(Option<usize>, bool, bool), AllocError> {
-    let mut first = start(alloc, one)?;
-    plays_with(alloc, row, &mut first, other)
+) -> (Option<usize>, bool, bool) {
+    let mut first = start(rt, alloc, one);
+    plays_with(rt, alloc, row, &mut first, other)
+}
+
+/// Does the same with a book of each of these texts.
+fn plays_both<R: Abort>(rt: &R, alloc: Global, row: &Pair) -> (Option<usize>, bool, bool) {
+    let one = accepted(rt, alloc, row.texts.0);
+    let other = accepted(rt, alloc, row.texts.1);
+    plays(rt, alloc, row, &one, &other)
 }
 
 #[test]
-fn a_book_answers_and_records(rt: HostRuntime) -> Result<(), Fail> {
+fn a_book_answers_and_records(rt: HostRuntime) {
     for row in &ALONE {
-        let verified = accepted(rt.alloc(), row.text)?;
-        let found = plays_alone(rt.alloc(), row, &verified)?;
-        assert_eq!(rt; found, (None, true), "where {}", row.name);
+        let found = plays_alone(&rt, rt.alloc(), row);
+        compare(&rt, row.name, found, (None, true));
     }
-    Ok(())
 }
 
 #[test]
-fn two_books_answer_and_record(rt: HostRuntime) -> Result<(), Fail> {
+fn two_books_answer_and_record(rt: HostRuntime) {
     for row in &PAIRS {
-        let one = accepted(rt.alloc(), row.texts.0)?;
-        let other = accepted(rt.alloc(), row.texts.1)?;
-        let found = plays(rt.alloc(), row, &one, &other)?;
-        assert_eq!(rt; found, (None, true, true), "where {}", row.name);
+        let found = plays_both(&rt, rt.alloc(), row);
+        compare(&rt, row.name, found, (None, true, true));
     }
-    Ok(())
 }

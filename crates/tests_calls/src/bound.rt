@@ -3,6 +3,7 @@
 ghost use Rattle.std.specs.Prelude.{◌≡◌, ◌∷◌, [], pos, replicate};
 ghost use Rattle.sts_model.specs.declared.record.Slot.TheVariants.{Empty};
 
+use crate::rows::compare;
 use std::process::Abort;
 use std::test::Fail;
 use sts_model::{Entries, Entry, Frame, KeptSlot, Slot, Stack};
@@ -28,6 +29,29 @@ fn beginning() -> Frame
     }
 }
 
+/// How many more tasks, scopes and bindings have room.
+fn rooms(store: &Store) -> [u32; 3] {
+    [store.task_room(), store.scope_room(), store.binding_room()]
+}
+
+/// Returns the place of the root task, and what it reads under the key 3, if it lives.
+fn reading(store: &Store) -> Option<(u32, Option<i64>)> {
+    if store.lives(0) {
+        Some((store.frame(0).pc, store.read(0, 3)))
+    } else {
+        None
+    }
+}
+
+/// Returns the first entry of the root task, if it lives.
+fn first_entry(store: &Store) -> Option<Entry> {
+    if store.lives(0) {
+        Some(store.frame(0).entries.get_or(0, Entry::Scope(0)))
+    } else {
+        None
+    }
+}
+
 #[test]
 fn a_key_is_bound_for_a_while(rt: HostRuntime) -> Result<(), Fail> {
     let room = Room {
@@ -36,25 +60,25 @@ fn a_key_is_bound_for_a_while(rt: HostRuntime) -> Result<(), Fail> {
         bindings: 1,
     };
     let mut store = Store::with_room(rt.alloc(), room, beginning())?;
-    assert!(rt; store.lives(0) && !store.lives(1) && store.ready_front() == Some(0));
-    let task_room = store.task_room();
-    let scope_room = store.scope_room();
-    let room = store.binding_room();
-    let begin = (store.frame(0).pc, store.read(0, 3));
+    assert!(rt; store.lives(0) && store.frame(0).entries.len() < 16);
+    let is_alone = !store.lives(1) && store.ready_front() == Some(0);
+    let begin = (is_alone, rooms(&store), reading(&store));
 
-    assert!(rt; store.frame(0).entries.len() < 16);
     store.bind(0, 3);
     assert!(rt; store.lives(0));
-    let left = store.binding_room();
-    let entry = store.frame(0).entries.get_or(0, Entry::Scope(0));
-    let read = store.read(0, 3);
+    let bound = (rooms(&store), first_entry(&store), reading(&store));
 
     store.unbind(0);
-    assert!(rt; store.lives(0));
-    let rooms = [task_room, scope_room, room, left, store.binding_room()];
-    assert_eq!(rt; rooms, [1, 1, 1, 0, 1]);
-    let end = (store.frame(0).pc, store.read(0, 3));
-    assert_eq!(rt; (begin, end), ((0, None), (2, None)));
-    assert!(rt; entry == Entry::Binding(3, 7) && read == Some(7));
+    let end = (rooms(&store), reading(&store));
+    compare(
+        &rt,
+        "a key",
+        (begin, bound, end),
+        (
+            (true, [1, 1, 1], Some((0, None))),
+            ([1, 1, 0], Some(Entry::Binding(3, 7)), Some((1, Some(7)))),
+            ([1, 1, 1], Some((2, None))),
+        ),
+    );
     Ok(())
 }

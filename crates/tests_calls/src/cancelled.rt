@@ -1,7 +1,9 @@
 //! Calls of the tree: three subtasks under a joiner, births that come and go, and who can step then.
 
 use crate::calls::{Call, first_wrong};
-use std::test::Fail;
+use crate::rows::compare;
+use std::alloc::Global;
+use std::process::Abort;
 use sts_code::{Joiner, Kind};
 use sts_model::{End, Stand, Verdict};
 use sts_tree::Tree;
@@ -151,13 +153,18 @@ static CASES: [Case; 7] = [
     Case(2, EXPIRED),
 ];
 
+/// Returns the place of the first call of a case with another answer.
+fn first_wrong_of<R: Abort>(rt: &R, alloc: Global, case: &Case) -> Option<usize> {
+    assert!(rt; 1 <= case.0 && case.0 <= 65536);
+    let mut tree = Tree::with_room(alloc, case.0, 1).expect(rt, "a tree");
+    first_wrong(&mut tree, case.1)
+}
+
 #[test]
-fn each_call_has_its_answer(rt: HostRuntime) -> Result<(), Fail> {
+fn each_call_has_its_answer(rt: HostRuntime) {
     for (i, case) in CASES.iter().enumerate() {
-        let mut tree = Tree::with_room(rt.alloc(), case.0, 1)?;
-        assert_eq!(rt; first_wrong(&mut tree, case.1), None, "in case {i}");
+        compare(&rt, i, first_wrong_of(&rt, rt.alloc(), case), None);
     }
-    Ok(())
 }
 
 /// How many subtasks the largest scope has.
@@ -228,13 +235,21 @@ fn comes_and_goes(tree: &mut Tree<u8>, scope: u32) -> bool {
         && close_full(tree, scope).is_none()
 }
 
+/// Returns the first of ten turns in which a call has another answer.
+fn first_wrong_turn(tree: &mut Tree<u8>) -> Option<u32> {
+    for turn in 0..10 {
+        if !comes_and_goes(tree, turn) {
+            return Some(turn);
+        }
+    }
+    None
+}
+
 /// Ten times a scope with 65,535 subtasks: the first and the last hear a cancel, and room comes back.
 #[test]
-fn the_largest_scope_comes_and_goes_ten_times(rt: HostRuntime) -> Result<(), Fail> {
-    let mut tree = Tree::with_room(rt.alloc(), 65536, 1)?;
-    for turn in 0..10 {
-        assert!(rt; comes_and_goes(&mut tree, turn), "turn {turn}");
-    }
-    assert_eq!(rt; (tree.tasks_born(), tree.scopes_born()), (655351, 10));
-    Ok(())
+fn the_largest_scope_comes_and_goes_ten_times(rt: HostRuntime) {
+    let mut tree = Tree::with_room(rt.alloc(), 65536, 1).expect(&rt, "a tree");
+    let wrong = first_wrong_turn(&mut tree);
+    let found = (wrong, tree.tasks_born(), tree.scopes_born());
+    compare(&rt, "ten turns", found, (None, 655351, 10));
 }

@@ -1,7 +1,7 @@
 //! Codes of functions, and programs of two functions.
 
 use std::alloc::Global;
-use std::test::Fail;
+use std::process::Abort;
 use sts_code::{Function, Instr, Joiner, Program};
 
 /// The code of a function.
@@ -42,19 +42,21 @@ pub const SCOPE_IN_A_LOOP: Code = &[
     Instr::Ret,
 ];
 
-fn function(alloc: Global, name: &str, code: Code) -> Result<Function, Fail> {
-    Ok(Function {
-        name: String::from_str(alloc, name)?,
+fn function<R: Abort>(rt: &R, alloc: Global, name: &str, code: Code) -> Function {
+    Function {
+        name: String::from_str(alloc, name).expect(rt, "a name"),
         args: 0,
         needs: [false; 16],
-        code: Vec::from_slice(alloc, code)?,
-    })
+        code: Vec::from_slice(alloc, code).expect(rt, "a code"),
+    }
 }
 
 /// A program of a child and of `main` with these codes.
-pub fn program_of(alloc: Global, kid: Code, main: Code) -> Result<Program, Fail> {
-    let mut functions = Vec::new(alloc);
-    functions.push(function(alloc, "kid", kid)?)?;
-    functions.push(function(alloc, "main", main)?)?;
-    Ok(Program::new(functions)?)
+pub fn program_of<R: Abort>(rt: &R, alloc: Global, kid: Code, main: Code) -> Program {
+    let functions = [
+        function(rt, alloc, "kid", kid),
+        function(rt, alloc, "main", main),
+    ];
+    let functions = Vec::from_array(alloc, functions).expect(rt, "functions");
+    Program::new(functions).expect(rt, "a program")
 }

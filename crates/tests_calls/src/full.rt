@@ -1,8 +1,9 @@
 //! A book that takes no further outside event.
 
+use crate::rows::compare;
 use crate::texts::{SEVEN, accepted};
-use std::alloc::{AllocError, Global};
-use std::test::Fail;
+use std::alloc::Global;
+use std::process::Abort;
 use sts_machine::Turned;
 use sts_model::{End, Event};
 use sts_pool::{Book, OutsideFull};
@@ -34,16 +35,15 @@ fn goes_on(book: &mut Book<'_>) -> bool {
 }
 
 /// Does all three with a book of this program.
-fn does_all(alloc: Global, verified: &Verified) -> Result<(bool, bool, bool), AllocError> {
-    let mut book = Book::start(alloc, verified)?;
-    Ok((fill(&mut book), refuses(&mut book), goes_on(&mut book)))
+fn does_all<R: Abort>(rt: &R, alloc: Global, verified: &Verified) -> (bool, bool, bool) {
+    let mut book = Book::start(alloc, verified).expect(rt, "a book");
+    (fill(&mut book), refuses(&mut book), goes_on(&mut book))
 }
 
 /// After 4,096 outside events a book refuses one more, and its task goes on.
 #[test]
-fn a_full_book_still_turns(rt: HostRuntime) -> Result<(), Fail> {
-    let verified = accepted(rt.alloc(), SEVEN)?;
-    let found = does_all(rt.alloc(), &verified)?;
-    assert_eq!(rt; found, (true, true, true));
-    Ok(())
+fn a_full_book_still_turns(rt: HostRuntime) {
+    let verified = accepted(&rt, rt.alloc(), SEVEN);
+    let found = does_all(&rt, rt.alloc(), &verified);
+    compare(&rt, "a full book", found, (true, true, true));
 }

@@ -1,8 +1,9 @@
 //! Interrupts of a task when its record is used again.
 
+use crate::rows::compare;
 use crate::texts::{THOUSAND, accepted};
-use std::alloc::{AllocError, Global};
-use std::test::Fail;
+use std::alloc::Global;
+use std::process::Abort;
 use sts_machine::{Machine, Turned};
 use sts_model::{End, Event};
 use sts_verify::Verified;
@@ -28,17 +29,16 @@ fn interrupt_between(machine: &mut Machine<'_>) -> bool {
 }
 
 /// Does so on a machine of this program. Returns how its root has ended, too.
-fn end_after(alloc: Global, verified: &Verified) -> Result<(bool, Option<End>), AllocError> {
-    let mut machine = Machine::prepare(alloc, verified)?;
-    Ok((interrupt_between(&mut machine), machine.root_end()))
+fn end_after<R: Abort>(rt: &R, alloc: Global, verified: &Verified) -> (bool, Option<End>) {
+    let mut machine = Machine::prepare(alloc, verified).expect(rt, "a machine");
+    (interrupt_between(&mut machine), machine.root_end())
 }
 
 /// Task 1 lives from the fourth step of `main`, which forks it, to its own second step. The tasks
 /// that are forked after it get its key.
 #[test]
-fn an_interrupt_counts_while_its_task_lives(rt: HostRuntime) -> Result<(), Fail> {
-    let verified = accepted(rt.alloc(), THOUSAND)?;
-    let found = end_after(rt.alloc(), &verified)?;
-    assert_eq!(rt; found, (true, Some(End::Success(5))));
-    Ok(())
+fn an_interrupt_counts_while_its_task_lives(rt: HostRuntime) {
+    let verified = accepted(&rt, rt.alloc(), THOUSAND);
+    let found = end_after(&rt, rt.alloc(), &verified);
+    compare(&rt, "a thousand", found, (true, Some(End::Success(5))));
 }

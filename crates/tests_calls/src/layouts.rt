@@ -1,8 +1,9 @@
 //! The layout of a function, and the places where an instruction goes on.
 
 use crate::codes::{RETURNS, SCOPE_IN_A_LOOP, program_of};
+use crate::rows::compare;
 use std::alloc::Global;
-use std::test::Fail;
+use std::process::Abort;
 use sts_budget::{lay_out, next_places};
 use sts_code::{Instr, Program};
 use sts_types::{Typing, typed_function};
@@ -21,23 +22,20 @@ fn is_open_there(typing: &Typing) -> bool {
 }
 
 /// Returns the typing of `main`, the second of two functions.
-fn typed(alloc: Global, program: &Program) -> Result<Typing, Fail> {
-    if program.functions().len() != 2 {
-        return Err(Fail::new("the program has other functions"));
-    }
+fn typed<R: Abort>(rt: &R, alloc: Global, program: &Program) -> Typing {
+    assert!(rt; program.functions().len() == 2);
     match typed_function(alloc, program, 1) {
-        Ok(typing) => Ok(typing),
-        Err(_) => Err(Fail::new("the function isn't typed")),
+        Ok(typing) => typing,
+        Err(_) => panic!(rt; "the function isn't typed"),
     }
 }
 
 #[test]
-fn a_typing_tells_open_entries(rt: HostRuntime) -> Result<(), Fail> {
-    let program = program_of(rt.alloc(), RETURNS, SCOPE_IN_A_LOOP)?;
-    let typing = typed(rt.alloc(), &program)?;
-    assert!(rt; is_open_there(&typing));
-    assert_eq!(rt; lay_out(&typing).deepest, 1);
-    Ok(())
+fn a_typing_tells_open_entries(rt: HostRuntime) {
+    let program = program_of(&rt, rt.alloc(), RETURNS, SCOPE_IN_A_LOOP);
+    let typing = typed(&rt, rt.alloc(), &program);
+    let found = (is_open_there(&typing), lay_out(&typing).deepest);
+    compare(&rt, "a loop", found, (true, 1));
 }
 
 /// An instruction, where it is, and the places where it goes on.

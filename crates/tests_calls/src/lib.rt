@@ -35,6 +35,8 @@ mod paths;
 #[cfg(test)]
 mod questions;
 #[cfg(test)]
+mod rows;
+#[cfg(test)]
 mod runs;
 #[cfg(test)]
 mod scopes;

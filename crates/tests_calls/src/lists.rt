@@ -1,11 +1,12 @@
 //! Lists in three layers of a store over a `slab`, under keys that come back.
 
+use crate::rows::compare;
 use slab::Slab;
-use std::test::Fail;
+use std::alloc::AllocFailed;
 use sts_links::{Ends, Link, Links, after, front, push_back, unlink};
 
 /// A record: its content, and its link in each of three layers.
-#[derive(Clone, Copy, Debug)]
+#[derive(Clone, Copy)]
 struct Record {
     body: u32,
     links: [Link; 3],
@@ -52,31 +53,58 @@ impl Record {
     }
 }
 
-#[test]
-fn lists_keep_their_keys_when_others_come_back(rt: HostRuntime) -> Result<(), Fail> {
-    let mut store = Store {
-        records: Slab::new(rt.alloc()),
-    };
+/// What is found of the lists:
+///
+/// - the first list;
+/// - its front without its first record, and the content of that record;
+/// - the key of the third record, and the first list with it;
+/// - the last list.
+type Found = (
+    [Option<usize>; 3],
+    (Option<usize>, u32),
+    (usize, [Option<usize>; 3]),
+    [Option<usize>; 2],
+);
+
+/// Makes the lists in an empty store. The list of the first layer is a, b, that of the last is b.
+/// Returns these keys, too.
+fn make_lists(store: &mut Store) -> Result<(usize, usize, Found), AllocFailed<Record>> {
     let a = store.records.insert(Record::new(10))?;
     let b = store.records.insert(Record::new(20))?;
 
-    // The list of the first layer is a, b, that of the last is b.
-    let list = push_back(&mut store, 0, Ends::empty(), a);
-    let list = push_back(&mut store, 0, list, b);
-    let last = push_back(&mut store, 2, Ends::empty(), b);
-    let both = [front(list), after(&store, 0, a), after(&store, 0, b)];
+    let list = push_back(store, 0, Ends::empty(), a);
+    let list = push_back(store, 0, list, b);
+    let last = push_back(store, 2, Ends::empty(), b);
+    let both = [front(list), after(store, 0, a), after(store, 0, b)];
 
-    let list = unlink(&mut store, 0, list, a);
+    let list = unlink(store, 0, list, a);
     let left = (front(list), store.records.remove(a).body);
 
     let c = store.records.insert(Record::new(30))?;
-    let list = push_back(&mut store, 0, list, c);
-    let again = [front(list), after(&store, 0, b), after(&store, 0, c)];
-    let beside = [front(last), after(&store, 2, b)];
-    assert_eq!(rt; both, [Some(a), Some(b), None]);
-    assert_eq!(rt; left, (Some(b), 10));
-    // the key comes back
-    assert_eq!(rt; (c, again), (a, [Some(b), Some(c), None]));
-    assert_eq!(rt; beside, [Some(b), None]);
-    Ok(())
+    let list = push_back(store, 0, list, c);
+    let again = [front(list), after(store, 0, b), after(store, 0, c)];
+    let beside = [front(last), after(store, 2, b)];
+    Ok((a, b, (both, left, (c, again), beside)))
+}
+
+#[test]
+fn lists_keep_their_keys_when_others_come_back(rt: HostRuntime) {
+    let mut store = Store {
+        records: Slab::new(rt.alloc()),
+    };
+    let Ok((a, b, found)) = make_lists(&mut store) else {
+        panic!(rt; "there was no memory");
+    };
+    compare(
+        &rt,
+        "three records",
+        found,
+        (
+            [Some(a), Some(b), None],
+            (Some(b), 10),
+            // the key comes back
+            (a, [Some(b), Some(a), None]),
+            [Some(b), None],
+        ),
+    );
 }

@@ -3,13 +3,13 @@
 ghost use Rattle.std.specs.Prelude.{IfSome};
 
 use crate::outsides::Weather;
-use crate::paths::{PATHS, Path, count, ending, is_replayed};
+use crate::paths::{PATHS, Path, compare_replay, count, ending};
+use crate::rows::compare;
 use crate::texts::{DOUBLES, GREETED, LOOP, TIMED, WIDE, accepted};
 use std::alloc::Global;
 use std::process::Abort;
 use std::sync::Wait;
 use std::sync::atomic::{AtomicU64, Ordering};
-use std::test::Fail;
 use std::thread;
 use std::thread::Threads;
 use sts_model::{End, Event};
@@ -104,54 +104,52 @@ impl Outside for Herald<'_> {
 /// One worker that does all waits in vain. A book that was made or run before or after the workers
 /// lacks one of the two events.
 #[test]
-fn two_workers_meet(rt: HostRuntime) -> Result<(), Fail> {
-    let verified = accepted(rt.alloc(), DOUBLES)?;
+fn two_workers_meet(rt: HostRuntime) {
+    let verified = accepted(&rt, rt.alloc(), DOUBLES);
     let meeting = Meeting::of(2);
     let herald = Herald::of(&meeting, 76, 77);
-    let report = run(&rt, rt.alloc(), &verified, 2, &meeting, herald)?;
+    let report = run(&rt, rt.alloc(), &verified, 2, &meeting, herald).expect(&rt, "a run");
     let journal = report.journal.as_slice();
     let came = [
         count(journal, Event::Interrupt(76)),
         count(journal, Event::Interrupt(77)),
     ];
-    let leads = is_replayed(rt.alloc(), &verified, &report);
-    let found = (meeting.has_met(), report.end, came, leads);
-    assert_eq!(rt; found, (true, End::Success(42), [1, 1], Ok(true)));
-    Ok(())
+    let found = (meeting.has_met(), report.end, came);
+    compare(&rt, "two workers", found, (true, End::Success(42), [1, 1]));
+    compare_replay(&rt, rt.alloc(), &verified, &report);
 }
 
 /// Tests the same with an end that shows both events, so that no journal is needed.
 #[test]
-fn two_workers_meet_and_the_end_tells_of_it(rt: HostRuntime) -> Result<(), Fail> {
-    let verified = accepted(rt.alloc(), GREETED)?;
+fn two_workers_meet_and_the_end_tells_of_it(rt: HostRuntime) {
     for path in PATHS {
         let meeting = Meeting::of(2);
         let herald = Herald::of(&meeting, 0, 0);
-        let ended = ending(&rt, rt.alloc(), path, &verified, 2, &meeting, herald)?;
+        let ended = ending(&rt, rt.alloc(), path, GREETED, 2, &meeting, herald);
         let found = (meeting.has_met(), ended.end);
-        assert_eq!(rt; found, (true, End::Success(11)), "{path:?}");
+        compare(&rt, path, found, (true, End::Success(11)));
     }
-    Ok(())
 }
 
 /// As many workers as are asked for each hold a subtask at once.
 #[test]
-fn all_workers_meet(rt: HostRuntime) -> Result<(), Fail> {
-    let verified = accepted(rt.alloc(), WIDE)?;
+fn all_workers_meet(rt: HostRuntime) {
     for path in PATHS {
         for workers in [1, 2, 3, 5, 16] {
             let meeting = Meeting::of(workers);
-            let calm = Weather::Calm;
-            let ended = ending(&rt, rt.alloc(), path, &verified, workers, &meeting, calm)?;
-            let found = (meeting.has_met(), ended.end);
-            assert_eq!(rt;
-                found,
-                (true, End::Success(1)),
-                "{workers} workers, {path:?}"
+            let ended = ending(
+                &rt,
+                rt.alloc(),
+                path,
+                WIDE,
+                workers,
+                &meeting,
+                Weather::Calm,
             );
+            let found = (meeting.has_met(), ended.end);
+            compare(&rt, (path, workers), found, (true, End::Success(1)));
         }
     }
-    Ok(())
 }
 
 /// Counts the entries for task 1, and holds the first until there is a second.
@@ -180,39 +178,36 @@ fn held<R: Abort + Threads + Wait + Sync>(
     alloc: Global,
     path: Path,
     text: &str,
-) -> Result<(End, u64, u64), Fail> {
-    let verified = accepted(alloc, text)?;
+) -> (End, u64, u64) {
     let holding = Holding {
         entries: AtomicU64::new(0),
     };
-    let ended = ending(rt, alloc, path, &verified, 2, &holding, Weather::Calm)?;
-    Ok((
+    let ended = ending(rt, alloc, path, text, 2, &holding, Weather::Calm);
+    (
         ended.end,
         ended.steps,
         holding.entries.load(Ordering::SeqCst),
-    ))
+    )
 }
 
 /// A subtask of two steps is worked on once: no other worker takes it while it is out, and the
 /// worker that took it does both. Both are done under the lock, so this shows nothing of slices.
 /// `a_long_subtask_is_out_once` does.
 #[test]
-fn out_is_out(rt: HostRuntime) -> Result<(), Fail> {
+fn out_is_out(rt: HostRuntime) {
     for path in PATHS {
-        let (end, _, entries) = held(&rt, rt.alloc(), path, TIMED)?;
-        assert_eq!(rt; (end, entries), (End::Success(1), 1), "{path:?}");
+        let (end, _, entries) = held(&rt, rt.alloc(), path, TIMED);
+        compare(&rt, path, (end, entries), (End::Success(1), 1));
     }
-    Ok(())
 }
 
 /// A worker works twice on a subtask of fifty thousand steps of its own, once under the lock and
 /// once without it. If slices did nothing, or fewer instructions, the worker would reach the gate
 /// again.
 #[test]
-fn a_long_subtask_is_out_once(rt: HostRuntime) -> Result<(), Fail> {
+fn a_long_subtask_is_out_once(rt: HostRuntime) {
     for path in PATHS {
-        let found = held(&rt, rt.alloc(), path, LOOP)?;
-        assert_eq!(rt; found, (End::Success(10_000), 50_011, 2), "{path:?}");
+        let found = held(&rt, rt.alloc(), path, LOOP);
+        compare(&rt, path, found, (End::Success(10_000), 50_011, 2));
     }
-    Ok(())
 }

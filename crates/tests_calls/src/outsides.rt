@@ -15,7 +15,7 @@ impl Gate for Open {
 }
 
 /// The events from outside of a run.
-#[derive(Clone, Copy, Debug, Drop)]
+#[derive(Clone, Copy, Drop)]
 pub enum Weather {
     Calm,
     /// An interrupt of this task, whenever there is room for it.

@@ -1,9 +1,12 @@
 //! The two ways of a run: with its journal written, and with none.
 
-use std::alloc::{AllocError, Global};
+ghost use Rattle.std.specs.Prelude.{◌≤◌};
+
+use crate::rows::compare;
+use crate::texts::accepted;
+use std::alloc::Global;
 use std::process::Abort;
 use std::sync::Wait;
-use std::test::Fail;
 use std::thread::Threads;
 use sts_machine::replay;
 use sts_model::{End, Event};
@@ -11,7 +14,7 @@ use sts_pool::{Ending, Gate, Outside, Report, run, run_unwritten};
 use sts_verify::Verified;
 
 /// Is the journal of a run written?
-#[derive(Clone, Copy, Debug, PartialEq, Eq)]
+#[derive(Clone, Copy, Debug)]
 pub enum Path {
     Written,
     Unwritten,
@@ -23,7 +26,7 @@ pub static PATHS: [Path; 2] = [Path::Written, Path::Unwritten];
 const NOBODY: Event = Event::Interrupt(77);
 
 /// What came of a run.
-#[derive(Clone, Copy, Debug, PartialEq, Eq)]
+#[derive(Clone, Copy, Debug, PartialEq)]
 pub struct Outcome {
     pub end: End,
     pub steps: u64,
@@ -39,67 +42,88 @@ pub fn count(journal: &[Event], event: Event) -> u64 {
     journal.iter().filter(|e| **e == event).count() as u64
 }
 
-/// Returns whether the reported journal leads to the reported end, in the reported steps.
-pub fn is_replayed(
-    alloc: Global,
-    verified: &Verified,
-    report: &Report,
-) -> Result<bool, AllocError> {
-    let machine = replay(alloc, verified, report.journal.as_slice())?;
-    Ok(machine.root_end() == Some(report.end) && machine.steps() == report.steps)
+/// Fails the test unless the reported journal leads to the reported end, in the reported steps.
+pub fn compare_replay<R: Abort>(rt: &R, alloc: Global, verified: &Verified, report: &Report) {
+    let machine = replay(alloc, verified, report.journal.as_slice()).expect(rt, "a replay");
+    let found = (machine.root_end(), machine.steps());
+    compare(rt, "a replay", found, (Some(report.end), report.steps));
 }
 
 /// Returns what came of a run that was reported. Its journal is replayed, and all workers came.
-fn reported(
+fn reported<R: Abort>(
+    rt: &R,
     alloc: Global,
     verified: &Verified,
     workers: u32,
     report: &Report,
-) -> Result<Outcome, Fail> {
-    if report.workers != workers || !is_replayed(alloc, verified, report)? {
-        return Err(Fail::new("workers are missing, or the journal leads elsewhere"));
-    }
-    Ok(Outcome {
+) -> Outcome {
+    compare(rt, "all workers", report.workers, workers);
+    compare_replay(rt, alloc, verified, report);
+    Outcome {
         end: report.end,
         steps: report.steps,
         entries: report.journal.len() as u64,
         idle: count(report.journal.as_slice(), NOBODY),
-    })
+    }
+}
+
+/// Returns what came of a run whose journal is written.
+fn of_written<R: Abort + Threads + Wait + Sync, G: Gate + Sync, O: Outside + Send + Drop>(
+    rt: &R,
+    alloc: Global,
+    text: &str,
+    workers: u32,
+    gate: &G,
+    outside: O,
+) -> Outcome
+    requires { (1 ≤ workers) × (workers ≤ 16) }
+{
+    let verified = accepted(rt, alloc, text);
+    let report = run(rt, alloc, &verified, workers, gate, outside).expect(rt, "a run");
+    reported(rt, alloc, &verified, workers, &report)
 }
 
 /// Returns what came of a run whose journal wasn't written. All workers came.
-fn counted(workers: u32, ending: &Ending) -> Result<Outcome, Fail> {
-    if ending.workers != workers {
-        return Err(Fail::new("workers are missing"));
-    }
+fn counted<R: Abort>(rt: &R, workers: u32, ending: &Ending) -> Outcome {
+    compare(rt, "all workers", ending.workers, workers);
     let came = ending.counted.len() as u64;
-    Ok(Outcome {
+    Outcome {
         end: ending.end,
         steps: ending.steps,
         entries: ending.steps.saturating_add(came),
         idle: ending.counted.iter().filter(|counts| !**counts).count() as u64,
-    })
+    }
 }
 
-/// Returns what came of a run on its path with this number of workers.
+/// Returns what came of a run whose journal isn't written.
+fn of_unwritten<R: Abort + Threads + Wait + Sync, G: Gate + Sync, O: Outside + Send + Drop>(
+    rt: &R,
+    alloc: Global,
+    text: &str,
+    workers: u32,
+    gate: &G,
+    outside: O,
+) -> Outcome
+    requires { (1 ≤ workers) × (workers ≤ 16) }
+{
+    let verified = accepted(rt, alloc, text);
+    let ended = run_unwritten(rt, alloc, &verified, workers, gate, outside).expect(rt, "a run");
+    counted(rt, workers, &ended)
+}
+
+/// Returns what came of a run of a text on its path with this number of workers.
 pub fn ending<R: Abort + Threads + Wait + Sync, G: Gate + Sync, O: Outside + Send + Drop>(
     rt: &R,
     alloc: Global,
     path: Path,
-    verified: &Verified,
+    text: &str,
     workers: u32,
     gate: &G,
     outside: O,
-) -> Result<Outcome, Fail> {
+) -> Outcome {
     assert!(rt; 1 <= workers && workers <= 16);
     match path {
-        Path::Written => {
-            let report = run(rt, alloc, verified, workers, gate, outside)?;
-            reported(alloc, verified, workers, &report)
-        }
-        Path::Unwritten => {
-            let ended = run_unwritten(rt, alloc, verified, workers, gate, outside)?;
-            counted(workers, &ended)
-        }
+        Path::Written => of_written(rt, alloc, text, workers, gate, outside),
+        Path::Unwritten => of_unwritten(rt, alloc, text, workers, gate, outside),
     }
 }

@@ -4,16 +4,15 @@ ghost use Rattle.std.specs.Prelude.{IfSome};
 
 use crate::outsides::Open;
 use crate::paths::{Outcome, PATHS, Path, ending};
-use crate::texts::{SEVEN, accepted};
+use crate::rows::compare;
+use crate::texts::SEVEN;
 use std::alloc::Global;
 use std::process::Abort;
 use std::sync::Wait;
 use std::sync::atomic::{AtomicU64, Ordering};
-use std::test::Fail;
 use std::thread::Threads;
 use sts_model::{End, Event};
 use sts_pool::Outside;
-use sts_verify::Verified;
 
 /// The steps of `SEVEN`.
 const STEPS: u64 = 2;
@@ -57,17 +56,16 @@ fn asks<R: Abort + Threads + Wait + Sync>(
     rt: &R,
     alloc: Global,
     path: Path,
-    verified: &Verified,
     workers: u32,
     at: u64,
-) -> Result<(), Fail> {
+) {
     let given = AtomicU64::new(0);
     let late = Late {
         at,
         asked: 0,
         given: &given,
     };
-    let outcome = ending(rt, alloc, path, verified, workers, &Open, late)?;
+    let outcome = ending(rt, alloc, path, SEVEN, workers, &Open, late);
     let idle = given.load(Ordering::SeqCst);
     let wanted = Outcome {
         end: End::Success(7),
@@ -75,24 +73,19 @@ fn asks<R: Abort + Threads + Wait + Sync>(
         entries: STEPS.saturating_add(idle),
         idle,
     };
-    assert!(rt;
-        outcome == wanted && (idle == 1 || at > 1),
-        "{workers} workers, {at}, {path:?}: {outcome:?}"
-    );
-    Ok(())
+    let found = (outcome, idle == 1 || at > 1);
+    compare(rt, (path, workers, at), found, (wanted, true));
 }
 
 /// An event that is given after the last step is in the journal, or is counted if none is written.
 /// Whether one is asked for or not, the run is reported.
 #[test]
-fn an_event_after_the_last_step_is_recorded(rt: HostRuntime) -> Result<(), Fail> {
-    let verified = accepted(rt.alloc(), SEVEN)?;
+fn an_event_after_the_last_step_is_recorded(rt: HostRuntime) {
     for path in PATHS {
         for workers in WORKERS {
             for at in 1..QUESTIONS {
-                asks(&rt, rt.alloc(), path, &verified, workers, at)?;
+                asks(&rt, rt.alloc(), path, workers, at);
             }
         }
     }
-    Ok(())
 }

@@ -2,11 +2,11 @@
 
 use crate::outsides::{Open, Weather};
 use crate::paths::{Outcome, Path, ending};
-use crate::texts::{BOUND, DOUBLES, LATE, LOOPED, ROWS, SEVEN, THOUSAND, TIMED, TURNS, accepted};
+use crate::rows::compare;
+use crate::texts::{BOUND, DOUBLES, LATE, LOOPED, ROWS, SEVEN, THOUSAND, TIMED, TURNS};
 use std::alloc::Global;
 use std::process::Abort;
 use std::sync::Wait;
-use std::test::Fail;
 use std::thread::Threads;
 use sts_model::End;
 
@@ -98,36 +98,27 @@ fn ends<R: Abort + Threads + Wait + Sync>(
     path: Path,
     row: &Run,
     workers: u32,
-) -> Result<(), Fail> {
+) {
     let name = row.0;
-    let verified = accepted(alloc, name)?;
-    let outcome = ending(rt, alloc, path, &verified, workers, &Open, row.1)?;
-    assert!(rt;
-        fits(row, outcome),
-        "{workers} workers, {name:?}, {path:?}: {outcome:?}"
-    );
-    Ok(())
+    let outcome = ending(rt, alloc, path, name, workers, &Open, row.1);
+    let found = (outcome, fits(row, outcome));
+    compare(rt, (path, workers, name), found, (outcome, true));
 }
 
-fn all_end<R: Abort + Threads + Wait + Sync>(
-    rt: &R,
-    alloc: Global,
-    path: Path,
-) -> Result<(), Fail> {
+fn all_end<R: Abort + Threads + Wait + Sync>(rt: &R, alloc: Global, path: Path) {
     for row in &RUNS {
         for workers in &WORKERS {
-            ends(rt, alloc, path, row, *workers)?;
+            ends(rt, alloc, path, row, *workers);
         }
     }
-    Ok(())
 }
 
 #[test]
-fn runs_end_alike_with_no_journal(rt: HostRuntime) -> Result<(), Fail> {
-    all_end(&rt, rt.alloc(), Path::Unwritten)
+fn runs_end_alike_with_no_journal(rt: HostRuntime) {
+    all_end(&rt, rt.alloc(), Path::Unwritten);
 }
 
 #[test]
-fn runs_end_with_any_number_of_workers(rt: HostRuntime) -> Result<(), Fail> {
-    all_end(&rt, rt.alloc(), Path::Written)
+fn runs_end_with_any_number_of_workers(rt: HostRuntime) {
+    all_end(&rt, rt.alloc(), Path::Written);
 }

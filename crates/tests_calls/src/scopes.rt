@@ -1,7 +1,9 @@
 //! Room for more scopes than an accepted program has at once.
 
 use crate::calls::{Call, first_wrong};
-use std::test::Fail;
+use crate::rows::compare;
+use std::alloc::Global;
+use std::process::Abort;
 use sts_code::Joiner;
 use sts_tree::Tree;
 
@@ -62,12 +64,15 @@ fn use_again(tree: &mut Tree<u8>, room: u32) -> bool {
         && fits(tree, &[Call::Room(0, room), Call::HasScope(room, false)])
 }
 
+/// Does both with a tree that has this room.
+fn does_both<R: Abort>(rt: &R, alloc: Global, room: u32) -> (bool, bool) {
+    let mut tree = Tree::with_room(alloc, 1, room).expect(rt, "a tree");
+    (fill(&mut tree, room), use_again(&mut tree, room))
+}
+
 #[test]
-fn as_many_scopes_are_open_as_there_is_room_for(rt: HostRuntime) -> Result<(), Fail> {
+fn as_many_scopes_are_open_as_there_is_room_for(rt: HostRuntime) {
     for room in [65_536, 65_537, 200_000] {
-        let mut tree = Tree::with_room(rt.alloc(), 1, room)?;
-        let found = (fill(&mut tree, room), use_again(&mut tree, room));
-        assert_eq!(rt; found, (true, true), "room for {room}");
+        compare(&rt, room, does_both(&rt, rt.alloc(), room), (true, true));
     }
-    Ok(())
 }

@@ -4,9 +4,9 @@ ghost use Rattle.std.specs.Prelude.{IfSome};
 
 use crate::outsides::{Open, Weather};
 use crate::paths::{PATHS, ending};
-use crate::texts::{LATE, LOOPS, MANY_ROWS, SHORT_THEN_LONG, accepted};
+use crate::rows::compare;
+use crate::texts::{LATE, LOOPS, MANY_ROWS, SHORT_THEN_LONG};
 use std::sync::atomic::{AtomicU64, Ordering};
-use std::test::Fail;
 use std::time::CpuClock;
 use sts_model::{End, Event};
 use sts_pool::{Gate, Outside};
@@ -40,20 +40,18 @@ impl Outside for Leaps<'_> {
 /// A worker that does a step by a turn is asked before it, so the journal grows by one entry. Local
 /// steps in place come at most 1,024 at once. The steps of a slice come all at once.
 #[test]
-fn steps_of_a_slice_come_at_once(rt: HostRuntime) -> Result<(), Fail> {
-    let verified = accepted(rt.alloc(), LOOPS)?;
+fn steps_of_a_slice_come_at_once(rt: HostRuntime) {
     for path in PATHS {
         let greatest = AtomicU64::new(0);
         let leaps = Leaps {
             greatest: &greatest,
             last: 0,
         };
-        let ended = ending(&rt, rt.alloc(), path, &verified, 1, &Open, leaps)?;
+        let ended = ending(&rt, rt.alloc(), path, LOOPS, 1, &Open, leaps);
         let is_whole = greatest.load(Ordering::SeqCst) >= 32_768;
         let found = (ended.end, ended.steps, is_whole);
-        assert_eq!(rt; found, (End::Success(20_000), 100_017, true), "{path:?}");
+        compare(&rt, path, found, (End::Success(20_000), 100_017, true));
     }
-    Ok(())
 }
 
 /// Holds a worker until a counter is over a number. If this takes too long, it is noted.
@@ -105,18 +103,16 @@ impl Gate for Both {
 /// A worker enters for a subtask a second time when it has taken its slice: both slices are out at
 /// once.
 #[test]
-fn two_slices_are_out_at_once(rt: HostRuntime) -> Result<(), Fail> {
-    let verified = accepted(rt.alloc(), LOOPS)?;
+fn two_slices_are_out_at_once(rt: HostRuntime) {
     for path in PATHS {
         let both = Both {
             entries: [AtomicU64::new(0), AtomicU64::new(0)],
             missed: AtomicU64::new(0),
         };
-        let ended = ending(&rt, rt.alloc(), path, &verified, 2, &both, Weather::Calm)?;
+        let ended = ending(&rt, rt.alloc(), path, LOOPS, 2, &both, Weather::Calm);
         let found = (ended.end, both.have_met());
-        assert_eq!(rt; found, (End::Success(20_000), true), "{path:?}");
+        compare(&rt, path, found, (End::Success(20_000), true));
     }
-    Ok(())
 }
 
 /// Holds the third entry for the two long subtasks, and each entry after it, until a second worker
@@ -151,8 +147,7 @@ impl Gate for Return {
 /// After a row of short scopes one worker is enough, and the others sleep. A long enough slice
 /// brings another one back.
 #[test]
-fn workers_come_back_to_long_subtasks(rt: HostRuntime) -> Result<(), Fail> {
-    let verified = accepted(rt.alloc(), SHORT_THEN_LONG)?;
+fn workers_come_back_to_long_subtasks(rt: HostRuntime) {
     for path in PATHS {
         let back = Return {
             first: AtomicU64::new(0),
@@ -160,33 +155,34 @@ fn workers_come_back_to_long_subtasks(rt: HostRuntime) -> Result<(), Fail> {
             has_other: AtomicU64::new(0),
             missed: AtomicU64::new(0),
         };
-        let ended = ending(&rt, rt.alloc(), path, &verified, 2, &back, Weather::Calm)?;
+        let ended = ending(
+            &rt,
+            rt.alloc(),
+            path,
+            SHORT_THEN_LONG,
+            2,
+            &back,
+            Weather::Calm,
+        );
         let missed = back.missed.load(Ordering::SeqCst);
         let found = (ended.end, missed, back.has_other.load(Ordering::SeqCst));
-        assert_eq!(rt; found, (End::Success(3), 0, 1), "{path:?}");
+        compare(&rt, path, found, (End::Success(3), 0, 1));
     }
-    Ok(())
 }
 
 /// Slices come in batches if many subtasks have rows that are long enough. Each slice of a batch
 /// is taken back, also if another one goes on. Otherwise its task would stay out, and the run would
 /// never end.
 #[test]
-fn all_slices_of_a_batch_come_back(rt: HostRuntime) -> Result<(), Fail> {
-    let verified = accepted(rt.alloc(), MANY_ROWS)?;
+fn all_slices_of_a_batch_come_back(rt: HostRuntime) {
     for path in PATHS {
         for workers in [2, 8, 16] {
             let calm = Weather::Calm;
-            let ended = ending(&rt, rt.alloc(), path, &verified, workers, &Open, calm)?;
+            let ended = ending(&rt, rt.alloc(), path, MANY_ROWS, workers, &Open, calm);
             let found = (ended.end, ended.steps);
-            assert_eq!(rt;
-                found,
-                (End::Success(64), 116_550),
-                "{workers} workers, {path:?}"
-            );
+            compare(&rt, (path, workers), found, (End::Success(64), 116_550));
         }
     }
-    Ok(())
 }
 
 /// Adds up the processor time that the only worker uses between a question of the outside and the
@@ -254,19 +250,15 @@ impl<R: CpuClock> Outside for Questions<'_, '_, R> {
 /// A worker passes the gate before it works on a slice. Only its time shows that: nearly all of it
 /// passes between the gate and the next question.
 #[test]
-fn the_gate_is_before_a_slice(rt: HostRuntime) -> Result<(), Fail> {
-    let verified = accepted(rt.alloc(), LATE)?;
+fn the_gate_is_before_a_slice(rt: HostRuntime) {
     for path in PATHS {
         let meter = Meter::new(&rt);
         let questions = Questions { meter: &meter };
-        let ended = ending(&rt, rt.alloc(), path, &verified, 1, &meter, questions)?;
+        let ended = ending(&rt, rt.alloc(), path, LATE, 1, &meter, questions);
         let before = meter.before.load(Ordering::SeqCst);
         let behind = meter.behind.load(Ordering::SeqCst);
-        let end = ended.end;
-        assert!(rt;
-            end == End::Success(1) && before < behind / 2,
-            "{end:?}, {before} ns before, {behind} ns behind, {path:?}"
-        );
+        let row = (path, ("ns before", before), ("ns behind", behind));
+        let found = (ended.end, before < behind / 2);
+        compare(&rt, row, found, (End::Success(1), true));
     }
-    Ok(())
 }

@@ -1,8 +1,9 @@
 //! The numbers that count after some steps, and the room that is left.
 
+use crate::rows::compare;
 use crate::texts::{BOUND, DOUBLES, THOUSAND, accepted};
 use std::alloc::{AllocError, Global};
-use std::test::Fail;
+use std::process::Abort;
 use sts_machine::{Machine, Standing, Turned, replay};
 use sts_model::{End, Event};
 use sts_verify::Verified;
@@ -84,37 +85,35 @@ fn events(alloc: Global, steps: &[Steps]) -> Result<Vec<Event>, AllocError> {
 type Found = (Standing, Standing, bool, bool);
 
 /// Returns what counts after these events.
-fn found_after(alloc: Global, verified: &Verified, events: &[Event]) -> Result<Found, AllocError> {
-    let machine = replay(alloc, verified, events)?;
-    Ok((
+fn found_after<R: Abort>(rt: &R, alloc: Global, verified: &Verified, events: &[Event]) -> Found {
+    let machine = replay(alloc, verified, events).expect(rt, "a replay");
+    (
         machine.standing(),
         machine.room(),
         machine.key_of(1).is_some(),
         machine.scope_key_of(0).is_some(),
-    ))
+    )
 }
 
 /// Returns what counts at a point.
-fn found_at(alloc: Global, point: &Point) -> Result<Found, Fail> {
-    let verified = accepted(alloc, point.text)?;
-    let events = events(alloc, point.steps)?;
-    Ok(found_after(alloc, &verified, events.as_slice())?)
+fn found_at<R: Abort>(rt: &R, alloc: Global, point: &Point) -> Found {
+    let verified = accepted(rt, alloc, point.text);
+    let events = events(alloc, point.steps).expect(rt, "events");
+    found_after(rt, alloc, &verified, events.as_slice())
 }
 
 #[test]
-fn what_stands_is_told(rt: HostRuntime) -> Result<(), Fail> {
+fn what_stands_is_told(rt: HostRuntime) {
     for point in &POINTS {
         let standing = point.standing;
-        let found = found_at(rt.alloc(), point)?;
         let wanted = (
             standing,
             point.room,
             standing.tasks > 1,
             standing.scopes > 0,
         );
-        assert_eq!(rt; found, wanted, "{:?}", point.text);
+        compare(&rt, point.text, found_at(&rt, rt.alloc(), point), wanted);
     }
-    Ok(())
 }
 
 /// Steps some task that can step, until no task can. Returns whether each turn was one step, and at
@@ -135,17 +134,17 @@ fn stand_one_at_a_time(machine: &mut Machine<'_>) -> bool {
 }
 
 /// Does so on a machine of this program. Returns how its root has ended and what counts then, too.
-fn end_of(alloc: Global, verified: &Verified) -> Result<(bool, Option<End>, Standing), AllocError> {
-    let mut machine = Machine::prepare(alloc, verified)?;
+fn end_of<R: Abort>(rt: &R, alloc: Global, verified: &Verified) -> (bool, Option<End>, Standing) {
+    let mut machine = Machine::prepare(alloc, verified).expect(rt, "a machine");
     let is_well = stand_one_at_a_time(&mut machine);
-    Ok((is_well, machine.root_end(), machine.standing()))
+    (is_well, machine.root_end(), machine.standing())
 }
 
 /// Only the root counts at the end of a thousand scopes.
 #[test]
-fn a_thousand_scopes_stand_one_at_a_time(rt: HostRuntime) -> Result<(), Fail> {
-    let verified = accepted(rt.alloc(), THOUSAND)?;
-    let found = end_of(rt.alloc(), &verified)?;
-    assert_eq!(rt; found, (true, Some(End::Success(5)), ROOT_ALONE));
-    Ok(())
+fn a_thousand_scopes_stand_one_at_a_time(rt: HostRuntime) {
+    let verified = accepted(&rt, rt.alloc(), THOUSAND);
+    let found = end_of(&rt, rt.alloc(), &verified);
+    let wanted = (true, Some(End::Success(5)), ROOT_ALONE);
+    compare(&rt, "a thousand", found, wanted);
 }

@@ -2,9 +2,9 @@
 
 use crate::outsides::{Counted, Open, Weather};
 use crate::paths::{Outcome, PATHS, ending};
-use crate::texts::{DOUBLES, accepted};
+use crate::rows::compare;
+use crate::texts::DOUBLES;
 use std::sync::atomic::{AtomicU64, Ordering};
-use std::test::Fail;
 use sts_model::End;
 
 /// What comes of `DOUBLES` in a storm: its 20 steps, and 4,096 interrupts.
@@ -18,8 +18,7 @@ const IN_A_STORM: Outcome = Outcome {
 /// An interrupt that comes whenever it may is asked for until 4,096 have come, and each is recorded
 /// besides the steps. That holds for any number of workers, whether a journal is written or not.
 #[test]
-fn a_storm_comes_until_there_is_no_room(rt: HostRuntime) -> Result<(), Fail> {
-    let verified = accepted(rt.alloc(), DOUBLES)?;
+fn a_storm_comes_until_there_is_no_room(rt: HostRuntime) {
     for path in PATHS {
         for workers in [1, 2, 8, 16] {
             let came = AtomicU64::new(0);
@@ -27,10 +26,9 @@ fn a_storm_comes_until_there_is_no_room(rt: HostRuntime) -> Result<(), Fail> {
                 weather: Weather::Storm { task: 77 },
                 came: &came,
             };
-            let outcome = ending(&rt, rt.alloc(), path, &verified, workers, &Open, storm)?;
+            let outcome = ending(&rt, rt.alloc(), path, DOUBLES, workers, &Open, storm);
             let found = (outcome, came.load(Ordering::SeqCst));
-            assert_eq!(rt; found, (IN_A_STORM, 4096), "{path:?} by {workers}");
+            compare(&rt, (path, workers), found, (IN_A_STORM, 4096));
         }
     }
-    Ok(())
 }

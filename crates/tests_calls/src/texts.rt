@@ -1,7 +1,7 @@
 //! Texts of worked rows, and their programs.
 
 use std::alloc::Global;
-use std::test::Fail;
+use std::process::Abort;
 use sts_asm::assemble;
 use sts_verify::{Verified, verify};
 
@@ -146,10 +146,11 @@ pub const SHORT_THEN_LONG: &str = "\
     stop:\npush 0\nclose s0\nfail\nend\n\
 ";
 
-/// The program of a text.
-pub fn accepted(alloc: Global, text: &str) -> Result<Verified, Fail> {
-    match verify(alloc, assemble(alloc, text.as_bytes())?) {
-        Ok(verified) => Ok(verified),
-        Err(_) => Err(Fail::new("the program is not accepted")),
+/// The program of a text. The test fails if it isn't accepted.
+pub fn accepted<R: Abort>(rt: &R, alloc: Global, text: &str) -> Verified {
+    let program = assemble(alloc, text.as_bytes()).expect(rt, "the text of a program");
+    match verify(alloc, program) {
+        Ok(verified) => verified,
+        Err(_) => panic!(rt; "the program is not accepted"),
     }
 }
