@@ -55,15 +55,16 @@ value_text text x t None = []
 value_text text x t (Some (Success v)) = named_value text x t v
 value_text text x t (Some (Failed c)) = named_value text x t c
 
-abbrev pub life : Program → World → ℕ → ℕ → List ℕ
-life p w x t = mark_at (life_mark (can_step p w t)) x (lane t) (told p w t)
+-- a mark of a task, described by its state
+abbrev pub task_mark : Program → World → ℕ → ℕ → Mark → List ℕ
+task_mark p w x t m = mark_at m x (lane t) (told p w t)
 
-abbrev pub rest_line : Program → World → ℕ → ℕ → Bool → Option End → List ℕ
-rest_line p w x t is_heard end = mark_at (rest_mark is_heard end) x (lane t) (told p w t)
+abbrev pub life : Program → World → ℕ → ℕ → List ℕ
+life p w x t = task_mark p w x t (life_mark (can_step p w t))
 
 abbrev pub rest : List ℕ → Program → World → ℕ → ℕ → List ℕ
 rest text p w x t =
-    rest_line p w x t (is_heard w t (task_at w t).scope) (task_at w t).outcome
+    task_mark p w x t (rest_mark (is_heard w t (task_at w t).scope) (task_at w t).outcome)
     ++ value_text text x t (task_at w t).outcome
 
 -- a task that lives in this column, or that lived or wasn't born in the column before

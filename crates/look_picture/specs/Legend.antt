@@ -5,7 +5,7 @@ use Rattle.look_picture.specs.declared.marks.Mark.{Mark}
 use Rattle.look_picture.specs.declared.marks.Mark.TheVariants as mark
 use Rattle.look_picture.specs.Marks.{begins, meaning}
 use Rattle.look_picture.specs.Place.{key_x, key_y}
-use Rattle.look_picture.specs.Writing.{mark_at, text_end, text_start}
+use Rattle.look_picture.specs.Writing.{mark_at, text_at}
 
 -- all marks, in the order of the legend
 unfoldable pub marks : List Mark
@@ -25,8 +25,7 @@ abbrev pub key_mark : ℕ → Mark → List ℕ
 key_mark n m = mark_at m (key_x n) (key_y n) (meaning m)
 
 abbrev pub key_text : ℕ → List ℕ → List ℕ
-key_text n words =
-    text_start (codes "key") (key_x n + 32) (key_y n + 4) ++ (words ++ text_end)
+key_text n words = text_at (codes "key") (key_x n + 32) (key_y n + 4) words
 
 -- a mark, and what it means
 abbrev pub key : ℕ → Mark → List ℕ

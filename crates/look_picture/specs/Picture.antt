@@ -32,7 +32,7 @@ use Rattle.look_picture.specs.declared.title.FileNames.{FileNames}
 use Rattle.look_picture.specs.declared.window.Drawn.{Drawn}
 use Rattle.look_options.specs.declared.pictures.DrawOptions.{DrawOptions}
 use Rattle.look_picture.specs.Words.{next_word, step_word}
-use Rattle.look_picture.specs.Writing.{escaped, fitted_start, mark_at, text_end, text_start}
+use Rattle.look_picture.specs.Writing.{escaped_line, fitted_start, mark_at, text_at}
 use Rattle.look_picture.specs.declared.writing.Room.{Room}
 
 -- ---- a column
@@ -75,12 +75,16 @@ number_words words digits =
 abbrev pub number_room : Room
 number_room = record { letters = 3; size = 10 }
 
+-- the digits of an event's number above the lanes
+abbrev pub digits_text : List ℕ → Bool → ℕ → List ℕ → List ℕ
+digits_text words brief at digits =
+    fitted_start (codes "number") (column brief at) (number_line brief at + 4) (length digits)
+    number_room
+    ++ number_words words digits
+
 -- the event's number above the lanes
 abbrev pub number : List ℕ → Bool → ℕ → ℕ → List ℕ
-number words brief at n =
-    fitted_start (codes "number") (column brief at) (number_line brief at + 4)
-    (length (decimal n)) number_room
-    ++ number_words words (decimal n)
+number words brief at n = digits_text words brief at (decimal n)
 
 -- a stroke through the number of an event that doesn't count
 abbrev pub idle_mark : List ℕ → Bool → ℕ → Bool → List ℕ
@@ -146,7 +150,7 @@ count text brief p skipped events =
 
 -- the end of a run, with the name of its value or code
 abbrev pub end_line : List ℕ → End → List ℕ
-end_line text end = escaped (end_words text end) ++ codes "\n"
+end_line text end = escaped_line (end_words text end)
 
 -- the state of the run
 abbrev pub run_line : List ℕ → Program → PlainState → List ℕ
@@ -210,7 +214,7 @@ grid_of brief columns tasks = grid style (columns_width brief columns) (52 * tas
 abbrev pub backdrop : List ℕ → Watched → Bool → ℕ → List ℕ
 backdrop heading m brief columns =
     grid_of brief columns (length m.last.tasks)
-    ++ (text_start (codes "heading") 12 22 ++ (heading ++ text_end))
+    ++ text_at (codes "heading") 12 22 heading
 
 -- the group of the legend, from this height on
 abbrev pub foot_start : ℕ → List ℕ
@@ -252,6 +256,14 @@ picture files text brief p d events =
 -- the status of the state of a story's run: 0 if the root succeeded, 1 if it failed, otherwise 5
 abbrev pub status_of : Story → ℕ
 status_of s = state_status (shown s.watched.state)
+
+-- these many columns in their frame, and the status
+abbrev pub sheet_output
+    : Option FileNames → List ℕ → Story → Drawn → Bool → ℕ → List ℕ → Output
+sheet_output files text s d brief n columns = record {
+  bytes = framed files text s d brief n columns;
+  status = status_of s;
+}
 
 -- the picture of a run of these events, with the lines and the names of the text
 abbrev pub drawn_output

@@ -1,12 +1,12 @@
 -- The words at the dots of steps (this project's own).
-use Rattle.std.specs.Prelude.{ℕ, List, [], ◌++◌, codes, Option, Some, None, if◌then◌else◌}
+use Rattle.std.specs.Prelude.{ℕ, List, [], codes, Option, Some, None, if◌then◌else◌}
 use Rattle.sts_code.specs.Program.{Program}
 use Rattle.sts_code.specs.declared.instr.Instr.{Instr}
 use Rattle.sts_code.specs.declared.instr.Instr.TheVariants as instr
 use Rattle.sts_model.specs.Living.{lives}
 use Rattle.sts_model.specs.World.{World, instr_at, task_at}
 use Rattle.look_picture.specs.Place.{word_line}
-use Rattle.look_picture.specs.Writing.{text_end, text_start}
+use Rattle.look_picture.specs.Writing.{text_at}
 
 -- the word of an instruction by which a task deals with a scope, or ends
 abbrev pub word_of : Option Instr → Option (List ℕ)
@@ -26,4 +26,4 @@ next_word p w t =
 -- over the dot of a step
 abbrev pub step_word : ℕ → ℕ → Option (List ℕ) → List ℕ
 step_word x t None = []
-step_word x t (Some word) = text_start (codes "word") x (word_line t) ++ (word ++ text_end)
+step_word x t (Some word) = text_at (codes "word") x (word_line t) word

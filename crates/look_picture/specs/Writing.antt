@@ -28,6 +28,10 @@ text_start class x y =
 abbrev pub text_end : List ℕ
 text_end = codes "</text>\n"
 
+-- these words as a text of a class at a point
+abbrev pub text_at : List ℕ → ℕ → ℕ → List ℕ → List ℕ
+text_at class x y words = text_start class x y ++ (words ++ text_end)
+
 -- a character of a text, or its escape if it means something in XML
 abbrev pub escaped_char : ℕ → List ℕ
 escaped_char c =
@@ -38,6 +42,10 @@ escaped_char c =
 -- a text of one byte for each character
 abbrev pub escaped : List ℕ → List ℕ
 escaped text = flat_map escaped_char text
+
+-- a line of such a text
+abbrev pub escaped_line : List ℕ → List ℕ
+escaped_line text = escaped text ++ codes "\n"
 
 -- any text
 abbrev pub escaped_words : List ℕ → List ℕ

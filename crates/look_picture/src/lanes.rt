@@ -65,6 +65,24 @@ fn told(out: &mut String, change: Change<'_>, t: u32) -> Result<(), AllocError>
     stand_words(out, change.program, change.world, t)
 }
 
+/// A value or a code next to the mark of an end.
+fn named_value(
+    alloc: Global,
+    out: &mut String,
+    names: &Names<'_>,
+    change: Change<'_>,
+    t: u32,
+    value: i64,
+) -> Result<(), AllocError>
+    ensures { OnOk result (string_bytes out.new
+        ≡ string_bytes out.old ++ def.named_value names.now change.entry.x t value) }
+{
+    let mut words = Vec::new(alloc);
+    say_value(alloc, &mut words, names, value)?;
+    let (x, y) = (change.x + 22, lane(t) + 4);
+    fitted_text(out, "value", x, y, words.as_slice(), VALUE_ROOM)
+}
+
 /// The value or the code that a task ended with, next to the mark.
 fn value_text(
     alloc: Global,
@@ -77,19 +95,23 @@ fn value_text(
     ensures { OnOk result (string_bytes out.new
         ≡ string_bytes out.old ++ def.value_text names.now change.entry.x t end) }
 {
-    let Some(End::Success(value) | End::Failed(value)) = end else {
-        return Ok(());
-    };
-    let mut words = Vec::new(alloc);
-    say_value(alloc, &mut words, names, value)?;
-    fitted_text(
-        out,
-        "value",
-        change.x + 22,
-        lane(t) + 4,
-        words.as_slice(),
-        VALUE_ROOM,
-    )
+    match end {
+        None => Ok(()),
+        Some(End::Success(value) | End::Failed(value)) => {
+            named_value(alloc, out, names, change, t, value)
+        }
+    }
+}
+
+/// A mark of a task, described by its state.
+fn task_mark(out: &mut String, change: Change<'_>, t: u32, mark: Mark) -> Result<(), AllocError>
+    requires { t < length change.world.now.tasks }
+    ensures { OnOk result (string_bytes out.new ≡ string_bytes out.old
+        ++ def.task_mark change.entry.program.now change.entry.world.now change.entry.x t mark) }
+{
+    mark_start(out, mark, change.x, lane(t))?;
+    told(out, change, t)?;
+    mark_end(out)
 }
 
 /// A task that lives.
@@ -99,27 +121,7 @@ fn life(out: &mut String, change: Change<'_>, t: u32) -> Result<(), AllocError>
         ++ def.life change.entry.program.now change.entry.world.now change.entry.x t) }
 {
     let mark = life_mark(can_step(change.world, change.program, t));
-    mark_start(out, mark, change.x, lane(t))?;
-    told(out, change, t)?;
-    mark_end(out)
-}
-
-/// The mark of a task that doesn't live.
-fn rest_line(
-    out: &mut String,
-    change: Change<'_>,
-    t: u32,
-    is_heard: bool,
-    end: Option<End>,
-) -> Result<(), AllocError>
-    requires { t < length change.world.now.tasks }
-    ensures { OnOk result (string_bytes out.new ≡ string_bytes out.old
-        ++ def.rest_line change.entry.program.now change.entry.world.now change.entry.x t is_heard
-        end) }
-{
-    mark_start(out, rest_mark(is_heard, end), change.x, lane(t))?;
-    told(out, change, t)?;
-    mark_end(out)
+    task_mark(out, change, t, mark)
 }
 
 /// A task that doesn't live.
@@ -135,7 +137,8 @@ fn rest(
         ++ def.rest names.now change.entry.program.now change.entry.world.now change.entry.x t) }
 {
     let end = change.world.records().outcome(t);
-    rest_line(out, change, t, is_heard(change.world, t), end)?;
+    let mark = rest_mark(is_heard(change.world, t), end);
+    task_mark(out, change, t, mark)?;
     value_text(alloc, out, names, change, t, end)
 }
 

@@ -6,7 +6,7 @@ ghost use Rattle.look_picture.specs.Legend as def;
 
 use crate::marks::Mark;
 use crate::place::{key_x, key_y};
-use crate::writing::{mark_end, mark_start, text_end, text_start};
+use crate::writing::{mark_at, text_at};
 use memchr::memmem;
 use std::alloc::{AllocError, Global};
 
@@ -74,9 +74,7 @@ fn key_mark(out: &mut String, n: usize, mark: Mark) -> Result<(), AllocError>
     requires { n ≤ MOST_KEYS }
     ensures { OnOk result (string_bytes out.new ≡ string_bytes out.old ++ def.key_mark n mark) }
 {
-    mark_start(out, mark, key_x(n), key_y(n))?;
-    out.push_str(mark.meaning())?;
-    mark_end(out)
+    mark_at(out, mark, key_x(n), key_y(n), mark.meaning())
 }
 
 /// The words of a key, next to its mark.
@@ -85,9 +83,7 @@ fn key_text(out: &mut String, n: usize, words: &str) -> Result<(), AllocError>
     ensures { OnOk result (string_bytes out.new
         ≡ string_bytes out.old ++ def.key_text n words.now) }
 {
-    text_start(out, "key", key_x(n) + 32, key_y(n) + 4)?;
-    out.push_str(words)?;
-    text_end(out)
+    text_at(out, "key", key_x(n) + 32, key_y(n) + 4, words)
 }
 
 /// The key of this number: a mark, and what it means.

@@ -6,7 +6,7 @@ ghost use Rattle.look_picture.specs.Picture as def;
 
 use crate::marks::Mark;
 use crate::place::{column, number_line};
-use crate::writing::{Room, fitted_start, mark_end, mark_start};
+use crate::writing::{Room, fitted_start, mark_at};
 use look_lines::Applied;
 use std::alloc::{AllocError, Global};
 use std::fmt::Write;
@@ -25,6 +25,22 @@ fn number_words(out: &mut String, words: &str, digits: &str) -> Result<(), Alloc
     writeln!(out, "<title>{words}</title>{digits}</text>")
 }
 
+/// The digits of an event's number above the lanes.
+fn digits_text(
+    out: &mut String,
+    words: &str,
+    brief: bool,
+    at: usize,
+    digits: &str,
+) -> Result<(), AllocError>
+    ensures { OnOk result (string_bytes out.new
+        ≡ string_bytes out.old ++ def.digits_text words.now brief at digits.now) }
+{
+    let (x, y) = (column(brief, at), number_line(brief, at) + 4);
+    fitted_start(out, "number", x, y, digits.len(), NUMBER_ROOM)?;
+    number_words(out, words, digits)
+}
+
 /// The event's number above the lanes.
 fn number(
     alloc: Global,
@@ -38,9 +54,7 @@ fn number(
         ≡ string_bytes out.old ++ def.number words.now brief at n) }
 {
     let digits = format!(in alloc; "{n}")?;
-    let (x, y) = (column(brief, at), number_line(brief, at) + 4);
-    fitted_start(out, "number", x, y, digits.len(), NUMBER_ROOM)?;
-    number_words(out, words, digits.as_str())
+    digits_text(out, words, brief, at, digits.as_str())
 }
 
 /// A stroke through the number of an event that doesn't count.
@@ -57,9 +71,8 @@ fn idle_mark(
     if is_counted {
         return Ok(());
     }
-    mark_start(out, Mark::Idle, column(brief, at), number_line(brief, at))?;
-    out.push_str(words)?;
-    mark_end(out)
+    let (x, y) = (column(brief, at), number_line(brief, at));
+    mark_at(out, Mark::Idle, x, y, words)
 }
 
 /// The event's number above the lanes, with its stroke.

@@ -25,7 +25,7 @@ use crate::title::{FileNames, say_title};
 use crate::told::event_words;
 use crate::window::{Drawn, left_out, shown_events};
 use crate::words::{next_word, step_word};
-use crate::writing::{escape, mark_end, mark_start, text_end, text_start};
+use crate::writing::{escaped_line, mark_at, mark_end, mark_start, text_at};
 use look_lines::{Applied, Form, Run, Watch, after, view_lines, write_run};
 use look_names::Names;
 use look_options::{DrawOptions, ViewOptions};
@@ -114,9 +114,7 @@ fn step_dot(out: &mut String, words: &str, x: u128, t: u32) -> Result<(), AllocE
     ensures { OnOk result (string_bytes out.new
         ≡ string_bytes out.old ++ def.step_dot words.now x t) }
 {
-    mark_start(out, Mark::Step, x, lane(t))?;
-    out.push_str(words)?;
-    mark_end(out)
+    mark_at(out, Mark::Step, x, lane(t), words)
 }
 
 /// The dot of a step in its task's lane, with these words, and the word of its instruction.
@@ -284,11 +282,73 @@ fn first_column(
     standing(alloc, out, names, seen, column(false, 0), false)
 }
 
+/// Draws the column before the first event that has one, and one after each event that has words,
+/// from a machine and a story after the skipped events. Returns the number of those columns.
+fn columns_after(
+    alloc: Global,
+    out: &mut String,
+    names: &Names<'_>,
+    brief: bool,
+    before: &mut Watch<'_>,
+    story: &mut Story<'_>,
+    skipped: usize,
+    events: &[Event],
+) -> Result<usize, AllocError>
+    requires behind { before.old ≡ watched before.old.program (take skipped events.now) }
+    requires told { story.old ≡ after_events before.old.program (take skipped events.now) }
+    requires inside { skipped ≤ length events.now }
+    ensures told { OnOk result (story.new ≡ after_events before.old.program events.now) }
+    ensures counted { IfOk result (λ n. n
+        ≡ def.count names.now brief before.old.program skipped events.now) }
+    ensures drawn { OnOk result (string_bytes out.new ≡ string_bytes out.old
+        ++ def.columns names.now brief before.old.program skipped events.now) }
+{
+    let mut present = Present::of(alloc, before.world().records())?;
+    first_column(alloc, out, names, before, &present)?;
+    event_columns(
+        alloc,
+        out,
+        names,
+        brief,
+        before,
+        story,
+        &mut present,
+        skipped,
+        events,
+    )
+}
+
 /// The story of the events, and how many of them have a column.
 #[derive(Drop)]
 struct Drawing<'p> {
     story: Story<'p>,
     count: usize,
+}
+
+/// Draws the same as `columns`, from the machine after the skipped events.
+fn drawn_columns<'p>(
+    alloc: Global,
+    out: &mut String,
+    names: &Names<'_>,
+    brief: bool,
+    program: &'p Program,
+    before: &mut Watch<'_>,
+    skipped: usize,
+    events: &[Event],
+) -> Result<Drawing<'p>, AllocError>
+    requires behind { before.old ≡ watched program.now (take skipped events.now) }
+    requires inside { skipped ≤ length events.now }
+    ensures told { IfOk result (λ r. r.story ≡ after_events program.now events.now) }
+    ensures counted { IfOk result (λ r. r.count
+        ≡ def.count names.now brief program.now skipped events.now) }
+    ensures drawn { OnOk result (string_bytes out.new
+        ≡ string_bytes out.old ++ def.columns names.now brief program.now skipped events.now) }
+{
+    let mut story = Story::after(alloc, program, &events[..skipped])?;
+    let count = columns_after(
+        alloc, out, names, brief, before, &mut story, skipped, events,
+    )?;
+    Ok(Drawing { story, count })
 }
 
 /// Draws the column before the first event and one after each that has words, but skips the first
@@ -310,21 +370,16 @@ fn columns<'p>(
         ≡ string_bytes out.old ++ def.columns names.now brief program.now skipped events.now) }
 {
     let mut before = after(alloc, program, &events[..skipped])?;
-    let mut story = Story::after(alloc, program, &events[..skipped])?;
-    let mut present = Present::of(alloc, before.world().records())?;
-    first_column(alloc, out, names, &before, &present)?;
-    let count = event_columns(
+    drawn_columns(
         alloc,
         out,
         names,
         brief,
+        program,
         &mut before,
-        &mut story,
-        &mut present,
         skipped,
         events,
-    )?;
-    Ok(Drawing { story, count })
+    )
 }
 
 /// The end of a run, with the name of its value or code.
@@ -334,8 +389,7 @@ fn end_line(alloc: Global, out: &mut String, names: &Names<'_>, end: End) -> Res
 {
     let mut words = Vec::new(alloc);
     say_end(alloc, &mut words, names, end)?;
-    escape(out, words.as_slice())?;
-    writeln!(out)
+    escaped_line(out, words.as_slice())
 }
 
 /// The state of the run.
@@ -357,6 +411,26 @@ fn run_line(
 }
 
 /// The files, the state of the run, the steps that it took, and which events are left out.
+fn say_heading(
+    alloc: Global,
+    out: &mut String,
+    files: Option<FileNames<'_>>,
+    names: &Names<'_>,
+    watch: &Watch<'_>,
+    drawn: Drawn,
+) -> Result<(), AllocError>
+    requires { drawn.last ≤ drawn.all }
+    ensures { OnOk result (string_bytes out.new ≡ string_bytes out.old
+        ++ def.heading files.entry names.now watch.now drawn) }
+{
+    say_title(out, files)?;
+    run_line(alloc, out, names, watch)?;
+    out.push_str(" ")?;
+    steps_line(out, watch.steps())?;
+    left_out(out, drawn)
+}
+
+/// The heading as a string.
 fn heading(
     alloc: Global,
     files: Option<FileNames<'_>>,
@@ -369,11 +443,7 @@ fn heading(
         ≡ def.heading files.entry names.now watch.now drawn) }
 {
     let mut words = String::new(alloc);
-    say_title(&mut words, files)?;
-    run_line(alloc, &mut words, names, watch)?;
-    words.push_str(" ")?;
-    steps_line(&mut words, watch.steps())?;
-    left_out(&mut words, drawn)?;
+    say_heading(alloc, &mut words, files, names, watch, drawn)?;
     Ok(words)
 }
 
@@ -509,9 +579,7 @@ fn backdrop(
 {
     let tasks = watch.world().records().tasks_born();
     grid_of(out, brief, columns, tasks)?;
-    text_start(out, "heading", 12, 22)?;
-    out.push_str(heading)?;
-    text_end(out)
+    text_at(out, "heading", 12, 22, heading)
 }
 
 /// The group of the legend begins, from this height on.
@@ -556,90 +624,70 @@ fn below(
     foot(out, tasks, keys)
 }
 
-/// Puts these many columns under this heading, between the grid and the legend with these keys.
+/// These many columns that are drawn, and what their frame is made of.
+#[derive(Clone, Copy)]
+struct Sheet<'s, 't, 'p> {
+    names: &'s Names<'t>,
+    story: &'s Story<'p>,
+    brief: bool,
+    count: usize,
+    columns: &'s str,
+}
+
+/// Puts the columns under this heading, between the grid and the legend with these keys.
 fn framed_under(
     alloc: Global,
     out: &mut String,
     heading: &str,
-    names: &Names<'_>,
-    story: &Story<'_>,
-    brief: bool,
-    count: usize,
-    columns: &str,
+    sheet: Sheet<'_, '_, '_>,
     keys: &[Mark],
 ) -> Result<(), AllocError>
     requires { length keys.now ≤ MOST_KEYS }
     ensures { OnOk result (string_bytes out.new ≡ string_bytes out.old
-        ++ def.framed_under heading.now names.now story.now brief count columns.now keys.now) }
+        ++ def.framed_under heading.now sheet.entry.names.now sheet.entry.story.now sheet.entry.brief
+        sheet.entry.count sheet.entry.columns.now keys.now) }
 {
-    let watch = story.watch();
-    head(out, heading, watch, brief, count, keys.len())?;
-    backdrop(out, heading, watch, brief, count)?;
-    out.push_str(columns)?;
-    below(alloc, out, names, story, keys)
+    let watch = sheet.story.watch();
+    head(out, heading, watch, sheet.brief, sheet.count, keys.len())?;
+    backdrop(out, heading, watch, sheet.brief, sheet.count)?;
+    out.push_str(sheet.columns)?;
+    below(alloc, out, sheet.names, sheet.story, keys)
 }
 
-/// Puts these many columns under the heading, with these keys in the legend.
+/// Puts the columns under the heading, with these keys in the legend.
 fn framed_with(
     alloc: Global,
     out: &mut String,
     files: Option<FileNames<'_>>,
-    names: &Names<'_>,
-    story: &Story<'_>,
     drawn: Drawn,
-    brief: bool,
-    count: usize,
-    columns: &str,
+    sheet: Sheet<'_, '_, '_>,
     keys: &[Mark],
 ) -> Result<(), AllocError>
     requires ordered { drawn.last ≤ drawn.all }
     requires few { length keys.now ≤ MOST_KEYS }
     ensures { OnOk result (string_bytes out.new ≡ string_bytes out.old
-        ++ def.framed_with files.entry names.now story.now drawn brief count columns.now keys.now) }
+        ++ def.framed_with files.entry sheet.entry.names.now sheet.entry.story.now drawn
+        sheet.entry.brief sheet.entry.count sheet.entry.columns.now keys.now) }
 {
-    let words = heading(alloc, files, names, story.watch(), drawn)?;
-    framed_under(
-        alloc,
-        out,
-        words.as_str(),
-        names,
-        story,
-        brief,
-        count,
-        columns,
-        keys,
-    )
+    let words = heading(alloc, files, sheet.names, sheet.story.watch(), drawn)?;
+    framed_under(alloc, out, words.as_str(), sheet, keys)
 }
 
-/// Puts these many columns in their frame. The legend has the marks that they have.
+/// Puts the columns in their frame. The legend has the marks that they have.
 fn framed(
     alloc: Global,
     out: &mut String,
     files: Option<FileNames<'_>>,
-    names: &Names<'_>,
-    story: &Story<'_>,
     drawn: Drawn,
-    brief: bool,
-    count: usize,
-    columns: &str,
+    sheet: Sheet<'_, '_, '_>,
 ) -> Result<(), AllocError>
     requires { drawn.last ≤ drawn.all }
     ensures { OnOk result (string_bytes out.new ≡ string_bytes out.old
-        ++ def.framed files.entry names.now story.now drawn brief count columns.now) }
+        ++ def.framed files.entry sheet.entry.names.now sheet.entry.story.now drawn
+        sheet.entry.brief sheet.entry.count sheet.entry.columns.now) }
 {
-    let keys = keys(alloc, columns)?;
-    framed_with(
-        alloc,
-        out,
-        files,
-        names,
-        story,
-        drawn,
-        brief,
-        count,
-        columns,
-        keys.as_slice(),
-    )
+    let keys = keys(alloc, sheet.columns)?;
+    framed_with(alloc, out, files, drawn, sheet, keys.as_slice())
 }
 
 /// The status of the machine's state.
@@ -647,6 +695,26 @@ fn status_of(story: &Story<'_>) -> u8
     ensures { result ≡ def.status_of story.now }
 {
     state_status(story.watch().state())
+}
+
+/// The columns in their frame, and the status of the machine's state.
+fn sheet_output(
+    alloc: Global,
+    files: Option<FileNames<'_>>,
+    drawn: Drawn,
+    sheet: Sheet<'_, '_, '_>,
+) -> Result<Output, AllocError>
+    requires { drawn.last ≤ drawn.all }
+    ensures { IfOk result (λ o. o
+        ≡ def.sheet_output files.entry sheet.entry.names.now sheet.entry.story.now drawn
+        sheet.entry.brief sheet.entry.count sheet.entry.columns.now) }
+{
+    let mut text = String::new(alloc);
+    framed(alloc, &mut text, files, drawn, sheet)?;
+    Ok(Output {
+        text,
+        status: status_of(sheet.story),
+    })
 }
 
 /// The picture of a run of these events, and the status of the machine's last state.
@@ -674,22 +742,14 @@ fn picture_of(
         drawn.before,
         events,
     )?;
-    let mut text = String::new(alloc);
-    framed(
-        alloc,
-        &mut text,
-        files,
+    let sheet = Sheet {
         names,
-        &found.story,
-        drawn,
+        story: &found.story,
         brief,
-        found.count,
-        columns_text.as_str(),
-    )?;
-    Ok(Output {
-        text,
-        status: status_of(&found.story),
-    })
+        count: found.count,
+        columns: columns_text.as_str(),
+    };
+    sheet_output(alloc, files, drawn, sheet)
 }
 
 /// The picture of a run, of a window of its events or of the last ones, with the lines and the names

@@ -8,7 +8,7 @@ use crate::writing::escape_words;
 use std::alloc::AllocError;
 
 /// The files of a text and of a trace, by the names that a person knows them by.
-#[derive(Clone, Copy, Debug)]
+#[derive(Clone, Copy)]
 pub struct FileNames<'a> {
     pub text: &'a str,
     pub trace: &'a str,

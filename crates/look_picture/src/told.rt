@@ -5,7 +5,7 @@ ghost use Rattle.std.specs.String.{string_bytes};
 ghost use Rattle.look_tell.specs.Story.{next};
 ghost use Rattle.look_picture.specs.Told as def;
 
-use crate::writing::escape;
+use crate::writing::escaped;
 use look_names::Names;
 use look_options::TellOptions;
 use look_tell::{Story, Telling};
@@ -69,7 +69,5 @@ pub(crate) fn event_words(
 {
     let mut lines = Vec::new(alloc);
     say_lines(alloc, &mut lines, names, story, brief, number, event)?;
-    let mut words = String::new(alloc);
-    escape(&mut words, but_last(lines.as_slice()))?;
-    Ok(words)
+    escaped(alloc, but_last(lines.as_slice()))
 }

@@ -14,7 +14,7 @@ pub const MOST_COLUMNS: usize = 2_000;
 
 /// The events that a picture shows: those after number `before`, up to number `last`, if there are
 /// `all` in the trace.
-#[derive(Clone, Copy, Debug, PartialEq, Eq)]
+#[derive(Clone, Copy)]
 pub struct Drawn {
     pub before: usize,
     pub last: usize,

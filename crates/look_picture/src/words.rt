@@ -5,7 +5,7 @@ ghost use Rattle.std.specs.String.{string_bytes};
 ghost use Rattle.look_picture.specs.Words as def;
 
 use crate::place::word_line;
-use crate::writing::{text_end, text_start};
+use crate::writing::text_at;
 use std::alloc::AllocError;
 use sts_code::{Instr, Program};
 use sts_frames::instr_at;
@@ -49,7 +49,5 @@ pub(crate) fn step_word(
     let Some(word) = word else {
         return Ok(());
     };
-    text_start(out, "word", x, word_line(t))?;
-    out.push_str(word)?;
-    text_end(out)
+    text_at(out, "word", x, word_line(t), word)
 }

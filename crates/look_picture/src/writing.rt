@@ -1,11 +1,11 @@
 //! The elements of a picture, and the escapes of their words.
 
-ghost use Rattle.std.specs.Prelude.{◌≡◌, ◌++◌, ◌<◌, OnOk};
+ghost use Rattle.std.specs.Prelude.{◌≡◌, ◌++◌, ◌<◌, IfOk, OnOk};
 ghost use Rattle.std.specs.String.{string_bytes};
 ghost use Rattle.look_picture.specs.Writing as def;
 
 use crate::marks::Mark;
-use std::alloc::AllocError;
+use std::alloc::{AllocError, Global};
 use std::cmp;
 use std::fmt::Write;
 
@@ -26,6 +26,22 @@ pub(crate) fn mark_end(out: &mut String) -> Result<(), AllocError>
     writeln!(out, "</title></path>")
 }
 
+/// A mark at a point, described by these words.
+pub(crate) fn mark_at(
+    out: &mut String,
+    mark: Mark,
+    x: u128,
+    y: u64,
+    words: &str,
+) -> Result<(), AllocError>
+    ensures { OnOk result (string_bytes out.new
+        ≡ string_bytes out.old ++ def.mark_at mark x y words.now) }
+{
+    mark_start(out, mark, x, y)?;
+    out.push_str(words)?;
+    mark_end(out)
+}
+
 /// A text of a class begins at a point.
 #[tactic(auto, unfolding(crate::specs::Writing::text_start))]
 pub(crate) fn text_start(out: &mut String, class: &str, x: u128, y: u64) -> Result<(), AllocError>
@@ -39,6 +55,22 @@ pub(crate) fn text_end(out: &mut String) -> Result<(), AllocError>
     ensures { OnOk result (string_bytes out.new ≡ string_bytes out.old ++ def.text_end) }
 {
     writeln!(out, "</text>")
+}
+
+/// These words as a text of a class at a point.
+pub(crate) fn text_at(
+    out: &mut String,
+    class: &str,
+    x: u128,
+    y: u64,
+    words: &str,
+) -> Result<(), AllocError>
+    ensures { OnOk result (string_bytes out.new
+        ≡ string_bytes out.old ++ def.text_at class.now x y words.now) }
+{
+    text_start(out, class, x, y)?;
+    out.push_str(words)?;
+    text_end(out)
 }
 
 /// A character of a text, or its escape.
@@ -77,8 +109,26 @@ pub(crate) fn escape(out: &mut String, text: &[u8]) -> Result<(), AllocError>
     Ok(())
 }
 
+/// A line of such a text.
+pub(crate) fn escaped_line(out: &mut String, text: &[u8]) -> Result<(), AllocError>
+    ensures { OnOk result (string_bytes out.new
+        ≡ string_bytes out.old ++ def.escaped_line text.now) }
+{
+    escape(out, text)?;
+    writeln!(out)
+}
+
+/// Such a text as a string.
+pub(crate) fn escaped(alloc: Global, text: &[u8]) -> Result<String, AllocError>
+    ensures { IfOk result (λ words. string_bytes words ≡ def.escaped text.now) }
+{
+    let mut words = String::new(alloc);
+    escape(&mut words, text)?;
+    Ok(words)
+}
+
 /// Room for words: how many letters fit, if each has this size in pixels.
-#[derive(Clone, Copy, Debug, PartialEq, Eq)]
+#[derive(Clone, Copy)]
 pub(crate) struct Room {
     pub(crate) letters: u32,
     pub(crate) size: u32,
