@@ -69,6 +69,12 @@ module _ (m : Meeting) (one other : List ℕ) where
       both_said (Operands ∷ []) (Loops ∷ Open ∷ slots 16) before first after a
       (both_said (Loops ∷ []) (Open ∷ slots 16) first second after b (both_said (Open ∷ []) (slots 16) second third after d e))
 
+  -- written as a text of its own, and appended
+  pub all_appended : (parts : List Part) (before start lines after : List ℕ) → start ≡ [] → SaysParts m one other parts start lines → after ≡ before ++ lines → SaysParts m one other parts before after
+  all_appended parts before start lines after s h e =
+      let said : List ℕ = flat_map (part_line m one other) h.found in
+      record { found = h.found; differ = h.differ; said = e ∙ ap (λ (xs : List ℕ). before ++ xs) (h.said ∙ ap (λ (xs : List ℕ). xs ++ said) s) }
+
 -- ---- that some part differs
 
 module _ (a b : TypeState) where

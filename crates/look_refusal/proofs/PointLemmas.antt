@@ -1,5 +1,6 @@
 -- The weight of a path at its end, in the words of the budget.
-use Rattle.std.proofs.Common.{◌≡◌, ℕ, ◌+◌, ◌≤◌, ◌<◌, ◌⊎◌, List, length, true, None, inl, inr, sym, ap, subst, arith}
+use Rattle.std.proofs.Common.{◌≡◌, ℕ, ◌+◌, ◌≤◌, ◌<◌, ◌⊎◌, List, length, true, Option, Some, None, sym, ap, subst, arith}
+use Rattle.std.specs.Prelude.{MatchOption}
 use Rattle.sts_code.specs.Checks.{program_fault}
 use Rattle.sts_code.specs.Program.{Program, routine, instr_at}
 use Rattle.sts_code.specs.declared.instr.Instr.{Instr}
@@ -21,16 +22,12 @@ use Rattle.sts_budget.specs.Structured.{IsStructured}
 use Rattle.sts_budget.specs.Sums.{Sums}
 use Rattle.look_refusal.specs.declared.heavy.Heavy.{Heavy}
 use Rattle.look_refusal.specs.Adding.{total}
-use Rattle.look_refusal.specs.Found.{IsWeighedIn}
+use Rattle.look_refusal.specs.Found.{IsHeaviest, IsNotTold, IsWeighedIn}
 use Rattle.look_refusal.specs.Heavy.{IsHeavy, IsUntold, IsTooHeavy, Weighs, NoneHeavier}
 use Rattle.look_refusal.specs.declared.search.Search.{Search}
-use Rattle.look_refusal.specs.declared.trail.Trail.{Trail}
 use Rattle.look_refusal.specs.Search.{IsReady, ends_for}
-use Rattle.look_refusal.specs.Top.{IsTop}
-use Rattle.look_refusal.specs.Trail.{IsTrail, IsTooWide, greatest_number}
 use Rattle.look_refusal.proofs.Extending.{sums}
 use Rattle.look_refusal.proofs.Instrs.{path_ends}
-use Rattle.look_refusal.proofs.Most.{top_most, top_heavy, wide_heavy}
 use Rattle.sts_budget.proofs.PathLemmas.{lie_on_paths}
 use Rattle.sts_budget.proofs.FourKindLemmas.{end_counts}
 use Rattle.sts_budget.proofs.PointLemmas.{stands, steps_come}
@@ -46,7 +43,7 @@ module _ (earlier : List Budgets) (code : List Instr) (round : ℕ → List ℕ)
   weighs Scopes pc loops sum may h = let w = stands earlier code round good names_at known (scopes_measure earlier) pc loops sum h in (loops, (w.0, (w.1.0, (w.1.1.0, (let e = w.1.1.1 in omega arith)))))
   weighs Binds pc loops sum may h = let w = stands earlier code round good names_at known (binds_measure earlier) pc loops sum h in (loops, (w.0, (w.1.0, (w.1.1.0, (let e = w.1.1.1 in omega arith)))))
 
-pub heavy : (p : Program) (f : ℕ) (k : Resource) (earlier : List Budgets) (code : List Instr) (l : Layout) (h : Heavy) → length earlier ≡ f → AreBudgets p earlier → NamesRight p f (names_in l) → IsLaidFor earlier code l → code ≡ (routine p f).code → IsWeighedIn k earlier code l h → NoneHeavier k earlier code h.weight → IsHeavy p f k h
+heavy : (p : Program) (f : ℕ) (k : Resource) (earlier : List Budgets) (code : List Instr) (l : Layout) (h : Heavy) → length earlier ≡ f → AreBudgets p earlier → NamesRight p f (names_in l) → IsLaidFor earlier code l → code ≡ (routine p f).code → IsWeighedIn k earlier code l h → NoneHeavier k earlier code h.weight → IsHeavy p f k h
 heavy p f k earlier code l h size right named ready is w most = by (subst (λ xs. IsLaidFor earlier xs l) is ready) (subst (λ xs. IsWeighedIn k earlier xs l h) is w)
   where
     by : IsLaidFor earlier (routine p f).code l → IsWeighedIn k earlier (routine p f).code l h → IsHeavy p f k h
@@ -68,19 +65,15 @@ heavy p f k earlier code l h size right named ready is w most = by (subst (λ xs
       over = v.over;
     }
 
--- ---- where nothing is told
+-- ---- what a search finds
 
 untold : (p : Program) (f : ℕ) (k : Resource) (earlier : List Budgets) (code : List Instr) → length earlier ≡ f → AreBudgets p earlier → code ≡ (routine p f).code → NoneHeavier k earlier code (limit_of k) ⊎ IsTooHeavy k earlier code → IsUntold p f k
 untold p f k earlier code size right is why = record { earlier = earlier; long = size; right = right; why = subst (λ xs. NoneHeavier k earlier xs (limit_of k) ⊎ IsTooHeavy k earlier xs) is why }
 
-on_paths : (p : Program) (f : ℕ) (earlier : List Budgets) (code : List Instr) → program_fault p.routines ≡ None → f < length p.routines → IsWellTyped p f → code ≡ (routine p f).code → PointsLieOnPaths earlier code
+pub on_paths : (p : Program) (f : ℕ) (earlier : List Budgets) (code : List Instr) → program_fault p.routines ≡ None → f < length p.routines → IsWellTyped p f → code ≡ (routine p f).code → PointsLieOnPaths earlier code
 on_paths p f earlier code fine within typed is = subst (PointsLieOnPaths earlier) (sym is) (lie_on_paths p f earlier fine within typed)
 
-pub untold_light : (s : Search) (t : Trail) (place most : ℕ) → IsTop s t (length s.code.now) place most → IsTrail s t → IsReady s → (p : Program) (f : ℕ) → length s.earlier.now ≡ f → AreBudgets p s.earlier.now → s.code.now ≡ (routine p f).code → own_of s.resource + most ≤ limit_of s.resource → IsUntold p f s.resource
-untold_light s t place most top trail ready p f size right is le = untold p f s.resource s.earlier.now s.code.now size right is (inl (top_most s t place most (limit_of s.resource) top trail ready le))
-
-pub untold_top : (s : Search) (t : Trail) (place most : ℕ) → IsTop s t (length s.code.now) place most → IsTrail s t → IsReady s → (p : Program) (f : ℕ) → program_fault p.routines ≡ None → f < length p.routines → IsWellTyped p f → length s.earlier.now ≡ f → AreBudgets p s.earlier.now → s.code.now ≡ (routine p f).code → greatest_number < own_of s.resource + most → IsUntold p f s.resource
-untold_top s t place most top trail ready p f fine within typed size right is over = untold p f s.resource s.earlier.now s.code.now size right is (inr (top_heavy s t place most top trail ready (on_paths p f s.earlier.now s.code.now fine within typed is) over))
-
-pub untold_wide : (s : Search) → IsReady s → (p : Program) (f : ℕ) → program_fault p.routines ≡ None → f < length p.routines → IsWellTyped p f → length s.earlier.now ≡ f → AreBudgets p s.earlier.now → s.code.now ≡ (routine p f).code → IsTooWide s → IsUntold p f s.resource
-untold_wide s ready p f fine within typed size right is wide = untold p f s.resource s.earlier.now s.code.now size right is (inr (wide_heavy s ready (on_paths p f s.earlier.now s.code.now fine within typed is) wide))
+-- in the words of the function
+pub of_function : (s : Search) (p : Program) (f : ℕ) → IsReady s → length s.earlier.now ≡ f → AreBudgets p s.earlier.now → NamesRight p f (names_in s.layout.now) → s.code.now ≡ (routine p f).code → (o : Option Heavy) → MatchOption o (IsNotTold s) (IsHeaviest s) → MatchOption o (IsUntold p f s.resource) (IsHeavy p f s.resource)
+of_function s p f ready size right named is None why = untold p f s.resource s.earlier.now s.code.now size right is why
+of_function s p f ready size right named is (Some h) w = heavy p f s.resource s.earlier.now s.code.now s.layout.now h size right named ready is w.weighed w.most

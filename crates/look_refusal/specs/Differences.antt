@@ -19,6 +19,8 @@ use Rattle.sts_rules.specs.declared.typing.TypedLoop.{TypedLoop}
 use Rattle.sts_list.specs.Spelling.{after_spaces, joiner_words, timed_words}
 use Rattle.sts_asm.specs.Outline.{Sentence, Outline}
 use Rattle.sts_asm.specs.Source.{sentence_at}
+use Rattle.look_refusal.specs.declared.differences.Compared.{Compared}
+use Rattle.look_refusal.specs.declared.ways.Way.{Way}
 use Rattle.look_refusal.specs.declared.ways.WayOrigin.{WayOrigin}
 use Rattle.look_refusal.specs.declared.ways.WayOrigin.TheVariants.{Beginning, Edge, Turn}
 use Rattle.look_refusal.specs.declared.ways.Meeting.{Meeting}
@@ -145,6 +147,10 @@ origin_words o p f (Edge pc number) =
 origin_words o p f (Turn pc) =
     codes "the turn that ends at " ++ place_name (sentence_at o f pc) pc
 
+-- where it comes from, as the lines are written
+abbrev pub way_words : Compared → Way → List ℕ
+way_words t way = origin_words t.outline.now t.program.now t.function way.origin
+
 -- ---- the lines
 
 -- the words for one way's side of a difference
@@ -183,4 +189,10 @@ pub record SaysParts (m : Meeting) (one other : List ℕ) (parts : List Part)
 abbrev pub SaysDifferences : Outline → Program → ℕ → Meeting → List ℕ → List ℕ → Type 0
 SaysDifferences o p f m before after =
     SaysParts m (origin_words o p f m.one.origin) (origin_words o p f m.other.origin) all_parts
+    before after
+
+-- the same, as the lines are written
+abbrev pub Writes : Compared → List Part → List ℕ → List ℕ → Type 0
+Writes t parts before after =
+    SaysParts t.meeting.now (way_words t t.meeting.now.one) (way_words t t.meeting.now.other) parts
     before after

@@ -1,5 +1,5 @@
--- The result of a walk back from a place (this project's own).
-use Rattle.std.specs.Prelude.{◌≡◌, ℕ, ◌+◌, ◌<◌, List, length, get_or, true}
+-- The result of a search, and of a walk back from a place (this project's own).
+use Rattle.std.specs.Prelude.{◌≡◌, ℕ, ◌+◌, ◌<◌, ◌⊎◌, List, length, get_or, true}
 use Rattle.sts_code.specs.declared.instr.Instr.{Instr}
 use Rattle.sts_code.specs.Program.{instr_at}
 use Rattle.sts_rules.specs.declared.budget.Budgets.{Budgets}
@@ -12,6 +12,7 @@ use Rattle.sts_budget.specs.Ready.{flows_in, names_in}
 use Rattle.look_refusal.specs.declared.heavy.Heavy.{Heavy}
 use Rattle.look_refusal.specs.declared.search.Search.{Search}
 use Rattle.look_refusal.specs.Adding.{Adds, Steps, share, total}
+use Rattle.look_refusal.specs.Heavy.{IsTooHeavy, NoneHeavier}
 use Rattle.look_refusal.specs.Search.{ends_for}
 
 -- some control path reaches the place, and its steps add the reported amounts, more than the limit
@@ -30,3 +31,14 @@ pub record IsWeighedIn (k : Resource) (earlier : List Budgets) (code : List Inst
 
 abbrev pub IsWeighed : Search → Heavy → Type 0
 IsWeighed s h = IsWeighedIn s.resource s.earlier.now s.code.now s.layout.now h
+
+-- no point has a higher count
+pub record IsHeaviest (s : Search) (h : Heavy) : Type 0 where
+  pub weighed : IsWeighed s h
+  pub most : NoneHeavier s.resource s.earlier.now s.code.now h.weight
+
+-- no count is over the limit, or some count needs more than 128 bits
+abbrev pub IsNotTold : Search → Type 0
+IsNotTold s =
+    NoneHeavier s.resource s.earlier.now s.code.now (limit_of s.resource)
+    ⊎ IsTooHeavy s.resource s.earlier.now s.code.now

@@ -10,7 +10,6 @@ pub mod Reading
 pub mod Remedies
 pub mod Search
 pub mod Sentences
-pub mod States
 pub mod Stops
 pub mod Top
 pub mod Trail

@@ -1,18 +1,18 @@
 //! The differences between two ways that meet, part by part.
 
-ghost use Rattle.std.specs.Prelude.{◌≡◌, [], ◌∷◌, ◌++◌, OnOk, IfOk};
-ghost use Rattle.std.specs.Option.{option_copied};
+ghost use Rattle.std.specs.Prelude.{◌≡◌, [], ◌∷◌, ◌++◌, OnOk};
 ghost use Rattle.std.specs.String.{string_bytes};
 ghost use Rattle.sts_code.specs.Program.{routine, instr_at};
+ghost use Rattle.sts_asm.specs.Source.{sentence_at};
 ghost use Rattle.look_refusal.specs.Differences as def;
 ghost use Rattle.look_refusal.specs.Reading.{IsHeldIn};
 
-use crate::parts::{Part, is_same_part, part_name, part_words};
-use crate::ways::{Meeting, WayOrigin};
-use look_text::say;
-use std::alloc::{AllocError, Global};
+use crate::parts::{Part, is_same_part, write_name, write_part};
+use crate::ways::{Meeting, Way, WayOrigin};
+use look_text::{Said, say};
+use std::alloc::Global;
 use std::fmt::Write;
-use sts_asm::{Outline, Sentence};
+use sts_asm::Outline;
 use sts_code::{Instr, Program, code_of};
 
 /// Which of the outcomes of `join` an edge is, by its number.
@@ -69,135 +69,107 @@ fn instr_at(program: &Program, function: u32, pc: u32) -> Instr
     }
 }
 
-fn write_place(out: &mut String, sentence: Option<&Sentence<'_>>, pc: u32) -> Result<(), AllocError>
-    ensures { OnOk result (string_bytes out.new
-        ≡ string_bytes out.old ++ def.place_name (option_copied sentence.entry) pc) }
-{
-    match sentence {
-        None => write!(out, "place {pc}"),
-        Some(sentence) => {
-            let line = sentence.line();
-            write!(out, "line {line}")
-        }
-    }
-}
-
-/// The line that a way comes from.
-fn write_origin(
-    out: &mut String,
-    outline: &Outline<'_>,
-    program: &Program,
+/// Two ways that meet in a function, and the outline of the text that spells it.
+#[derive(Clone, Copy)]
+struct Compared<'a, 't> {
+    outline: &'a Outline<'t>,
+    program: &'a Program,
     function: u32,
-    origin: WayOrigin,
-) -> Result<(), AllocError>
-    ensures { OnOk result (string_bytes out.new
-        ≡ string_bytes out.old ++ def.origin_words outline.now program.now function origin) }
-{
-    match origin {
-        WayOrigin::Beginning => write!(out, "the beginning"),
-        WayOrigin::Edge(pc, number) => {
-            write_place(out, outline.sentence(function, pc), pc)?;
-            out.push_str(edge_words(instr_at(program, function, pc), number))
-        }
-        WayOrigin::Turn(pc) => {
-            write!(out, "the turn that ends at ")?;
-            write_place(out, outline.sentence(function, pc), pc)
-        }
-    }
-}
-
-fn origin_words(
-    alloc: Global,
-    outline: &Outline<'_>,
-    program: &Program,
-    function: u32,
-    origin: WayOrigin,
-) -> Result<String, AllocError>
-    ensures { IfOk result (λ s. string_bytes s
-        ≡ def.origin_words outline.now program.now function origin) }
-{
-    let mut out = String::new(alloc);
-    write_origin(&mut out, outline, program, function, origin)?;
-    Ok(out)
-}
-
-/// Two ways, as they are called in the lines.
-#[derive(Drop)]
-struct Named<'a> {
     meeting: &'a Meeting,
-    one: &'a str,
-    other: &'a str,
 }
 
-/// The words for one way's side of a difference.
-fn say_side(out: &mut Vec<u8>, words: &str, way: &str) -> Result<(), AllocError>
-    ensures { OnOk result (out.new.items ≡ out.old.items ++ def.side words.now way.now) }
-{
-    say(out, words)?;
-    say(out, " on the way from ")?;
-    say(out, way)
-}
-
-/// The line of a part.
-#[tactic(auto, unfolding(crate::specs::Differences::part_line))]
-fn say_part_line(
-    alloc: Global,
-    out: &mut Vec<u8>,
-    named: &Named<'_>,
-    part: Part,
-) -> Result<(), AllocError>
-    ensures line { OnOk result (out.new.items ≡ out.old.items ++ def.part_line
-        named.now.meeting.now named.now.one.now named.now.other.now part) }
-    ensures held { OnOk result (IsHeldIn part named.now.meeting.now.one.state
-        × IsHeldIn part named.now.meeting.now.other.state) }
-{
-    let one = part_words(alloc, part, &named.meeting.one.state)?;
-    let other = part_words(alloc, part, &named.meeting.other.state)?;
-    let name = part_name(alloc, part)?;
-    say(out, name.as_str())?;
-    say(out, ":")?;
-    say_side(out, one.as_str(), named.one)?;
-    say(out, ";")?;
-    say_side(out, other.as_str(), named.other)?;
-    say(out, "\n")
-}
-
-/// The line of a part, if the two differ in it.
-fn say_part(
-    alloc: Global,
-    out: &mut Vec<u8>,
-    named: &Named<'_>,
-    part: Part,
-) -> Result<(), AllocError>
-    ensures { OnOk result (def.SaysParts named.now.meeting.now named.now.one.now
-        named.now.other.now (part ∷ []) out.old.items out.new.items) }
-{
-    if is_same_part(part, &named.meeting.one.state, &named.meeting.other.state) {
-        return Ok(());
+impl Compared<'_, '_> {
+    fn write_place(&self, out: &mut String, pc: u32) -> Said
+        ensures { OnOk result (string_bytes out.new ≡ string_bytes out.old
+            ++ def.place_name (sentence_at self.now.outline.now self.now.function pc) pc) }
+    {
+        match self.outline.sentence(self.function, pc) {
+            None => write!(out, "place {pc}"),
+            Some(sentence) => {
+                let line = sentence.line();
+                write!(out, "line {line}")
+            }
+        }
     }
-    say_part_line(alloc, out, named, part)
-}
 
-/// The lines of the slots that differ.
-fn say_slots(alloc: Global, out: &mut Vec<u8>, named: &Named<'_>) -> Result<(), AllocError>
-    ensures { OnOk result (def.SaysParts named.now.meeting.now named.now.one.now
-        named.now.other.now (def.slots 16) out.old.items out.new.items) }
-{
-    for slot in 0..16 {
-        say_part(alloc, out, named, Part::Slot(slot))?;
+    /// The line that a way comes from.
+    fn write_origin(&self, out: &mut String, way: &Way) -> Said
+        ensures { OnOk result (string_bytes out.new
+            ≡ string_bytes out.old ++ def.way_words self.now way.now) }
+    {
+        match way.origin {
+            WayOrigin::Beginning => write!(out, "the beginning"),
+            WayOrigin::Edge(pc, number) => {
+                self.write_place(out, pc)?;
+                out.push_str(edge_words(instr_at(self.program, self.function, pc), number))
+            }
+            WayOrigin::Turn(pc) => {
+                write!(out, "the turn that ends at ")?;
+                self.write_place(out, pc)
+            }
+        }
     }
-    Ok(())
-}
 
-/// The lines of the parts that differ.
-fn say_parts(alloc: Global, out: &mut Vec<u8>, named: &Named<'_>) -> Result<(), AllocError>
-    ensures { OnOk result (def.SaysParts named.now.meeting.now named.now.one.now
-        named.now.other.now def.all_parts out.old.items out.new.items) }
-{
-    say_part(alloc, out, named, Part::Operands)?;
-    say_part(alloc, out, named, Part::Loops)?;
-    say_part(alloc, out, named, Part::Open)?;
-    say_slots(alloc, out, named)
+    /// The words for one way's side of a difference.
+    fn write_side(&self, out: &mut String, part: Part, way: &Way) -> Said
+        ensures words { OnOk result (string_bytes out.new ≡ string_bytes out.old
+            ++ def.side (def.part_words part way.now.state) (def.way_words self.now way.now)) }
+        ensures held { OnOk result (IsHeldIn part way.now.state) }
+    {
+        write_part(out, part, &way.state)?;
+        out.push_str(" on the way from ")?;
+        self.write_origin(out, way)
+    }
+
+    /// The line of a part.
+    #[tactic(auto, unfolding(crate::specs::Differences::part_line))]
+    fn write_line(&self, out: &mut String, part: Part) -> Said
+        ensures line { OnOk result (string_bytes out.new ≡ string_bytes out.old
+            ++ def.part_line self.now.meeting.now (def.way_words self.now self.now.meeting.now.one)
+            (def.way_words self.now self.now.meeting.now.other) part) }
+        ensures held { OnOk result (IsHeldIn part self.now.meeting.now.one.state
+            × IsHeldIn part self.now.meeting.now.other.state) }
+    {
+        write_name(out, part)?;
+        out.push_str(":")?;
+        self.write_side(out, part, &self.meeting.one)?;
+        out.push_str(";")?;
+        self.write_side(out, part, &self.meeting.other)?;
+        out.push_str("\n")
+    }
+
+    /// The line of a part, if the two differ in it.
+    fn write_difference(&self, out: &mut String, part: Part) -> Said
+        ensures { OnOk result (def.Writes self.now (part ∷ [])
+            (string_bytes out.old) (string_bytes out.new)) }
+    {
+        if is_same_part(part, &self.meeting.one.state, &self.meeting.other.state) {
+            return Ok(());
+        }
+        self.write_line(out, part)
+    }
+
+    /// The lines of the slots that differ.
+    fn write_slots(&self, out: &mut String) -> Said
+        ensures { OnOk result (def.Writes self.now (def.slots 16)
+            (string_bytes out.old) (string_bytes out.new)) }
+    {
+        for slot in 0..16 {
+            self.write_difference(out, Part::Slot(slot))?;
+        }
+        Ok(())
+    }
+
+    /// The lines of the parts that differ.
+    fn write_differences(&self, out: &mut String) -> Said
+        ensures { OnOk result (def.Writes self.now def.all_parts
+            (string_bytes out.old) (string_bytes out.new)) }
+    {
+        self.write_difference(out, Part::Operands)?;
+        self.write_difference(out, Part::Loops)?;
+        self.write_difference(out, Part::Open)?;
+        self.write_slots(out)
+    }
 }
 
 /// A line for each part that differs in the typestates of two ways.
@@ -212,16 +184,17 @@ pub(crate) fn difference_lines(
     program: &Program,
     function: u32,
     meeting: &Meeting,
-) -> Result<(), AllocError>
+) -> Said
     ensures { OnOk result (def.SaysDifferences outline.now program.now function meeting.now
         out.old.items out.new.items) }
 {
-    let one = origin_words(alloc, outline, program, function, meeting.one.origin)?;
-    let other = origin_words(alloc, outline, program, function, meeting.other.origin)?;
-    let named = Named {
+    let compared = Compared {
+        outline,
+        program,
+        function,
         meeting,
-        one: one.as_str(),
-        other: other.as_str(),
     };
-    say_parts(alloc, out, &named)
+    let mut lines = String::new(alloc);
+    compared.write_differences(&mut lines)?;
+    say(out, lines.as_str())
 }

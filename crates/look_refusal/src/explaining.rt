@@ -1,7 +1,8 @@
 //! Explains what is wrong with a text, if anything is.
 
-ghost use Rattle.std.specs.Prelude.{◌≡◌, IfOk, OnOk};
+ghost use Rattle.std.specs.Prelude.{◌≡◌, IfOk, Ok, OnOk};
 ghost use Rattle.sts_rules.specs.Refusal.{IsAccepted, IsRefusal};
+ghost use Rattle.sts_asm.specs.Source.{outlined};
 ghost use Rattle.sts_asm.specs.Text.{judged};
 ghost use Rattle.sts_budget.specs.Change.{cause_of};
 ghost use Rattle.sts_output.specs.Output as cli;
@@ -16,7 +17,7 @@ use crate::remedy::remedy_for;
 use crate::ways::find_meeting;
 use crate::weights::weight_lines;
 use look_accepted::{all_notes, note_lines};
-use look_text::say;
+use look_text::{Said, say};
 use std::alloc::{AllocError, Global};
 use std::io::Write;
 use sts_asm::Outline;
@@ -26,118 +27,113 @@ use sts_output::WriteFailed;
 use sts_rules::Cause;
 use sts_verify::{VerifyError, verify};
 
-/// Appends the differences of two ways that meet.
-fn say_meeting(
-    alloc: Global,
-    out: &mut Vec<u8>,
-    outline: &Outline<'_>,
-    program: &Program,
-    function: u32,
-    pc: u32,
-) -> Result<(), AllocError>
-    requires { IsRefusal program.now function pc Cause.StatesDiffer }
-    ensures { OnOk result (def.Tells program.now outline.now function pc Cause.StatesDiffer
-        out.old.items out.new.items) }
-{
-    match find_meeting(alloc, program, function, pc)? {
-        None => Ok(()),
-        Some(meeting) => {
-            difference_lines(alloc, out, outline, program, function, &meeting)?;
-            Ok(())
+/// A program, and the outline of the text that spells it.
+#[derive(Clone, Copy)]
+struct Told<'a, 't> {
+    outline: &'a Outline<'t>,
+    program: &'a Program,
+}
+
+impl Told<'_, '_> {
+    /// Appends the differences of two ways that meet.
+    fn say_meeting(self, alloc: Global, out: &mut Vec<u8>, function: u32, pc: u32) -> Said
+        requires { IsRefusal self.program.now function pc Cause.StatesDiffer }
+        ensures { OnOk result (def.Tells self.entry.program.now self.entry.outline.now function pc
+            Cause.StatesDiffer out.old.items out.new.items) }
+    {
+        match find_meeting(alloc, self.program, function, pc)? {
+            None => Ok(()),
+            Some(meeting) => {
+                difference_lines(alloc, out, self.outline, self.program, function, &meeting)
+            }
         }
     }
-}
 
-/// Appends the weights of a path that is over the budget of a resource.
-fn say_heavy(
-    alloc: Global,
-    out: &mut Vec<u8>,
-    outline: &Outline<'_>,
-    program: &Program,
-    function: u32,
-    pc: u32,
-    resource: Resource,
-) -> Result<(), AllocError>
-    requires { IsRefusal program.now function pc (cause_of resource) }
-    ensures { OnOk result (def.Tells program.now outline.now function pc (cause_of resource)
-        out.old.items out.new.items) }
-{
-    match heaviest(alloc, program, function, resource)? {
-        None => Ok(()),
-        Some(heavy) => {
-            weight_lines(alloc, out, outline, function, resource, &heavy)?;
-            Ok(())
+    /// Appends the weights of a path that is over the budget of a resource.
+    fn say_heavy(
+        self,
+        alloc: Global,
+        out: &mut Vec<u8>,
+        function: u32,
+        pc: u32,
+        resource: Resource,
+    ) -> Said
+        requires { IsRefusal self.program.now function pc (cause_of resource) }
+        ensures { OnOk result (def.Tells self.entry.program.now self.entry.outline.now function pc
+            (cause_of resource) out.old.items out.new.items) }
+    {
+        match heaviest(alloc, self.program, function, resource)? {
+            None => Ok(()),
+            Some(heavy) => weight_lines(alloc, out, self.outline, function, resource, &heavy),
         }
     }
-}
 
-/// Appends the detail of a cause: the difference of two ways, or the weight of a path, if that is
-/// the cause.
-fn say_detail(
-    alloc: Global,
-    out: &mut Vec<u8>,
-    outline: &Outline<'_>,
-    program: &Program,
-    function: u32,
-    pc: u32,
-    cause: Cause,
-) -> Result<(), AllocError>
-    requires { IsRefusal program.now function pc cause }
-    ensures { OnOk result (def.Tells program.now outline.now function pc cause
-        out.old.items out.new.items) }
-{
-    match cause {
-        Cause::StatesDiffer => say_meeting(alloc, out, outline, program, function, pc),
-        Cause::TooManySteps => {
-            say_heavy(alloc, out, outline, program, function, pc, Resource::Steps)
+    /// Appends the detail of a cause: the difference of two ways, or the weight of a path, if that
+    /// is the cause.
+    fn say_detail(
+        self,
+        alloc: Global,
+        out: &mut Vec<u8>,
+        function: u32,
+        pc: u32,
+        cause: Cause,
+    ) -> Said
+        requires { IsRefusal self.program.now function pc cause }
+        ensures { OnOk result (def.Tells self.entry.program.now self.entry.outline.now function pc
+            cause out.old.items out.new.items) }
+    {
+        match cause {
+            Cause::StatesDiffer => self.say_meeting(alloc, out, function, pc),
+            Cause::TooManySteps => self.say_heavy(alloc, out, function, pc, Resource::Steps),
+            Cause::TooManyTasks => self.say_heavy(alloc, out, function, pc, Resource::Tasks),
+            Cause::TooManyScopes => self.say_heavy(alloc, out, function, pc, Resource::Scopes),
+            Cause::TooManyBinds => self.say_heavy(alloc, out, function, pc, Resource::Binds),
+            _ => Ok(()),
         }
-        Cause::TooManyTasks => {
-            say_heavy(alloc, out, outline, program, function, pc, Resource::Tasks)
-        }
-        Cause::TooManyScopes => {
-            say_heavy(alloc, out, outline, program, function, pc, Resource::Scopes)
-        }
-        Cause::TooManyBinds => {
-            say_heavy(alloc, out, outline, program, function, pc, Resource::Binds)
-        }
-        _ => Ok(()),
     }
-}
 
-fn refused(
-    alloc: Global,
-    outline: &Outline<'_>,
-    program: &Program,
-    function: u32,
-    pc: u32,
-    cause: Cause,
-) -> Result<Explanation, AllocError>
-    requires { IsRefusal program.now function pc cause }
-    ensures { IfOk result (λ o. def.IsRefused program.now outline.now o) }
-{
-    let remedy = remedy_for(alloc, program, function, pc, cause)?;
-    let mut bytes = Vec::new(alloc);
-    let sentence = outline.sentence(function, pc);
-    refused_lines(
-        alloc, &mut bytes, program, sentence, function, cause, remedy,
-    )?;
-    say_detail(alloc, &mut bytes, outline, program, function, pc, cause)?;
-    Ok(Explanation { bytes, status: 4 })
-}
+    fn refused(
+        self,
+        alloc: Global,
+        function: u32,
+        pc: u32,
+        cause: Cause,
+    ) -> Result<Explanation, AllocError>
+        requires { IsRefusal self.program.now function pc cause }
+        ensures { IfOk result (λ o. def.IsRefused self.entry.program.now self.entry.outline.now o) }
+    {
+        let remedy = remedy_for(alloc, self.program, function, pc, cause)?;
+        let mut bytes = Vec::new(alloc);
+        let sentence = self.outline.sentence(function, pc);
+        refused_lines(
+            alloc,
+            &mut bytes,
+            self.program,
+            sentence,
+            function,
+            cause,
+            remedy,
+        )?;
+        self.say_detail(alloc, &mut bytes, function, pc, cause)?;
+        Ok(Explanation { bytes, status: 4 })
+    }
 
-fn accepted(
-    alloc: Global,
-    outline: &Outline<'_>,
-    program: &Program,
-) -> Result<Explanation, AllocError>
-    requires { IsAccepted program.now }
-    ensures { IfOk result (λ o. def.IsVerdict program.now outline.now o) }
-{
-    let notes = all_notes(alloc, program)?;
-    let mut bytes = Vec::new(alloc);
-    say(&mut bytes, "accepted\n")?;
-    note_lines(alloc, &mut bytes, outline, program, notes.as_slice())?;
-    Ok(Explanation { bytes, status: 0 })
+    fn accepted(self, alloc: Global) -> Result<Explanation, AllocError>
+        requires { IsAccepted self.program.now }
+        ensures { IfOk result (λ o. def.IsVerdict self.entry.program.now self.entry.outline.now o) }
+    {
+        let notes = all_notes(alloc, self.program)?;
+        let mut bytes = Vec::new(alloc);
+        say(&mut bytes, "accepted\n")?;
+        note_lines(
+            alloc,
+            &mut bytes,
+            self.outline,
+            self.program,
+            notes.as_slice(),
+        )?;
+        Ok(Explanation { bytes, status: 0 })
+    }
 }
 
 fn verdict(
@@ -148,7 +144,11 @@ fn verdict(
     ensures { IfOk result (λ o. def.IsVerdict program outline.now o) }
 {
     match verify(alloc, program) {
-        Ok(verified) => accepted(alloc, outline, verified.program()),
+        Ok(verified) => Told {
+            outline,
+            program: verified.program(),
+        }
+        .accepted(alloc),
         Err(VerifyError::Memory(_)) => Err(AllocError),
         Err(
             VerifyError::Refused {
@@ -157,17 +157,32 @@ fn verdict(
                 pc,
                 cause,
             },
-        ) => refused(alloc, outline, &program, function, pc, cause),
+        ) => Told {
+            outline,
+            program: &program,
+        }
+        .refused(alloc, function, pc, cause),
     }
+}
+
+fn explained_by(
+    alloc: Global,
+    outline: &Outline<'_>,
+    text: &[u8],
+) -> Result<Explanation, ExplainError>
+    requires { outlined text.now ≡ Ok outline.now }
+    ensures { Prints result (def.Explains (judged text.now) text.now) }
+{
+    let program = program_of(alloc, text)?;
+    let output = verdict(alloc, outline, program)?;
+    Ok(output)
 }
 
 fn explained(alloc: Global, text: &[u8]) -> Result<Explanation, ExplainError>
     ensures { Prints result (def.Explains (judged text.now) text.now) }
 {
     let outline = outline_of(alloc, text)?;
-    let program = program_of(alloc, text)?;
-    let output = verdict(alloc, &outline, program)?;
-    Ok(output)
+    explained_by(alloc, &outline, text)
 }
 
 /// Says what is wrong with a text, if anything is, with line numbers, and gives the status that

@@ -1,18 +1,20 @@
 //! A path, or a point of one, that is over its budget.
 
-ghost use Rattle.std.specs.Prelude.{◌≡◌, ◌<◌, ◌≤◌, ◌+◌, ℕ, length, true, IfOk, MatchOption};
+ghost use Rattle.std.specs.Prelude.{◌≡◌, ◌<◌, ◌≤◌, ◌+◌, ◌⊎◌, ℕ, length, true, IfOk, MatchOption};
 ghost use Rattle.sts_budget.specs.Change as change;
+ghost use Rattle.sts_budget.specs.Laws.{PointsLieOnPaths};
 ghost use Rattle.sts_rules.specs.Budget.{AreBudgets};
 ghost use Rattle.sts_rules.specs.Refusal.{IsSound, IsWellTyped};
 ghost use Rattle.look_refusal.specs.Heavy.{IsHeavy, IsUntold};
-ghost use Rattle.look_refusal.specs.Found.{IsWeighed};
+ghost use Rattle.look_refusal.specs.Found.{IsHeaviest, IsNotTold, IsWeighed};
 ghost use Rattle.look_refusal.specs.Search as def;
+ghost use Rattle.look_refusal.specs.Top.{IsTop};
 ghost use Rattle.look_refusal.specs.Trail as trails;
 
 use crate::earlier::budgets_before;
 use crate::search::{Search, Spot, depth_at};
 use crate::shares::Shares;
-use crate::top::find_top;
+use crate::top::{Top, find_top};
 use crate::trail::{Trail, find_trail};
 use crate::walk::back_to_beginning;
 use std::alloc::{AllocError, Global};
@@ -66,6 +68,70 @@ fn weigh(
     })
 }
 
+/// The weight of the greatest sum, if it is over the limit, and if 128 bits hold it.
+fn weight_over(resource: Resource, most: u128) -> Option<u128>
+    ensures { MatchOption result
+        ((change.own_of resource + most ≤ change.limit_of resource)
+        ⊎ (trails.greatest_number < change.own_of resource + most))
+        (λ w. (w ≡ change.own_of resource + most) × (change.limit_of resource < w)) }
+{
+    let weight = most.checked_add(own_of(resource) as u128)?;
+    if weight <= limit_of(resource) as u128 {
+        None
+    } else {
+        Some(weight)
+    }
+}
+
+/// The point of the greatest sum, if its weight is over the limit.
+fn weigh_top(
+    alloc: Global,
+    search: &Search<'_>,
+    trail: &Trail,
+    top: Top,
+) -> Result<Option<Heavy>, AllocError>
+    requires ready { def.IsReady search.now }
+    requires trail { trails.IsTrail search.now trail.now }
+    requires lie { PointsLieOnPaths search.now.earlier.now search.now.code.now }
+    requires top { IsTop search.now trail.now (length search.now.code.now) top.place top.most }
+    ensures { IfOk result (λ o. MatchOption o (IsNotTold search.now) (IsHeaviest search.now)) }
+{
+    match weight_over(search.resource, top.most) {
+        Some(weight) => Ok(Some(weigh(alloc, search, trail, top.place, weight)?)),
+        None => Ok(None),
+    }
+}
+
+/// The heaviest point by a trail.
+fn heaviest_by(
+    alloc: Global,
+    search: &Search<'_>,
+    trail: &Trail,
+) -> Result<Option<Heavy>, AllocError>
+    requires ready { def.IsReady search.now }
+    requires trail { trails.IsTrail search.now trail.now }
+    requires lie { PointsLieOnPaths search.now.earlier.now search.now.code.now }
+    ensures { IfOk result (λ o. MatchOption o (IsNotTold search.now) (IsHeaviest search.now)) }
+{
+    match find_top(alloc, search, trail)? {
+        Some(top) => weigh_top(alloc, search, trail, top),
+        None => Ok(None),
+    }
+}
+
+/// The heaviest point that a search finds.
+fn heaviest_found(alloc: Global, search: &Search<'_>) -> Result<Option<Heavy>, AllocError>
+    requires ready { def.IsReady search.now }
+    requires lie { PointsLieOnPaths search.now.earlier.now search.now.code.now }
+    ensures { IfOk result (λ o. MatchOption o (IsNotTold search.now) (IsHeaviest search.now)) }
+{
+    let trail = match find_trail(alloc, search)? {
+        Some(trail) => trail,
+        None => return Ok(None),
+    };
+    heaviest_by(alloc, search, &trail)
+}
+
 /// The heaviest point of the function, by the budgets of the functions before it.
 fn heaviest_after(
     alloc: Global,
@@ -90,22 +156,7 @@ fn heaviest_after(
         code,
         layout: &layout,
     };
-    let trail = match find_trail(alloc, &search)? {
-        Some(trail) => trail,
-        None => return Ok(None),
-    };
-    let top = match find_top(alloc, &search, &trail)? {
-        Some(top) => top,
-        None => return Ok(None),
-    };
-    let weight = match top.most.checked_add(own_of(resource) as u128) {
-        Some(weight) => weight,
-        None => return Ok(None),
-    };
-    if weight <= limit_of(resource) as u128 {
-        return Ok(None);
-    }
-    Ok(Some(weigh(alloc, &search, &trail, top.place, weight)?))
+    heaviest_found(alloc, &search)
 }
 
 /// The heaviest point of a control path of the function, by what the budget of this resource

@@ -6,8 +6,8 @@ ghost use Rattle.look_refusal.specs.Lines as def;
 
 use crate::remedy::Remedy;
 use crate::sentences::remedy_sentence;
-use look_text::{say, say_place};
-use std::alloc::{AllocError, Global};
+use look_text::{Said, say, say_number, say_place};
+use std::alloc::Global;
 use sts_asm::Sentence;
 use sts_code::{Program, name_of};
 use sts_rules::Cause;
@@ -25,14 +25,13 @@ pub(crate) fn refused_lines(
     function: u32,
     cause: Cause,
     remedy: Remedy,
-) -> Result<(), AllocError>
+) -> Said
     ensures { OnOk result (out.new.items ≡ out.old.items
         ++ def.refused_lines program.now (option_copied sentence.entry) function cause remedy) }
 {
-    let number = cause.number();
-    let name = name_of(program, function);
-    let head = format!(in alloc; "refused V{number} in {name}")?;
-    say(out, head.as_str())?;
+    say_number(alloc, out, "refused V", cause.number() as u128)?;
+    say(out, " in ")?;
+    say(out, name_of(program, function))?;
     say_place(alloc, out, sentence)?;
     say(out, "\n")?;
     say(out, remedy_sentence(remedy))?;

@@ -1,13 +1,13 @@
 //! The parts of a typestate in words.
 
-ghost use Rattle.std.specs.Prelude.{◌≡◌, ◌↔◌, ◌++◌, IsTrue, OnOk, IfOk};
+ghost use Rattle.std.specs.Prelude.{◌≡◌, ◌↔◌, ◌++◌, IsTrue, OnOk};
 ghost use Rattle.std.specs.List.{AllByRecursion};
 ghost use Rattle.std.specs.String.{string_bytes};
 ghost use Rattle.sts_list.specs.Spelling.{after_spaces, joiner_words, timed_words};
 ghost use Rattle.look_refusal.specs.Differences as def;
 ghost use Rattle.look_refusal.specs.Reading.{IsHeldKind, IsHeldEntry, IsHeldLoop, IsHeldIn};
 
-use std::alloc::{AllocError, Global};
+use look_text::Said;
 use std::fmt::Write;
 use sts_list::write_joiner;
 use sts_model::Stack;
@@ -16,7 +16,7 @@ use sts_types::TypeState;
 
 /// A part of a typestate: the number of operands, the open loops, the open scopes and bindings, or
 /// what is known of a slot.
-#[derive(Clone, Copy, Debug, PartialEq, Eq)]
+#[derive(Clone, Copy)]
 pub enum Part {
     Operands,
     Loops,
@@ -46,7 +46,7 @@ fn known_word(known: Known) -> &'static str
     }
 }
 
-fn write_kind(out: &mut String, kind: SlotKind) -> Result<(), AllocError>
+fn write_kind(out: &mut String, kind: SlotKind) -> Said
     ensures words { OnOk result (string_bytes out.new
         ≡ string_bytes out.old ++ def.kind_words kind) }
     ensures held { IsHeldKind kind }
@@ -62,14 +62,14 @@ fn write_kind(out: &mut String, kind: SlotKind) -> Result<(), AllocError>
     }
 }
 
-fn write_timed(out: &mut String, timed: bool) -> Result<(), AllocError>
+fn write_timed(out: &mut String, timed: bool) -> Said
     ensures { OnOk result (string_bytes out.new
         ≡ string_bytes out.old ++ after_spaces (timed_words timed)) }
 {
     if timed { write!(out, " timed") } else { Ok(()) }
 }
 
-fn write_phase(out: &mut String, phase: TypedPhase) -> Result<(), AllocError>
+fn write_phase(out: &mut String, phase: TypedPhase) -> Said
     ensures { OnOk result (string_bytes out.new ≡ string_bytes out.old ++ def.phase_words phase) }
 {
     match phase {
@@ -80,7 +80,7 @@ fn write_phase(out: &mut String, phase: TypedPhase) -> Result<(), AllocError>
     }
 }
 
-fn write_scope(out: &mut String, scope: TypedScope) -> Result<(), AllocError>
+fn write_scope(out: &mut String, scope: TypedScope) -> Said
     ensures words { OnOk result (string_bytes out.new
         ≡ string_bytes out.old ++ def.entry_words (TypedEntry.Scope scope)) }
     ensures held { IsHeldEntry (TypedEntry.Scope scope) }
@@ -93,7 +93,7 @@ fn write_scope(out: &mut String, scope: TypedScope) -> Result<(), AllocError>
     write!(out, ")")
 }
 
-fn write_entry(out: &mut String, entry: TypedEntry) -> Result<(), AllocError>
+fn write_entry(out: &mut String, entry: TypedEntry) -> Said
     ensures words { OnOk result (string_bytes out.new
         ≡ string_bytes out.old ++ def.entry_words entry) }
     ensures held { IsHeldEntry entry }
@@ -104,7 +104,7 @@ fn write_entry(out: &mut String, entry: TypedEntry) -> Result<(), AllocError>
     }
 }
 
-fn write_entries(out: &mut String, entries: &Stack<TypedEntry, 16>) -> Result<(), AllocError>
+fn write_entries(out: &mut String, entries: &Stack<TypedEntry, 16>) -> Said
     ensures words { OnOk result (string_bytes out.new
         ≡ string_bytes out.old ++ def.listed def.entry_words entries.now) }
     ensures held { OnOk result (AllByRecursion IsHeldEntry entries.now) }
@@ -118,7 +118,7 @@ fn write_entries(out: &mut String, entries: &Stack<TypedEntry, 16>) -> Result<()
     Ok(())
 }
 
-fn write_loop(out: &mut String, around: TypedLoop) -> Result<(), AllocError>
+fn write_loop(out: &mut String, around: TypedLoop) -> Said
     ensures words { OnOk result (string_bytes out.new
         ≡ string_bytes out.old ++ def.loop_words around) }
     ensures held { IsHeldLoop around }
@@ -128,7 +128,7 @@ fn write_loop(out: &mut String, around: TypedLoop) -> Result<(), AllocError>
     write!(out, " (times at {at}, {entries} open)")
 }
 
-fn write_loops(out: &mut String, loops: &Stack<TypedLoop, 8>) -> Result<(), AllocError>
+fn write_loops(out: &mut String, loops: &Stack<TypedLoop, 8>) -> Said
     ensures words { OnOk result (string_bytes out.new
         ≡ string_bytes out.old ++ def.listed def.loop_words loops.now) }
     ensures held { OnOk result (AllByRecursion IsHeldLoop loops.now) }
@@ -142,9 +142,16 @@ fn write_loops(out: &mut String, loops: &Stack<TypedLoop, 8>) -> Result<(), Allo
     Ok(())
 }
 
-fn write_part(out: &mut String, part: Part, state: &TypeState) -> Result<(), AllocError>
+/// A part of a typestate in words, each after a space.
+///
+/// # Errors
+///
+/// Memory ran out.
+pub(crate) fn write_part(out: &mut String, part: Part, state: &TypeState) -> Said
     ensures words { OnOk result (string_bytes out.new
         ≡ string_bytes out.old ++ def.part_words part state.now) }
+
+    // Its numbers have 64 bits, so different typestates give different words.
     ensures held { OnOk result (IsHeldIn part state.now) }
 {
     match part {
@@ -158,34 +165,18 @@ fn write_part(out: &mut String, part: Part, state: &TypeState) -> Result<(), All
     }
 }
 
-/// A part of a typestate in words, each after a space.
-///
-/// # Errors
-///
-/// Memory ran out.
-pub(crate) fn part_words(alloc: Global, part: Part, state: &TypeState) -> Result<String, AllocError>
-    ensures words { IfOk result (λ s. string_bytes s ≡ def.part_words part state.now) }
-
-    // Its numbers have 64 bits, so different typestates give different words.
-    ensures held { OnOk result (IsHeldIn part state.now) }
-{
-    let mut out = String::new(alloc);
-    write_part(&mut out, part, state)?;
-    Ok(out)
-}
-
 /// The name of a part of a typestate.
 ///
 /// # Errors
 ///
 /// Memory ran out.
-pub(crate) fn part_name(alloc: Global, part: Part) -> Result<String, AllocError>
-    ensures { IfOk result (λ s. string_bytes s ≡ def.part_name part) }
+pub(crate) fn write_name(out: &mut String, part: Part) -> Said
+    ensures { OnOk result (string_bytes out.new ≡ string_bytes out.old ++ def.part_name part) }
 {
     match part {
-        Part::Operands => format!(in alloc; "operands"),
-        Part::Loops => format!(in alloc; "open loops"),
-        Part::Open => format!(in alloc; "open, the last one first"),
-        Part::Slot(slot) => format!(in alloc; "slot s{slot}"),
+        Part::Operands => write!(out, "operands"),
+        Part::Loops => write!(out, "open loops"),
+        Part::Open => write!(out, "open, the last one first"),
+        Part::Slot(slot) => write!(out, "slot s{slot}"),
     }
 }

@@ -17,7 +17,7 @@ use sts_types::loops::CodeLoops;
 use sts_types::slots::{is_binding, is_readable, is_scope_in};
 
 /// What is missing or too much at an instruction, with what to do about it.
-#[derive(Clone, Copy, Debug, PartialEq, Eq)]
+#[derive(Clone, Copy)]
 pub enum Remedy {
     /// Fewer operands are on the stack than it pops.
     TooFewOperands,
@@ -243,14 +243,8 @@ fn unknown_of(profile: Profile, scope: Option<TypedScope>, unknown: Remedy) -> R
     ensures { result ≡ def.unknown_of profile scope unknown }
 {
     match scope {
-        None => unread(None),
-        Some(found) => {
-            if is_readable(profile, found) {
-                unknown
-            } else {
-                unread(scope)
-            }
-        }
+        Some(found) if is_readable(profile, found) => unknown,
+        _ => unread(scope),
     }
 }
 
@@ -305,13 +299,8 @@ fn unbind_remedy(state: &TypeState) -> Remedy
 {
     match innermost(state) {
         None => Remedy::NothingBound,
-        Some(entry) => {
-            if is_binding(entry) {
-                Remedy::BoundBeforeLoop
-            } else {
-                Remedy::OpenedInBinding
-            }
-        }
+        Some(entry) if is_binding(entry) => Remedy::BoundBeforeLoop,
+        Some(_) => Remedy::OpenedInBinding,
     }
 }
 

@@ -17,7 +17,7 @@ use sts_types::loops::{CodeLoops, Tables};
 use sts_types::{TypeState, edges_with_loops, entry};
 
 /// The place or edge that a way comes from.
-#[derive(Clone, Copy, Debug, PartialEq, Eq)]
+#[derive(Clone, Copy)]
 pub enum WayOrigin {
     /// The beginning of the function.
     Beginning,

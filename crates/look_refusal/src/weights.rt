@@ -6,41 +6,32 @@ ghost use Rattle.look_refusal.specs.Weights as def;
 
 use crate::heavy::Heavy;
 use crate::order::{comes_after, last_shown};
-use look_text::{say, say_place};
-use std::alloc::{AllocError, Global};
+use look_text::{Said, say, say_number, say_place};
+use std::alloc::Global;
 use sts_asm::Outline;
 use sts_budget::Resource;
 use sts_code::MAX_INSTRUCTIONS;
 
-/// The words of a resource: those after a weight, and the line of what a function adds outside its
-/// instructions.
-#[derive(Clone, Copy)]
-struct Words {
-    weight: &'static str,
-    own: &'static str,
-}
-
-fn words_of(resource: Resource) -> Words
-    ensures weight { result.weight.now ≡ def.count_words resource }
-    ensures own { result.own.now ≡ def.own_line resource }
+/// What a resource counts, as it is said after the weight.
+fn count_words(resource: Resource) -> &'static str
+    ensures { result.now ≡ def.count_words resource }
 {
     match resource {
-        Resource::Steps => Words {
-            weight: " steps on a path that ends here",
-            own: "adds 1, its last step\n",
-        },
-        Resource::Tasks => Words {
-            weight: " tasks count here",
-            own: "adds 1, the task itself\n",
-        },
-        Resource::Scopes => Words {
-            weight: " scopes are open here",
-            own: "",
-        },
-        Resource::Binds => Words {
-            weight: " bindings are open here",
-            own: "",
-        },
+        Resource::Steps => " steps on a path that ends here",
+        Resource::Tasks => " tasks count here",
+        Resource::Scopes => " scopes are open here",
+        Resource::Binds => " bindings are open here",
+    }
+}
+
+/// The line of what a function adds outside its instructions.
+fn own_line(resource: Resource) -> &'static str
+    ensures { result.now ≡ def.own_line resource }
+{
+    match resource {
+        Resource::Steps => "adds 1, its last step\n",
+        Resource::Tasks => "adds 1, the task itself\n",
+        Resource::Scopes | Resource::Binds => "",
     }
 }
 
@@ -91,7 +82,7 @@ fn say_share(
     shares: &[u128],
     last: Option<usize>,
     place: usize,
-) -> Result<(), AllocError>
+) -> Said
     requires last { IsLastShown shares.now last }
     requires place { place < length shares.now }
     requires short { length shares.now ≤ MAX_INSTRUCTIONS }
@@ -101,9 +92,7 @@ fn say_share(
     if !is_shown(shares, last, place) {
         return Ok(());
     }
-    let amount = shares[place];
-    let head = format!(in alloc; "adds {amount}")?;
-    say(out, head.as_str())?;
+    say_number(alloc, out, "adds ", shares[place])?;
     say_place(alloc, out, outline.sentence(function, place as u32))?;
     say(out, "\n")
 }
@@ -115,7 +104,7 @@ fn say_shares(
     function: u32,
     shares: &[u128],
     last: Option<usize>,
-) -> Result<(), AllocError>
+) -> Said
     requires last { IsLastShown shares.now last }
     requires short { length shares.now ≤ MAX_INSTRUCTIONS }
     ensures { OnOk result (out.new.items
@@ -127,14 +116,15 @@ fn say_shares(
     Ok(())
 }
 
-fn say_others(alloc: Global, out: &mut Vec<u8>, count: usize) -> Result<(), AllocError>
+fn say_others(alloc: Global, out: &mut Vec<u8>, count: usize) -> Said
     ensures { OnOk result (out.new.items ≡ out.old.items ++ def.others_line count) }
 {
     if count == 0 {
         return Ok(());
     }
-    let line = format!(in alloc; "other lines that add something, none of them more: {count}\n")?;
-    say(out, line.as_str())
+    let words = "other lines that add something, none of them more: ";
+    say_number(alloc, out, words, count as u128)?;
+    say(out, "\n")
 }
 
 /// The line that says what is over the limit, and where.
@@ -145,14 +135,12 @@ fn say_weight(
     function: u32,
     resource: Resource,
     heavy: &Heavy,
-) -> Result<(), AllocError>
+) -> Said
     ensures { OnOk result (out.new.items
         ≡ out.old.items ++ def.weight_line outline.now function resource heavy.now) }
 {
-    let weight = heavy.weight;
-    let head = format!(in alloc; "{weight}")?;
-    say(out, head.as_str())?;
-    say(out, words_of(resource).weight)?;
+    say_number(alloc, out, "", heavy.weight)?;
+    say(out, count_words(resource))?;
     say_place(alloc, out, outline.sentence(function, heavy.place))?;
     say(out, "\n")
 }
@@ -170,7 +158,7 @@ pub(crate) fn weight_lines(
     function: u32,
     resource: Resource,
     heavy: &Heavy,
-) -> Result<(), AllocError>
+) -> Said
     requires { length heavy.now.shares.items ≤ MAX_INSTRUCTIONS }
     ensures { OnOk result (out.new.items
         ≡ out.old.items ++ def.weight_lines outline.now function resource heavy.now) }
@@ -180,5 +168,5 @@ pub(crate) fn weight_lines(
     let last = last_shown(shares);
     say_shares(alloc, out, outline, function, shares, last)?;
     say_others(alloc, out, others(shares, last))?;
-    say(out, words_of(resource).own)
+    say(out, own_line(resource))
 }

@@ -1,28 +1,12 @@
-use Rattle.std.proofs.Common.{◌≡◌, ℕ, List, Result, sym, subst}
 use Rattle.std.proofs.lemmas.Result.{err_from_is_err_and}
 use Rattle.sts_asm.specs.Text.{judged}
-use Rattle.sts_asm.specs.declared.fault.AsmError.{AsmError}
-use Rattle.sts_code.specs.Program.{Program}
-use Rattle.sts_output.specs.Output.{Output}
 use Rattle.look_refusal.specs.Output as def
 use Rattle.look_refusal.specs.Stops.{IsTextFault}
+use Rattle.look_refusal.proofs.FaultLemmas.{fault_explains}
 use Rattle.look_refusal.proofs.StopLemmas.{says_less}
 use Rattle.look_refusal.proofs.explaining.explained.Goals as goal
-
--- the output for a fault of a text explains the text
-fault_explains : (text : List ℕ) (o : Output) → IsTextFault text o → def.Explains (judged text) text o
-fault_explains text o h = subst (λ (r : Result Program AsmError). def.Explains r text o) (sym h.fault) h.printed
 
 pub returns-in_err-outline : goal.returns-in_err-outline
 returns-in_err-outline c =
     let p = err_from_is_err_and c.from_residual.result c.from_residual.ensures.1 in
     rw (p.1, p.2) (says_less c.in_err-outline.field-0.0 (IsTextFault c.args.text.now) (def.Explains (judged c.args.text.now) c.args.text.now) (fault_explains c.args.text.now) c.in_err-outline.ensures)
-
-pub returns-in_err-program : goal.returns-in_err-program
-returns-in_err-program c =
-    let p = err_from_is_err_and c.from_residual-in_err-program.result c.from_residual-in_err-program.ensures.1 in
-    rw (p.1, p.2) (says_less c.in_err-program.field-0.0 (IsTextFault c.args.text.now) (def.Explains (judged c.args.text.now) c.args.text.now) (fault_explains c.args.text.now) c.in_err-program.ensures)
-
-pub returns : goal.returns
-returns c =
-    subst (λ (r : Result Program AsmError). def.Explains r c.args.text.now c.in_ok-output.output) (sym c.in_ok-program.ensures) (c.in_ok-outline.outline, (c.in_ok-outline.ensures, c.in_ok-output.ensures))

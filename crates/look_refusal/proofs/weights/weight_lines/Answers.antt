@@ -20,4 +20,4 @@ returns c =
     let after_two : two ≡ before ++ (weight ++ shares) = said_on before weight shares one two c.in_ok-say_weight.ensures each in
     let counted : three ≡ two ++ rest = c.in_ok-say_others.ensures ∙ ap (λ (x : ℕ). two ++ def.others_line x) c.others.ensures ∙ ap (λ (x : List ℕ). two ++ def.others_line (def.others x)) c.as_slice-shares.ensures.value in
     let after_three : three ≡ before ++ ((weight ++ shares) ++ rest) = said_on before (weight ++ shares) rest two three after_two counted in
-    on_ok_weaker c.say.result (λ (e : four ≡ three ++ c.words_of.result.own.now). said_on before ((weight ++ shares) ++ rest) own three four after_three (e ∙ ap (λ (x : List ℕ). three ++ x) c.words_of.ensures.own)) c.say.ensures
+    on_ok_weaker c.say.result (λ (e : four ≡ three ++ c.own_line.result.now). said_on before ((weight ++ shares) ++ rest) own three four after_three (e ∙ ap (λ (x : List ℕ). three ++ x) c.own_line.ensures)) c.say.ensures

@@ -4,12 +4,12 @@ use Rattle.sts_asm.specs.Outline.{Sentence}
 use Rattle.look_refusal.specs.Lines.{refused_lines}
 use Rattle.look_refusal.specs.Output.{Tells}
 use Rattle.look_refusal.proofs.TellLemmas.{refused_as}
-use Rattle.look_refusal.proofs.explaining.refused.Goals as goal
+use Rattle.look_refusal.proofs.explaining.Told.refused.Goals as goal
 
 pub returns : goal.returns
 returns c =
-    let p = c.args.program.now in
-    let o = c.args.outline.now in
+    let p = c.args.self.program.now in
+    let o = c.args.self.outline.now in
     let f = c.args.function in
     let pc = c.args.pc in
     let cause = c.args.cause in

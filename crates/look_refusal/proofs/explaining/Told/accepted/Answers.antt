@@ -4,12 +4,12 @@ use Rattle.sts_output.specs.Output.{Output}
 use Rattle.look_accepted.specs.Lines.{note_lines}
 use Rattle.look_accepted.specs.declared.notes.Note.{Note}
 use Rattle.look_refusal.specs.Output.{accepted}
-use Rattle.look_refusal.proofs.explaining.accepted.Goals as goal
+use Rattle.look_refusal.proofs.explaining.Told.accepted.Goals as goal
 
 pub returns : goal.returns
 returns c =
-    let p = c.args.program.now in
-    let o = c.args.outline.now in
+    let p = c.args.self.program.now in
+    let o = c.args.self.outline.now in
     let notes : List Note = c.as_slice.result.now in
     let head : List ℕ = codes "accepted\n" in
     let said : c.say.new.out.items ≡ head = c.in_ok-say.ensures ∙ ap (λ (b : List ℕ). b ++ head) c.new-bytes.ensures.items in
