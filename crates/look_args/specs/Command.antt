@@ -1,8 +1,15 @@
 -- The commands that `look` knows, as `clap` sees them (this project's own).
-use Rattle.std.specs.Prelude.{codes, Some, true}
+use Rattle.std.specs.Prelude.{codes, Some, true, Result}
+use Rattle.std.specs.declared.alloc.AllocError.{AllocError}
 use Rattle.clap.specs.Words.{App, Rule, Text, new_app, new_rule, with_rule, with_subcommand}
 use Rattle.clap.specs.declared.builder.action.ArgAction.TheVariants.{SetTrue}
-use Rattle.sts_args.specs.Command.{file_rule, option_rule, required, trace_rule}
+use Rattle.clap.specs.declared.builder.command.Command.{Command}
+use Rattle.sts_args.specs.Command.{IsLocal, Makes, file_rule, option_rule, required, trace_rule}
+
+-- if memory was enough, it is this command, and no argument of it is global
+pub record IsMade (a : App) (made : Result Command AllocError) : Type 0 where
+  pub app : Makes a made
+  pub local : IsLocal made
 
 -- an option that takes no value
 abbrev pub flag_rule : Text → Rule
@@ -25,34 +32,27 @@ abbrev pub draw : App
 draw = with_rule (with_rule (with_rule (with_rule (new_app (codes "draw")) file_rule) trace_rule)
     (option_rule (codes "events"))) (flag_rule (codes "brief"))
 
--- a number in its place among the words, which may be left out
-abbrev pub tell_by_events : App
-tell_by_events = with_rule (with_rule (with_rule (with_rule (new_app (codes "tell")) file_rule)
-    trace_rule) (new_rule (codes "FROM"))) (new_rule (codes "TO"))
-
+-- two numbers in their places among the words, which may be left out
 abbrev pub tell : App
-tell = with_rule (with_rule (with_rule tell_by_events (flag_rule (codes "each")))
-    (flag_rule (codes "strict"))) (flag_rule (codes "json"))
+tell = with_rule (with_rule (with_rule (with_rule (with_rule (with_rule (with_rule
+    (new_app (codes "tell")) file_rule) trace_rule) (new_rule (codes "FROM")))
+    (new_rule (codes "TO"))) (flag_rule (codes "each"))) (flag_rule (codes "strict")))
+    (flag_rule (codes "json"))
 
 -- the number and the file of a trace that is kept
 abbrev pub kept_rule : Rule
 kept_rule = record (new_rule (codes "trace")) { long = Some (codes "trace"); value_names = 2 }
 
-abbrev pub ends_by_events : App
-ends_by_events = with_rule (with_rule (with_rule (new_app (codes "ends")) file_rule)
-    (flag_rule (codes "no-expiries"))) (option_rule (codes "interrupts"))
-
+-- with the options that say which events may come, and when a search stops
 abbrev pub ends_by_limits : App
-ends_by_limits = with_rule (with_rule ends_by_events (option_rule (codes "most")))
-    (option_rule (codes "seconds"))
-
--- the same, and the option that asks for calls
-abbrev pub ends_by_calls : App
-ends_by_calls = with_rule ends_by_limits (flag_rule (codes "calls"))
+ends_by_limits = with_rule (with_rule (with_rule (with_rule (with_rule (new_app (codes "ends"))
+    file_rule) (flag_rule (codes "no-expiries"))) (option_rule (codes "interrupts")))
+    (option_rule (codes "most"))) (option_rule (codes "seconds"))
 
 abbrev pub ends : App
-ends = with_rule (with_rule (with_rule (with_rule ends_by_calls (option_rule (codes "sample")))
-    (option_rule (codes "seed"))) kept_rule) (flag_rule (codes "json"))
+ends = with_rule (with_rule (with_rule (with_rule (with_rule ends_by_limits
+    (flag_rule (codes "calls"))) (option_rule (codes "sample"))) (option_rule (codes "seed")))
+    kept_rule) (flag_rule (codes "json"))
 
 abbrev pub cases : App
 cases = with_rule (new_app (codes "cases")) file_rule

@@ -12,7 +12,7 @@ pub const FIRST_EVENT: u32 = 1;
 pub const LAST_EVENT: u32 = 4_294_967_295;
 
 /// The end whose trace is kept, by its number, and the file that gets the trace.
-#[derive(Clone, Copy, Debug)]
+#[derive(Clone, Copy)]
 pub struct Kept<'a> {
     pub number: u32,
     pub file: &'a str,
@@ -20,7 +20,7 @@ pub struct Kept<'a> {
 
 /// Which ends are to be found, the one whose trace is kept, if one is named, and whether they are
 /// printed as lines of JSON.
-#[derive(Clone, Copy, Debug)]
+#[derive(Clone, Copy)]
 pub struct AskedEnds<'a> {
     pub wanted: EndsOptions,
     pub kept: Option<Kept<'a>>,
@@ -28,21 +28,21 @@ pub struct AskedEnds<'a> {
 }
 
 /// Which views, and whether they are lines of JSON.
-#[derive(Clone, Copy, Debug)]
+#[derive(Clone, Copy)]
 pub struct AskedView {
     pub wanted: ViewOptions,
     pub json: bool,
 }
 
 /// Which events a story tells, and whether it is lines of JSON.
-#[derive(Clone, Copy, Debug)]
+#[derive(Clone, Copy)]
 pub struct AskedTell {
     pub wanted: TellOptions,
     pub json: bool,
 }
 
 /// The form in which a text is explained.
-#[derive(Clone, Copy, Debug, PartialEq, Eq)]
+#[derive(Clone, Copy)]
 pub enum ExplainForm {
     Words,
     /// Lines that editors jump by.
@@ -51,7 +51,7 @@ pub enum ExplainForm {
 }
 
 /// The request. Names of files are kept as they were written.
-#[derive(Clone, Copy, Debug)]
+#[derive(Clone, Copy)]
 pub enum Asked<'a> {
     /// The tasks and scopes after a trace.
     View {
