@@ -15,7 +15,7 @@ use Rattle.sts_rules.specs.declared.typing.Cause.TheVariants as cause
 use Rattle.sts_rules.specs.declared.typing.TypedLoop.{TypedLoop}
 use Rattle.sts_rules.specs.Around.{around, is_inside}
 use Rattle.sts_budget.specs.declared.change.Resource.{Resource}
-use Rattle.sts_budget.specs.declared.change.Resource.TheVariants.{Steps, Tasks, Scopes, Binds}
+use Rattle.sts_budget.specs.declared.change.Resource.TheVariants.{Steps}
 use Rattle.sts_budget.specs.Change.{cause_of}
 use Rattle.sts_rules.specs.Causes.{causes, holds, least_cause, jumps_back}
 use Rattle.sts_rules.specs.Edges.{edges, follows, to_optional, moved, or_cause, back_of, typing}

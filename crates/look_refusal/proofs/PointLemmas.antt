@@ -1,5 +1,5 @@
 -- The weight of a path at its end, in the words of the budget.
-use Rattle.std.proofs.Common.{◌≡◌, ℕ, ◌+◌, ◌≤◌, ◌<◌, ◌⊎◌, List, length, true, Option, Some, None, sym, ap, subst, arith}
+use Rattle.std.proofs.Common.{◌≡◌, ℕ, ◌+◌, ◌<◌, ◌⊎◌, List, length, true, Option, Some, None, sym, ap, subst, arith}
 use Rattle.std.specs.Prelude.{MatchOption}
 use Rattle.sts_code.specs.Checks.{program_fault}
 use Rattle.sts_code.specs.Program.{Program, routine, instr_at}

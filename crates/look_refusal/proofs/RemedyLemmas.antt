@@ -5,7 +5,7 @@ use Rattle.sts_code.specs.declared.instr.Instr.{Instr}
 use Rattle.sts_code.specs.declared.profile.Profile.{Profile}
 use Rattle.sts_rules.specs.declared.budget.Budgets.{Budgets}
 use Rattle.sts_rules.specs.declared.typing.Cause.{Cause}
-use Rattle.sts_rules.specs.declared.typing.Cause.TheVariants.{StackUnder, StackOver, FallsOff, BackJump, LoopMismatch, LoopDepth, StatesDiffer, DeadCode, SlotKind, SlotBusy, WrongThread, IllegalState, Structure, Nesting, Unbound, JoinEdges, TooManySteps, TooManyTasks, TooManyScopes, TooManyBinds}
+use Rattle.sts_rules.specs.declared.typing.Cause.TheVariants.{LoopMismatch, SlotKind, SlotBusy, IllegalState, Structure, Unbound, JoinEdges}
 use Rattle.sts_rules.specs.Budget.{Exceeds}
 use Rattle.sts_rules.specs.Edges.{typing}
 use Rattle.sts_rules.specs.Flow.{HasCause, dead, two, edge, turn}

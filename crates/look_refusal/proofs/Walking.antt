@@ -1,6 +1,5 @@
 -- Stretches that were walked back, in a row.
-use Rattle.std.proofs.Common.{◌≡◌, ◌≢◌, ℕ, zero, suc, ◌+◌, ◌-◌, ◌*◌, ◌<◌, ◌≤◌, List, [], ◌∷◌, length, get_or, set, Bool, true, false, ◌==◌, cond, refl, sym, subst, ap, ◌∙◌, arith, length-set, get_or-set_same, get_or-set_other}
-use Rattle.std.proofs.lemmas.Bool.{eqb-true, eqb-false}
+use Rattle.std.proofs.Common.{◌≡◌, ℕ, zero, suc, ◌+◌, ◌-◌, ◌*◌, ◌<◌, ◌≤◌, List, [], ◌∷◌, get_or, refl, sym, subst, ap, ◌∙◌, arith}
 use Rattle.sts_rules.specs.ControlPaths.{Skeleton, Loops, GoesTo, Repeats, Among, go, skip}
 use Rattle.sts_budget.specs.Sums.{Flows}
 use Rattle.look_refusal.specs.declared.search.Spot.{Spot}

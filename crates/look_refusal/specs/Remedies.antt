@@ -1,6 +1,6 @@
 -- What to do about each cause of a refusal. It depends on the instruction, and on what is known of
 -- the task there (this project's own).
-use Rattle.std.specs.Prelude.{◌≡◌, ℕ, List, [], ◌∷◌, Bool, Option, Some, None, is_some, is_none, not}
+use Rattle.std.specs.Prelude.{◌≡◌, ℕ, List, [], ◌∷◌, Bool, Option, Some, None, is_some}
 use Rattle.std.specs.Prelude.{if◌then◌else◌}
 use Rattle.sts_code.specs.Program.{Program, routine, instr_at}
 use Rattle.sts_code.specs.Facts.{can_fail, same}
@@ -17,7 +17,7 @@ use Rattle.sts_rules.specs.declared.typing.Cause.TheVariants as cause
 use Rattle.sts_rules.specs.declared.typing.SlotKind.{SlotKind}
 use Rattle.sts_rules.specs.declared.typing.SlotKind.TheVariants as kind
 use Rattle.sts_rules.specs.declared.typing.TypedEntry.{TypedEntry}
-use Rattle.sts_rules.specs.declared.typing.TypedEntry.TheVariants.{Scope, Binding}
+use Rattle.sts_rules.specs.declared.typing.TypedEntry.TheVariants.{Binding}
 use Rattle.sts_rules.specs.declared.typing.TypedPhase.{TypedPhase}
 use Rattle.sts_rules.specs.declared.typing.TypedPhase.TheVariants as phase
 use Rattle.sts_rules.specs.declared.typing.TypedScope.{TypedScope}

@@ -1,4 +1,4 @@
-use Rattle.std.proofs.Common.{◌≡◌, ◌<◌, ℕ, List, length, ap, sym, subst, arith}
+use Rattle.std.proofs.Common.{length, ap, sym, subst, arith}
 use Rattle.look_refusal.specs.declared.remedy.Remedy.{Remedy}
 use Rattle.look_refusal.specs.Remedies.{IsRemedy, typed}
 use Rattle.look_refusal.proofs.RemedyLemmas.{typed_place, same_remedy}

@@ -1,4 +1,4 @@
-use Rattle.std.proofs.Common.{◌≡◌, sym, ◌∙◌}
+use Rattle.std.proofs.Common.{sym, ◌∙◌}
 use Rattle.look_refusal.specs.Remedies.{fixed}
 use Rattle.look_refusal.proofs.remedy.remedy_for.Goals as goal
 

@@ -1,4 +1,4 @@
-use Rattle.std.proofs.Common.{◌≡◌, Some, None, sym, ap, ◌∙◌, arith}
+use Rattle.std.proofs.Common.{◌≡◌, Some, sym, ap, ◌∙◌}
 use Rattle.look_refusal.specs.Search.{paths}
 use Rattle.look_refusal.proofs.Leading.{turn_end}
 use Rattle.look_refusal.proofs.search.loop_to.Goals as goal

@@ -1,4 +1,4 @@
-use Rattle.std.proofs.Common.{◌≡◌, ◌+◌, ◌-◌, ◌<◌, ◌∷◌, sym, ap, ◌∙◌, subst, arith, get_or}
+use Rattle.std.proofs.Common.{◌≡◌, ◌+◌, ◌-◌, ◌<◌, sym, ap, ◌∙◌, subst, arith, get_or}
 use Rattle.std.specs.Prelude.{MatchOption}
 use Rattle.look_refusal.specs.Search.{flow}
 use Rattle.look_refusal.specs.Trail.{sum_in, looped, full_in, greatest_number}

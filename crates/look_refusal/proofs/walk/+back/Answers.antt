@@ -1,5 +1,5 @@
 use Rattle.std.proofs.Common.{◌≡◌, ◌+◌, ◌*◌, ◌<◌, ◌≤◌, true, false, Some, sym, ◌∙◌, refl, arith}
-use Rattle.look_refusal.specs.Search.{flow, ends_turn}
+use Rattle.look_refusal.specs.Search.{flow}
 use Rattle.look_refusal.specs.Trail.{best_in, sum_in, greatest_number}
 use Rattle.look_refusal.proofs.Backwards.{under_none, from_is, ends_turn_at, many_fit, loop_total, body_fits, head_fits, straight_fits, straight_step, loop_step, skip_step, begins}
 use Rattle.look_refusal.proofs.walk.+back.Goals as goal

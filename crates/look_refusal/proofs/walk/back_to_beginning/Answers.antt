@@ -1,4 +1,4 @@
-use Rattle.std.proofs.Common.{◌≡◌, ◌+◌, ◌<◌, ◌∷◌, refl, ap, ◌∙◌, arith}
+use Rattle.std.proofs.Common.{refl, ap, ◌∙◌, arith}
 use Rattle.sts_rules.specs.Around.{around}
 use Rattle.look_refusal.specs.declared.search.Spot.{Spot}
 use Rattle.look_refusal.specs.Search.{paths, flow}

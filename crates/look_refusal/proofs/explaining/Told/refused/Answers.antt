@@ -1,4 +1,4 @@
-use Rattle.std.proofs.Common.{◌≡◌, ℕ, List, ◌++◌, ◌∙◌, Option, ap, subst}
+use Rattle.std.proofs.Common.{ℕ, List, ◌++◌, ◌∙◌, Option, ap, subst}
 use Rattle.std.specs.Option.{option_copied}
 use Rattle.sts_asm.specs.Outline.{Sentence}
 use Rattle.look_refusal.specs.Lines.{refused_lines}
