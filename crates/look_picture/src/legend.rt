@@ -2,13 +2,16 @@
 
 ghost use Rattle.std.specs.Prelude.{◌≡◌, ◌≤◌, ◌++◌, IfOk, OnOk, length};
 ghost use Rattle.std.specs.String.{string_bytes};
+ghost use Rattle.sts_code.specs.declared.limits.TheConstants.{MAX_BIRTHS};
 ghost use Rattle.look_picture.specs.Legend as def;
+ghost use Rattle.look_picture.specs.Picture as frame;
 
 use crate::marks::Mark;
-use crate::place::{key_x, key_y};
+use crate::place::{key_x, key_y, lane};
 use crate::writing::{mark_at, text_at};
 use memchr::memmem;
 use std::alloc::{AllocError, Global};
+use std::fmt::Write;
 
 /// The most keys that a legend has: one for each mark.
 pub const MOST_KEYS: usize = 17;
@@ -96,11 +99,7 @@ fn key(out: &mut String, n: usize, mark: Mark) -> Result<(), AllocError>
 }
 
 /// The keys of these marks.
-///
-/// # Errors
-///
-/// Memory ran out; `out` may then have a part of it.
-pub fn legend(out: &mut String, keys: &[Mark]) -> Result<(), AllocError>
+fn legend(out: &mut String, keys: &[Mark]) -> Result<(), AllocError>
     requires { length keys.now ≤ MOST_KEYS }
     ensures { OnOk result (string_bytes out.new ≡ string_bytes out.old ++ def.legend keys.now) }
 {
@@ -108,4 +107,33 @@ pub fn legend(out: &mut String, keys: &[Mark]) -> Result<(), AllocError>
         key(out, i, keys[i])?;
     }
     Ok(())
+}
+
+/// The group of the legend begins, from this height on.
+fn foot_start(out: &mut String, y: u64) -> Result<(), AllocError>
+    ensures { OnOk result (string_bytes out.new ≡ string_bytes out.old ++ frame.foot_start y) }
+{
+    writeln!(out, "<g transform='translate(12 {y})'>")
+}
+
+fn foot_end(out: &mut String) -> Result<(), AllocError>
+    ensures { OnOk result (string_bytes out.new ≡ string_bytes out.old ++ frame.foot_end) }
+{
+    out.push_str("</g>\n</svg>\n")
+}
+
+/// The legend under the lanes.
+///
+/// # Errors
+///
+/// Memory ran out; `out` may then have a part of it.
+pub fn foot(out: &mut String, tasks: usize, keys: &[Mark]) -> Result<(), AllocError>
+    requires tasks { tasks ≤ MAX_BIRTHS }
+    requires few { length keys.now ≤ MOST_KEYS }
+    ensures { OnOk result (string_bytes out.new
+        ≡ string_bytes out.old ++ frame.foot tasks keys.now) }
+{
+    foot_start(out, lane(tasks as u32))?;
+    legend(out, keys)?;
+    foot_end(out)
 }

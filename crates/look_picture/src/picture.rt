@@ -15,7 +15,7 @@ ghost use Rattle.look_picture.specs.declared.legend.TheConstants.{MOST_KEYS};
 use crate::brackets::scope_cells;
 use crate::change::Change;
 use crate::lanes::{lane_names, task_cells};
-use crate::legend::{keys, legend};
+use crate::legend::{foot, keys};
 use crate::marks::Mark;
 use crate::numbers::event_number;
 use crate::place::{column, columns_width, height, lane, width};
@@ -582,31 +582,6 @@ fn backdrop(
     text_at(out, "heading", 12, 22, heading)
 }
 
-/// The group of the legend begins, from this height on.
-fn foot_start(out: &mut String, y: u64) -> Result<(), AllocError>
-    ensures { OnOk result (string_bytes out.new ≡ string_bytes out.old ++ def.foot_start y) }
-{
-    writeln!(out, "<g transform='translate(12 {y})'>")
-}
-
-fn foot_end(out: &mut String) -> Result<(), AllocError>
-    ensures { OnOk result (string_bytes out.new ≡ string_bytes out.old ++ def.foot_end) }
-{
-    out.push_str("</g>\n</svg>\n")
-}
-
-/// The legend under the lanes.
-fn foot(out: &mut String, tasks: usize, keys: &[Mark]) -> Result<(), AllocError>
-    requires tasks { tasks ≤ MAX_BIRTHS }
-    requires few { length keys.now ≤ MOST_KEYS }
-    ensures { OnOk result (string_bytes out.new
-        ≡ string_bytes out.old ++ def.foot tasks keys.now) }
-{
-    foot_start(out, lane(tasks as u32))?;
-    legend(out, keys)?;
-    foot_end(out)
-}
-
 /// The names of the lanes, and the legend.
 fn below(
     alloc: Global,
@@ -644,8 +619,8 @@ fn framed_under(
 ) -> Result<(), AllocError>
     requires { length keys.now ≤ MOST_KEYS }
     ensures { OnOk result (string_bytes out.new ≡ string_bytes out.old
-        ++ def.framed_under heading.now sheet.entry.names.now sheet.entry.story.now sheet.entry.brief
-        sheet.entry.count sheet.entry.columns.now keys.now) }
+        ++ def.framed_under heading.now sheet.entry.names.now sheet.entry.story.now
+        sheet.entry.brief sheet.entry.count sheet.entry.columns.now keys.now) }
 {
     let watch = sheet.story.watch();
     head(out, heading, watch, sheet.brief, sheet.count, keys.len())?;
