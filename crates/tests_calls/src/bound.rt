@@ -4,7 +4,6 @@ ghost use Rattle.std.specs.Prelude.{◌≡◌, ◌∷◌, [], pos, replicate};
 ghost use Rattle.sts_model.specs.declared.record.Slot.TheVariants.{Empty};
 
 use crate::rows::compare;
-use std::process::Abort;
 use std::test::Fail;
 use sts_model::{Entries, Entry, Frame, KeptSlot, Slot, Stack};
 use sts_store::{Room, Store};
