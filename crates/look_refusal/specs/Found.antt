@@ -1,4 +1,4 @@
--- The result of a search, and of a walk back from a place (this project's own).
+-- What a search finds, and a walk back from a place (this project's own).
 use Rattle.std.specs.Prelude.{◌≡◌, ℕ, ◌+◌, ◌<◌, ◌⊎◌, List, length, get_or, true}
 use Rattle.sts_code.specs.declared.instr.Instr.{Instr}
 use Rattle.sts_code.specs.Program.{instr_at}

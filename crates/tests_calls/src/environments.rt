@@ -5,13 +5,10 @@ ghost use Rattle.std.specs.Prelude.{◌≡◌};
 use crate::rows::compare;
 use sts_env::{Chains, Env};
 
-/// What is found of the environments:
-///
-/// - the room at first, when three are bound, after one binding ended, and at last;
-/// - what is read while there is no room: the innermost binding, a key that isn't bound here, a value
-///   that is taken over, the own one;
-/// - what is read at last: the last one was bound before;
-/// - whether the key came back.
+/// The answers of the environments. First comes the room: when nothing is bound, when three are, after
+/// one binding ended, and at the end. Then come four reads while there is no room. They ask for the
+/// innermost binding, a key that isn't bound, a value that is inherited, and an own one. Three reads
+/// follow at the end; the last of these bindings is an older one. Did the key come back?
 type Found = ([u32; 4], [Option<i64>; 4], [Option<i64>; 3], bool);
 
 /// Makes environments that share a tail, where three bindings have room.
