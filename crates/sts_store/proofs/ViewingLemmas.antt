@@ -42,7 +42,6 @@ zero_more n = omega arith
 from_zero : (n : ℕ) → 0 + n ≡ n
 from_zero n = omega arith
 
-
 either : (a b c d : Bool) → (a || b || c || d) ≡ ((a || b) || c || d)
 either true b c d = refl
 either false true c d = refl
