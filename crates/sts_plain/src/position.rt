@@ -49,7 +49,7 @@ fn misuse_at(world: &World, program: &Program, t: u32, stand: Stand) -> Option<F
     }
 }
 
-/// Takes a step of a task that can step and stands there. Answers the fault, if the step is one.
+/// Takes a step of a task that can step and is at `stand`. Answers the fault, if the step is one.
 fn step(
     world: &mut World,
     alloc: Global,

@@ -60,7 +60,7 @@ fn can_go(world: &World, t: u32, stand: Stand) -> bool
     }
 }
 
-/// Where a task stands that can step, or `None` if it can't.
+/// Returns what a task is at, or `None` if it can't step.
 #[inline(always)]
 pub(crate) fn step_stand(world: &World, program: &Program, t: u32) -> Option<Stand>
     ensures can { is_some result ≡ waiting.can_step program.now world.now t }

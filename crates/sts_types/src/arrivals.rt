@@ -103,7 +103,8 @@ fn near(marks: &Vec<Arrival<Mark>>, place: usize, like: u32) -> u32
     }
 }
 
-/// Keeps a typestate at the end. It is written where it is kept, so it isn't moved.
+/// Keeps a typestate at the end. It is written where it is kept, so it isn't moved. A function has
+/// 4,096 places, so there are never 2^32 of them.
 #[inline(never)]
 fn keep_new(kept: &mut Vec<TypeState>, state: &TypeState) -> Result<u32, AllocError>
     ensures like { IfOk result (λ at. (at < length kept.new.items) ×
