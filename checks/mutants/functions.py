@@ -12,10 +12,10 @@ FUNCTION = re.compile(r"^( *)(?:pub(?:\(\w+\))? )?(?:const |unsafe )*fn (\w+)")
 IMPL = re.compile(r"^impl(?:<[^{]*?>)? (?:(?:\w+::)*(?P<trait>\w+)(?:<[^{]*>)? for )?(?P<type>\w+)(?:<[^{]*>)? \{")
 TYPE = re.compile(r"^(?:pub(?:\(\w+\))? )?(?:struct|enum) (\w+)", re.M)
 PROOFS = ("Answers.antt", "Invariants.antt")
-HOLE = """use Rattle.{path}.Statement as stated
+# (a hole in place of this would have the prover print the whole statement as a goal)
+TAKEN = """use Rattle.{path}.Statement as stated
 
-pub {name}_spec : {{M : Type 1}} → stated.statement M
-{name}_spec = ?
+axiom pub {name}_spec : {{M : Type 1}} → stated.statement M
 """
 
 
@@ -71,14 +71,14 @@ def homes_of(texts):
     return {name: module for name, module in found.items() if module is not None}
 
 
-def leave_open(room, crate, path):
-    """Puts a hole in the place of a function's proof."""
+def take_for_proved(room, crate, path):
+    """Puts an axiom in the place of a function's proof. The prover then says that the function isn't proved."""
     folder = f"{room}/proofs/{'/'.join(path)}"
     os.makedirs(folder, exist_ok=True)
     for it in filter(os.path.exists, (f"{folder}/{it}" for it in PROOFS)):
         os.remove(it)
     with open(f"{folder}/Proof.antt", "w", encoding="utf-8") as proof:
-        proof.write(HOLE.format(path=".".join([crate, "proofs", *path]), name=path[-1]))
+        proof.write(TAKEN.format(path=".".join([crate, "proofs", *path]), name=path[-1]))
 
 
 def without_body(lines, last):
@@ -103,6 +103,6 @@ def cut(room, crate, kept):
             path = [*homes.get(owner, []), owner, *names] if owner[0].isupper() else [owner, *names]
             is_known = owner in homes or not owner[0].isupper()
             if name not in kept and is_known and without_body(lines, last):
-                leave_open(room, crate, path)
+                take_for_proved(room, crate, path)
         with open(f"{room}/{file}", "w", encoding="utf-8") as to:
             to.write("\n".join(lines))

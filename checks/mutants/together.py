@@ -22,11 +22,11 @@ TOLD = re.compile(r"^(?P<note>note: )?(?:\./)?(?P<path>(?:src|proofs)/\S+?):(?P<
 # What the prover says of a proof file that names what an edit took away.
 NAMES = re.compile(r"has no field|is not in scope|has no `|was not admitted")
 NO_NAME = re.compile(r"rattle: error: .*`([\w:]+)`: help: write the name")
-ENDED = re.compile(r"only=\d+ (?:holes|proved)=\d+")
+ENDED = re.compile(r"only=\d+ proved=\d+")
 ERROR = re.compile(r"\berror\[[\w-]+\]")
-# What the prover's line of a function says of it, where other functions were cut out.
+# What the prover's line of a function says of it. If nothing else is wrong, it isn't proved since it calls what was cut out.
 OPEN = r"not proved|no proof"
-CLOSED = r"proved|no holes|depends on a hole in"
+CLOSED = r"proved|not proved; it calls"
 
 # An edit: its name, its changes (a file, an old text and a new one), and the names of the functions with these texts.
 Edit = collections.namedtuple("Edit", "name changes functions")
@@ -97,7 +97,7 @@ def checked(crate, changes, functions, words):
                 to.write(text)
         if functions:
             cut(room, crate.name, functions)
-            words = ["--allow-holes", *(word for it in sorted(functions) for word in ("--only", it)), *words]
+            words = [*(word for it in sorted(functions) for word in ("--only", it)), *words]
         how = {"cwd": room, "stdin": subprocess.DEVNULL, "stdout": subprocess.PIPE, "stderr": subprocess.STDOUT}
         with open(os.devnull, "w", encoding="utf-8") as crate.out:
             words = kit.checking(crate, words)
@@ -122,6 +122,19 @@ def is_of_a_name(match):
     return match["path"].startswith("proofs/") and NAMES.search(match["said"]) is not None
 
 
+def has_ended(lines):
+    """Returns whether a check of functions came to its end, and refused nothing before the proofs."""
+    return bool(lines) and bool(ENDED.match(lines[-1])) and not any(ERROR.search(it) for it in lines)
+
+
+def function_of(match, texts):
+    """Returns the end of the name of the function that the prover says something of, or none."""
+    path = match["path"]
+    if path.startswith("src/"):
+        return function_at(path, texts(path), int(match["line"]))
+    return "::".join(path.removeprefix("proofs/").split("/")[:-1])
+
+
 def said_of(crate, edits, kept):
     """Checks edits in one copy. Returns for each edit of which something was said whether it was refused, and the prover's line."""
     functions = set().union(*(it.functions for it in edits))
@@ -130,18 +143,14 @@ def said_of(crate, edits, kept):
     if nameless and (rest := [it for it in edits if nameless[1] not in it.functions]):
         # (a name that the prover has otherwise, or twice)
         return said_of(crate, rest, kept) if len(rest) < len(edits) else {}
-    if not lines or not ENDED.match(lines[-1]) or any(ERROR.search(it) for it in lines):
+    if not has_ended(lines):
         print(f"{crate.name}: {', '.join(it.name for it in edits)}: {lines[-1][:200] if lines else 'nothing was said'}", flush=True)
         return {}
     unproved, found = {it for it in functions if comes_to(lines, it, OPEN)}, {}
     for match in reasons(lines):
-        path = match["path"]
-        if path.startswith("src/"):
-            function = function_at(path, texts(path), int(match["line"]))
-        else:
-            function = "::".join(path.removeprefix("proofs/").split("/")[:-1])
+        function = f"::{function_of(match, texts)}"
         for edit in edits:
-            if any(f"::{function}".endswith(f"::{it}") for it in edit.functions & unproved) and not found.get(edit.name, (False,))[0]:
+            if any(function.endswith(f"::{it}") for it in edit.functions & unproved) and not found.get(edit.name, (False,))[0]:
                 found[edit.name] = not is_of_a_name(match), match[0]
     return found
 
@@ -162,6 +171,9 @@ def tried(crate, edits):
 
 
 def unproved(crate, functions):
-    """Checks functions of a crate as they are, while the others are cut out. Returns those that aren't proved so."""
-    _, lines, _ = checked(crate, [], functions, [])
-    return {it for it in functions if not comes_to(lines, it, CLOSED)}
+    """Checks functions of a crate as they are, while the others are cut out. Returns those of which the prover says more than that
+    they call what was cut out."""
+    _, lines, texts = checked(crate, [], functions, [])
+    refused = {f"::{function_of(it, texts)}" for it in reasons(lines)}
+    is_proved = lambda it: comes_to(lines, it, CLOSED) and not any(other.endswith(f"::{it}") for other in refused)
+    return {it for it in functions if not has_ended(lines) or not is_proved(it)}
