@@ -24,9 +24,10 @@ NAMES = re.compile(r"has no field|is not in scope|has no `|was not admitted")
 NO_NAME = re.compile(r"rattle: error: .*`([\w:]+)`: help: write the name")
 ENDED = re.compile(r"only=\d+ proved=\d+")
 ERROR = re.compile(r"\berror\[[\w-]+\]")
-# What the prover's line of a function says of it. If nothing else is wrong, it isn't proved since it calls what was cut out.
+# What the prover's line of a function says of it. A function isn't proved either if it, or one beside it, rests on what was cut out.
+# Then the prover says no reason at a place of it.
 OPEN = r"not proved|no proof"
-CLOSED = r"proved|not proved; it calls"
+CLOSED = r"proved|not proved"
 
 # An edit: its name, its changes (a file, an old text and a new one), and the names of the functions with these texts.
 Edit = collections.namedtuple("Edit", "name changes functions")
@@ -171,8 +172,8 @@ def tried(crate, edits):
 
 
 def unproved(crate, functions):
-    """Checks functions of a crate as they are, while the others are cut out. Returns those of which the prover says more than that
-    they call what was cut out."""
+    """Checks functions of a crate as they are, while the others are cut out. Returns those that aren't proved for another reason than
+    what was cut out."""
     _, lines, texts = checked(crate, [], functions, [])
     refused = {f"::{function_of(it, texts)}" for it in reasons(lines)}
     is_proved = lambda it: comes_to(lines, it, CLOSED) and not any(other.endswith(f"::{it}") for other in refused)
