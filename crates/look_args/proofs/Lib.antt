@@ -1,1 +1,2 @@
+mod Adding
 pub mod Refusing

@@ -1,10 +1,11 @@
 //! The commands that the program knows, as `clap` gets them.
 
 ghost use Rattle.std.specs.Prelude.{◌≡◌, IfOk, false};
-ghost use Rattle.clap.specs.Words.{App, Rule, app_of, new_app, new_rule, rule_of, with_rule};
-ghost use Rattle.sts_args.specs.Command.{file_rule, option_rule, trace_rule};
+ghost use Rattle.clap.specs.Words.{App, app_of, new_app, new_rule, rule_of};
+ghost use Rattle.clap.specs.declared.builder.Command.TheViews.{out-Command};
+ghost use Rattle.sts_args.specs.Command.{file_rule, option_rule};
 ghost use Rattle.look_args.specs.Command as def;
-ghost use Rattle.look_args.specs.Command.{IsMade, flag_rule};
+ghost use Rattle.look_args.specs.Command.{IsMade};
 
 use clap::{Arg, ArgAction, Command};
 use std::alloc::{AllocError, Global};
@@ -18,120 +19,98 @@ const VERSION: &str = "1.0.0\n\
 /// What help calls the two values of `--trace`.
 const TRACE_VALUES: &[&str] = &["K", "TRACE"];
 
-/// An option that takes no value.
-fn flag_arg<'a>(alloc: Global, name: &'a str, help: &'a str) -> Arg<'a>
-    ensures rule { rule_of result ≡ flag_rule name.entry.now }
-    ensures local { result.global ≡ false }
-{
-    Arg::new(alloc, name)
-        .long(name)
-        .action(ArgAction::SetTrue)
-        .help(help)
+/// An argument of a command: its name, if it may have any, and what help says of it at the end.
+#[derive(Clone, Copy)]
+enum Argument<'a> {
+    /// The file that has to be given.
+    File(&'a str),
+    /// A word that may be left out, in its place among the words.
+    Word(&'a str, &'a str),
+    /// An option that takes no value.
+    Flag(&'a str, &'a str),
+    /// An option that takes one value, which help calls by the text in the middle.
+    Valued(&'a str, &'a str, &'a str),
+    /// The option that keeps the trace of an end.
+    Kept(&'a str),
 }
 
-/// An option that takes one value.
-fn option_arg<'a>(alloc: Global, name: &'a str, value: &'a str, help: &'a str) -> Arg<'a>
-    ensures rule { rule_of result ≡ option_rule name.entry.now }
-    ensures local { result.global ≡ false }
-{
-    Arg::new(alloc, name)
-        .long(name)
-        .value_name(value)
-        .help(help)
-}
-
-/// A word that may be left out, in its place among the words.
-fn maybe_arg<'a>(alloc: Global, name: &'a str, help: &'a str) -> Arg<'a>
+fn plain_arg<'a>(alloc: Global, name: &'a str, help: &'a str) -> Arg<'a>
     ensures rule { rule_of result ≡ new_rule name.entry.now }
     ensures local { result.global ≡ false }
 {
     Arg::new(alloc, name).help(help)
 }
 
-/// The option that keeps the trace of an end.
-fn kept_arg<'a>(alloc: Global) -> Arg<'a>
-    ensures rule { rule_of result ≡ def.kept_rule }
-    ensures local { result.global ≡ false }
-{
-    Arg::new(alloc, "trace")
-        .long("trace")
-        .value_names(TRACE_VALUES)
-        .help("writes the trace of the end with number K to the file TRACE; `-` is standard output")
-}
-
-/// The file of cases.
-fn cases_arg<'a>(alloc: Global) -> Arg<'a>
+fn file_arg<'a>(alloc: Global, help: &'a str) -> Arg<'a>
     ensures rule { rule_of result ≡ file_rule }
     ensures local { result.global ≡ false }
 {
-    Arg::new(alloc, "FILE")
-        .required(true)
-        .help("cases, each a line of JSON with a text and maybe a trace")
+    plain_arg(alloc, "FILE", help).required(true)
 }
 
-/// A command, as far as it is made.
-#[derive(Drop)]
-struct Making<'a> {
+fn long_arg<'a>(alloc: Global, name: &'a str, help: &'a str) -> Arg<'a>
+    ensures rule { rule_of result ≡ def.long_rule name.entry.now }
+    ensures local { result.global ≡ false }
+{
+    plain_arg(alloc, name, help).long(name)
+}
+
+fn flag_arg<'a>(alloc: Global, name: &'a str, help: &'a str) -> Arg<'a>
+    ensures rule { rule_of result ≡ def.flag_rule name.entry.now }
+    ensures local { result.global ≡ false }
+{
+    long_arg(alloc, name, help).action(ArgAction::SetTrue)
+}
+
+fn valued_arg<'a>(alloc: Global, name: &'a str, value: &'a str, help: &'a str) -> Arg<'a>
+    ensures rule { rule_of result ≡ option_rule name.entry.now }
+    ensures local { result.global ≡ false }
+{
+    long_arg(alloc, name, help).value_name(value)
+}
+
+fn kept_arg<'a>(alloc: Global, help: &'a str) -> Arg<'a>
+    ensures rule { rule_of result ≡ def.kept_rule }
+    ensures local { result.global ≡ false }
+{
+    long_arg(alloc, "trace", help).value_names(TRACE_VALUES)
+}
+
+fn arg_of<'a>(alloc: Global, argument: Argument<'a>) -> Arg<'a>
+    ensures rule { rule_of result ≡ def.argument_rule argument.entry }
+    ensures local { result.global ≡ false }
+{
+    match argument {
+        Argument::File(help) => file_arg(alloc, help),
+        Argument::Word(name, help) => plain_arg(alloc, name, help),
+        Argument::Flag(name, help) => flag_arg(alloc, name, help),
+        Argument::Valued(name, value, help) => valued_arg(alloc, name, value, help),
+        Argument::Kept(help) => kept_arg(alloc, help),
+    }
+}
+
+/// Adds arguments, if the command was made.
+fn with_arguments<'a>(
     alloc: Global,
     command: Result<Command<'a>, AllocError>,
+    arguments: &[Argument<'a>],
+) -> Result<Command<'a>, AllocError>
+    ensures { (a : App) → IsMade a command.entry
+        → IsMade (def.with_arguments a arguments.now) result }
+{
+    let mut made = command;
+    for argument in arguments {
+        made = with_argument(made, arg_of(alloc, *argument));
+    }
+    made
 }
 
-impl<'a> Making<'a> {
-    /// A command on a text file.
-    fn on_file(alloc: Global, name: &'a str, about: &'a str) -> Making<'a>
-        ensures { IsMade (with_rule (new_app name.entry.now) file_rule) result.command }
-    {
-        Making {
-            alloc,
-            command: on_file(alloc, name, about),
-        }
-    }
-
-    /// A command on a text file and a trace.
-    fn on_trace(alloc: Global, name: &'a str, about: &'a str) -> Making<'a>
-        ensures { IsMade (with_rule (with_rule (new_app name.entry.now) file_rule) trace_rule)
-            result.command }
-    {
-        Making {
-            alloc,
-            command: on_trace(alloc, name, about),
-        }
-    }
-
-    fn with(self, argument: Arg<'a>) -> Making<'a>
-        ensures { (a : App) → (r : Rule) → IsMade a self.entry.command
-            → rule_of argument.entry ≡ r → argument.entry.global ≡ false
-            → IsMade (with_rule a r) result.command }
-    {
-        Making {
-            alloc: self.alloc,
-            command: with_argument(self.command, argument),
-        }
-    }
-
-    fn flag(self, name: &'a str, help: &'a str) -> Making<'a>
-        ensures { (a : App) → IsMade a self.entry.command
-            → IsMade (with_rule a (flag_rule name.entry.now)) result.command }
-    {
-        let argument = flag_arg(self.alloc, name, help);
-        self.with(argument)
-    }
-
-    fn option(self, name: &'a str, value: &'a str, help: &'a str) -> Making<'a>
-        ensures { (a : App) → IsMade a self.entry.command
-            → IsMade (with_rule a (option_rule name.entry.now)) result.command }
-    {
-        let argument = option_arg(self.alloc, name, value, help);
-        self.with(argument)
-    }
-
-    fn maybe(self, name: &'a str, help: &'a str) -> Making<'a>
-        ensures { (a : App) → IsMade a self.entry.command
-            → IsMade (with_rule a (new_rule name.entry.now)) result.command }
-    {
-        let argument = maybe_arg(self.alloc, name, help);
-        self.with(argument)
-    }
+/// A command that has nothing yet but what help says of it.
+fn named<'a>(alloc: Global, name: &'a str, about: &'a str) -> Command<'a>
+    ensures app { app_of result ≡ new_app name.entry.now }
+    ensures local { (out-Command result).has_globals ≡ false }
+{
+    Command::new(alloc, name).about(about)
 }
 
 /// The command `view`.
@@ -139,18 +118,22 @@ fn view<'a>(alloc: Global) -> Result<Command<'a>, AllocError>
     ensures { IsMade def.view result }
 {
     let about = "Prints the state of every task and scope after a trace, or just before a fault";
-    Making::on_trace(alloc, "view", about)
-        .flag("each", "also before the first event and after each one")
-        .flag(
-            "full",
-            "also the operands, locals and bindings of living tasks, and the ends that joiners got",
-        )
-        .flag(
-            "living",
-            "only the tasks that live and the open scopes, and how many others there are",
-        )
-        .flag("json", "as lines of JSON, one for each view")
-        .command
+    with_arguments(
+        alloc,
+        on_trace(alloc, "view", about),
+        &[
+            Argument::Flag("each", "also before the first event and after each one"),
+            Argument::Flag(
+                "full",
+                "also the operands, locals and bindings of living tasks, and the ends that joiners got",
+            ),
+            Argument::Flag(
+                "living",
+                "only the tasks that live and the open scopes, and how many others there are",
+            ),
+            Argument::Flag("json", "as lines of JSON, one for each view"),
+        ],
+    )
 }
 
 /// The command `explain`.
@@ -159,14 +142,18 @@ fn explain<'a>(alloc: Global) -> Result<Command<'a>, AllocError>
 {
     let about =
         "Says what is wrong with a text, with line numbers; with a trace, where each task is";
-    Making::on_file(alloc, "explain", about)
-        .maybe("TRACE", "a trace to run first")
-        .flag(
-            "lines",
-            "as lines FILE:LINE:COLUMN: WORDS, which editors jump by; without a trace",
-        )
-        .flag("json", "as lines of JSON; without a trace")
-        .command
+    with_arguments(
+        alloc,
+        on_file(alloc, "explain", about),
+        &[
+            Argument::Word("TRACE", "a trace to run first"),
+            Argument::Flag(
+                "lines",
+                "as lines FILE:LINE:COLUMN: WORDS, which editors jump by; without a trace",
+            ),
+            Argument::Flag("json", "as lines of JSON; without a trace"),
+        ],
+    )
 }
 
 /// The command `draw`.
@@ -175,14 +162,18 @@ fn draw<'a>(alloc: Global) -> Result<Command<'a>, AllocError>
 {
     let about =
         "Prints the run of a trace as an SVG picture, a lane for each task, a column for each event";
-    Making::on_trace(alloc, "draw", about)
-        .option(
-            "events",
-            "A..B",
-            "draws the events from line A to line B of the trace (the last 2000)",
-        )
-        .flag("brief", "a column only for each event that `tell` lists")
-        .command
+    with_arguments(
+        alloc,
+        on_trace(alloc, "draw", about),
+        &[
+            Argument::Valued(
+                "events",
+                "A..B",
+                "draws the events from line A to line B of the trace (the last 2000)",
+            ),
+            Argument::Flag("brief", "a column only for each event that `tell` lists"),
+        ],
+    )
 }
 
 /// The command `tell`.
@@ -191,77 +182,95 @@ fn tell<'a>(alloc: Global) -> Result<Command<'a>, AllocError>
 {
     let about =
         "Tells the run of a trace: a line for each event, with the line of the text and what it did";
-    Making::on_trace(alloc, "tell", about)
-        .maybe("FROM", "the first event that is told (1)")
-        .maybe("TO", "the last event that is told; the run ends there")
-        .flag("each", "also the steps that no other task can notice")
-        .flag(
-            "strict",
-            "stops at the first event that does nothing, with status 5, and ends with the end of each task",
-        )
-        .flag("json", "as lines of JSON, one for each line")
-        .command
+    with_arguments(
+        alloc,
+        on_trace(alloc, "tell", about),
+        &[
+            Argument::Word("FROM", "the first event that is told (1)"),
+            Argument::Word("TO", "the last event that is told; the run ends there"),
+            Argument::Flag("each", "also the steps that no other task can notice"),
+            Argument::Flag(
+                "strict",
+                "stops at the first event that does nothing, with status 5, and ends with the end of each task",
+            ),
+            Argument::Flag("json", "as lines of JSON, one for each line"),
+        ],
+    )
 }
 
 /// The command `ends` with the options that say which events may come, and when a search stops.
-fn ends_by_limits<'a>(alloc: Global) -> Making<'a>
-    ensures { IsMade def.ends_by_limits result.command }
+fn ends_by_limits<'a>(alloc: Global) -> Result<Command<'a>, AllocError>
+    ensures { IsMade def.ends_by_limits result }
 {
     let about =
         "Finds every end that a program can come to, over all schedules, with a trace for each";
-    Making::on_file(alloc, "ends", about)
-        .flag(
-            "no-expiries",
-            "no scope expires; else a scope with a timeout may expire at any time",
-        )
-        .option(
-            "interrupts",
-            "N",
-            "up to N interrupts from outside, of any living task (0)",
-        )
-        .option(
-            "most",
-            "N",
-            "stops when it has N states (1000000, or fewer if a search by calls has the ends)",
-        )
-        .option(
-            "seconds",
-            "N",
-            "stops after N seconds, and keeps what it found",
-        )
+    with_arguments(
+        alloc,
+        on_file(alloc, "ends", about),
+        &[
+            Argument::Flag(
+                "no-expiries",
+                "no scope expires; else a scope with a timeout may expire at any time",
+            ),
+            Argument::Valued(
+                "interrupts",
+                "N",
+                "up to N interrupts from outside, of any living task (0)",
+            ),
+            Argument::Valued(
+                "most",
+                "N",
+                "stops when it has N states (1000000, or fewer if a search by calls has the ends)",
+            ),
+            Argument::Valued(
+                "seconds",
+                "N",
+                "stops after N seconds, and keeps what it found",
+            ),
+        ],
+    )
 }
 
 /// The command `ends`.
 fn ends<'a>(alloc: Global) -> Result<Command<'a>, AllocError>
     ensures { IsMade def.ends result }
 {
-    ends_by_limits(alloc)
-        .flag(
-            "calls",
-            "what each call can come to, heard by its joiner or not",
-        )
-        .option("sample", "N", "tries N random schedules, not all")
-        .option("seed", "S", "a number that fixes the random schedules (1)")
-        .with(kept_arg(alloc))
-        .flag("json", "as lines of JSON, one for each end and one more")
-        .command
+    with_arguments(
+        alloc,
+        ends_by_limits(alloc),
+        &[
+            Argument::Flag(
+                "calls",
+                "what each call can come to, heard by its joiner or not",
+            ),
+            Argument::Valued("sample", "N", "tries N random schedules, not all"),
+            Argument::Valued("seed", "S", "a number that fixes the random schedules (1)"),
+            Argument::Kept(
+                "writes the trace of the end with number K to the file TRACE; `-` is standard output",
+            ),
+            Argument::Flag("json", "as lines of JSON, one for each end and one more"),
+        ],
+    )
 }
 
 /// The command `cases`.
 fn cases<'a>(alloc: Global) -> Result<Command<'a>, AllocError>
     ensures { IsMade def.cases result }
 {
-    Command::new(alloc, "cases")
-        .about("Answers many cases: for each line of JSON with a text and a trace, a line of JSON")
-        .arg(cases_arg(alloc))
+    let about = "Answers many cases: for each line of JSON with a text and a trace, a line of JSON";
+    with_arguments(
+        alloc,
+        Ok(named(alloc, "cases", about)),
+        &[Argument::File("cases, each a line of JSON with a text and maybe a trace")],
+    )
 }
 
 /// The program with no command yet.
 fn bare<'a>(alloc: Global) -> Command<'a>
     ensures { app_of result ≡ def.bare }
 {
-    Command::new(alloc, "look")
-        .about("Shows runs of structured task scopes, and every end of a program")
+    let about = "Shows runs of structured task scopes, and every end of a program";
+    named(alloc, "look", about)
         .version(VERSION)
         .subcommand_required(true)
 }

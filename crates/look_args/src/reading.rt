@@ -1,11 +1,12 @@
 //! Reads a command line.
 
-ghost use Rattle.std.specs.Prelude.{◌≡◌, IfOk, IfErr, map, option_map, Some, Bool, false, is_some, codes};
+ghost use Rattle.std.specs.Prelude.{◌≡◌, IfOk, IfErr, IfSome, map, option_map, Some, None, Bool, false};
+ghost use Rattle.std.specs.Prelude.{is_some, codes};
 ghost use Rattle.clap.specs.Words.{all_of, first_of, rows_of, found_of, kind_of, subcommand_rows_of};
 ghost use Rattle.clap.specs.declared.error.kind.ErrorKind.TheVariants as kind;
 ghost use Rattle.sts_args.specs.Refused.{BlamesUnless};
 ghost use Rattle.look_args.specs.Asked.{Asks, IsGiven, IsLineOf, Refuses, TellsKind, is_set, is_whole};
-ghost use Rattle.look_args.specs.Asked.{form_by, view_at, wanted_at};
+ghost use Rattle.look_args.specs.Asked.{form_by, is_explain, takes_one, view_at, wanted_at};
 ghost use Rattle.look_args.specs.AskedDraw.{draw_at, window_at};
 ghost use Rattle.look_args.specs.AskedEnds.{calls_at, calls_or_manner_at, is_beside_calls};
 ghost use Rattle.look_args.specs.AskedEnds.{ends_at, ends_wanted_at, kept_of, kept_words, manner_at};
@@ -21,7 +22,7 @@ use clap::error::ErrorKind;
 use clap::{ArgMatches, Error};
 use look_options::{DrawOptions, EndsOptions, Limits, Manner, TellOptions, ViewOptions, Window};
 use std::alloc::{AllocError, Global};
-use sts_args::{LineError, text_of, told, trace_of, unknown};
+use sts_args::{LineError, text_of, told, unknown};
 use sts_text::digits_up_to;
 
 /// The error for an option whose value is no number.
@@ -95,6 +96,7 @@ fn chosen<'a>(alloc: Global, matches: &ArgMatches<'a>) -> Result<Asked<'a>, Line
     }
 }
 
+/// The request of a command of this name.
 fn asked_of<'a>(
     alloc: Global,
     name: &'a str,
@@ -104,42 +106,71 @@ fn asked_of<'a>(
     ensures lacks { IfErr result (BlamesUnless
         (is_whole (Some (name.now, rows_of (found_of inner.now))))) }
 {
-    match text_of(inner, "FILE") {
-        None => Err(unknown(alloc)),
-        Some(file) => {
-            if name == "view" {
-                let trace = trace_of(alloc, inner)?;
-                let view = view_of(inner);
-                Ok(Asked::View { file, trace, view })
-            } else if name == "explain" {
-                let trace = text_of(inner, "TRACE");
-                match asked_form(inner, trace) {
-                    Some(form) => Ok(Asked::Explain { file, trace, form }),
-                    None => Err(usage(alloc, NO_TRACE)),
-                }
-            } else if name == "draw" {
-                let trace = trace_of(alloc, inner)?;
-                match asked_draw(inner) {
-                    Some(draw) => Ok(Asked::Draw { file, trace, draw }),
-                    None => Err(usage(alloc, NO_WINDOW)),
-                }
-            } else if name == "tell" {
-                let trace = trace_of(alloc, inner)?;
-                match asked_tell(inner) {
-                    Some(tell) => Ok(Asked::Tell { file, trace, tell }),
-                    None => Err(usage(alloc, NO_EVENT)),
-                }
-            } else if name == "ends" {
-                match asked_ends(inner) {
-                    Some(ends) => Ok(Asked::Ends { file, ends }),
-                    None => Err(usage(alloc, ends_fault(inner))),
-                }
-            } else if name == "cases" {
-                Ok(Asked::Cases { file })
-            } else {
-                Err(unknown(alloc))
-            }
-        }
+    match request_of(name, inner) {
+        Some(asked) => Ok(asked),
+        None => Err(mistake(alloc, name, inner)),
+    }
+}
+
+/// The request of a command of this name; nothing if its options ask for nothing.
+fn request_of<'a>(name: &'a str, inner: &ArgMatches<'a>) -> Option<Asked<'a>>
+    ensures asked { IfSome result (IsGiven (name.now, rows_of (found_of inner.now))) }
+    ensures lacks { result ≡ None
+        → is_whole (Some (name.now, rows_of (found_of inner.now))) ≡ false }
+{
+    let file = text_of(inner, "FILE")?;
+    if name == "cases" {
+        Some(Asked::Cases { file })
+    } else if name == "ends" {
+        let ends = asked_ends(inner)?;
+        Some(Asked::Ends { file, ends })
+    } else if name == "explain" {
+        let trace = text_of(inner, "TRACE");
+        let form = asked_form(inner, trace)?;
+        Some(Asked::Explain { file, trace, form })
+    } else {
+        with_trace(name, file, inner)
+    }
+}
+
+/// The request of a command on a text and a trace.
+fn with_trace<'a>(name: &'a str, file: &'a str, inner: &ArgMatches<'a>) -> Option<Asked<'a>>
+    requires file { first_of (codes "FILE") (rows_of (found_of inner.now)) ≡ Some file.now }
+    requires one { takes_one name.now ≡ false }
+    requires explain { is_explain name.now ≡ false }
+    ensures asked { IfSome result (IsGiven (name.now, rows_of (found_of inner.now))) }
+    ensures lacks { result ≡ None
+        → is_whole (Some (name.now, rows_of (found_of inner.now))) ≡ false }
+{
+    let trace = text_of(inner, "TRACE")?;
+    if name == "view" {
+        let view = view_of(inner);
+        Some(Asked::View { file, trace, view })
+    } else if name == "draw" {
+        let draw = asked_draw(inner)?;
+        Some(Asked::Draw { file, trace, draw })
+    } else if name == "tell" {
+        let tell = asked_tell(inner)?;
+        Some(Asked::Tell { file, trace, tell })
+    } else {
+        None
+    }
+}
+
+/// The error for a command whose options ask for nothing.
+fn mistake(alloc: Global, name: &str, inner: &ArgMatches<'_>) -> LineError
+    ensures { (whole : Bool) → whole ≡ false → BlamesUnless whole result }
+{
+    if name == "ends" {
+        usage(alloc, ends_fault(inner))
+    } else if name == "explain" {
+        usage(alloc, NO_TRACE)
+    } else if name == "draw" {
+        usage(alloc, NO_WINDOW)
+    } else if name == "tell" {
+        usage(alloc, NO_EVENT)
+    } else {
+        unknown(alloc)
     }
 }
 

@@ -7,7 +7,8 @@ use Rattle.sts_rules.specs.Refusal.{IsRefusal}
 use Rattle.sts_rules.specs.declared.typing.Cause.{Cause}
 use Rattle.look_refusal.specs.Output.{IsExplanation}
 use Rattle.look_places.specs.Marks.{Source, line_of}
-use Rattle.look_places.specs.Reports.{AddsWays, IsRefused, added, refusal_code, reported}
+use Rattle.look_places.specs.Faults.{refusal_code}
+use Rattle.look_places.specs.Reports.{AddsWays, IsRefused, added, reported}
 
 -- what was written to an empty vector is the explanation
 pub explained_of : (text old bytes : List ℕ) (status : ℕ) (o : Output) → old ≡ [] → IsExplanation text o → Writes (Some old) (Some bytes) status o → IsExplanation text (record { bytes = bytes; status = status })

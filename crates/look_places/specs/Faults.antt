@@ -1,4 +1,4 @@
--- The line and the code of a fault of a text (this project's own).
+-- The line of a fault of a text, and the codes of faults and refusals (this project's own).
 use Rattle.std.specs.Prelude.{ℕ, ◌==◌, List, ◌++◌, codes, Option, Some, None, unwrap_or}
 use Rattle.std.specs.Prelude.{if◌then◌else◌}
 use Rattle.std.specs.Fmt.{decimal}
@@ -11,6 +11,10 @@ use Rattle.look_text.specs.Checks.{failing, is_of_head}
 use Rattle.look_text.specs.Functions.{functions_of}
 use Rattle.look_text.specs.Heads.{head_at}
 use Rattle.look_text.specs.Lines.{check_words}
+use Rattle.sts_rules.specs.Causes.{cause_number}
+use Rattle.sts_rules.specs.declared.typing.Cause.{Cause}
+use Rattle.look_places.specs.declared.faults.Problem.{Problem}
+use Rattle.look_places.specs.declared.faults.Problem.TheVariants.{Fault, Refusal}
 use Rattle.look_places.specs.Marks.{Source, line_of}
 
 -- the line of a failed check: that of the instruction, or that which begins the function
@@ -32,3 +36,11 @@ fault_line s kind line = if line == 0 then 1 else line
 -- `A2`, or `A9 C4`
 abbrev pub fault_code : AsmKind → List ℕ
 fault_code kind = codes "A" ++ decimal (kind_number kind) ++ check_words kind
+
+-- `V13`
+abbrev pub refusal_code : Cause → List ℕ
+refusal_code c = codes "V" ++ decimal (cause_number c)
+
+abbrev pub code : Problem → List ℕ
+code (Fault kind) = fault_code kind
+code (Refusal c) = refusal_code c

@@ -1,13 +1,11 @@
 -- What is wrong with a text, in lines that editors, make and CI jump by (this project's own).
 use Rattle.std.specs.Prelude.{◌≡◌, ◌≢◌, ◌⊎◌, ℕ, List, [], ◌∷◌, ◌++◌, codes, Result, Ok, Err}
 use Rattle.std.specs.List.{flat_map}
-use Rattle.std.specs.Fmt.{decimal}
 use Rattle.sts_code.specs.Program.{Program}
 use Rattle.sts_text.specs.Words.{lines}
 use Rattle.sts_asm.specs.Text.{judged}
 use Rattle.sts_asm.specs.declared.fault.AsmError.{AsmError}
 use Rattle.sts_output.specs.Output.{Output, memory_output}
-use Rattle.sts_rules.specs.Causes.{cause_number}
 use Rattle.sts_rules.specs.Refusal.{IsAccepted, IsRefusal}
 use Rattle.sts_rules.specs.declared.typing.Cause.{Cause}
 use Rattle.sts_rules.specs.declared.typing.Cause.TheVariants.{StatesDiffer}
@@ -21,7 +19,7 @@ use Rattle.look_refusal.specs.declared.ways.Meeting.{Meeting}
 use Rattle.look_refusal.specs.declared.ways.WayOrigin.{WayOrigin}
 use Rattle.look_refusal.specs.declared.ways.WayOrigin.TheVariants.{Beginning, Edge, Turn}
 use Rattle.look_text.specs.Lines.{fault_lines}
-use Rattle.look_places.specs.Faults.{fault_code, fault_line}
+use Rattle.look_places.specs.Faults.{fault_code, fault_line, refusal_code}
 use Rattle.look_places.specs.Marks.{Source, line_of, mark}
 
 -- ---- a line
@@ -57,11 +55,12 @@ reported s line code (place ∷ rest) = below s line code rest
 
 -- ---- a text with a fault
 
+abbrev pub fault_bytes : Source → AsmError → List ℕ
+fault_bytes s e =
+    reported s (fault_line s e.kind e.line) (fault_code e.kind) (lines (fault_lines e s.text))
+
 abbrev pub fault_report : Source → AsmError → Output
-fault_report s e = record {
-  bytes = reported s (fault_line s e.kind e.line) (fault_code e.kind) (lines (fault_lines e s.text));
-  status = 3;
-}
+fault_report s e = record { bytes = fault_bytes s e; status = 3 }
 
 -- ---- a refused program
 
@@ -84,9 +83,6 @@ pub data AddsWays (s : Source) (p : Program) (f pc : ℕ) (c : Cause)
     (before after : List ℕ) : Type 0 where
   added : (ways : List ℕ) → AreWays s p f pc c ways → after ≡ before ++ ways
       → AddsWays s p f pc c before after
-
-abbrev pub refusal_code : Cause → List ℕ
-refusal_code c = codes "V" ++ decimal (cause_number c)
 
 -- the report of a refusal has the words of its explanation
 pub record IsRefused (s : Source) (p : Program) (output : Output) : Type 0 where

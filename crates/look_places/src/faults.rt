@@ -1,32 +1,23 @@
 //! The line and the code of a fault of a text.
 
 ghost use Rattle.std.specs.Prelude.{◌≡◌, ◌≤◌, ◌++◌, IfOk, OnOk, length};
-ghost use Rattle.look_text.specs.Lines.{check_words};
 ghost use Rattle.look_text.specs.Functions.{functions_of};
 ghost use Rattle.look_places.specs.Faults as def;
 
-use crate::heads::{failing, head_line, is_of_head};
 use crate::marks::Source;
-use look_names::Said;
-use look_text::say;
+use look_text::{
+    Said, failing_function, functions_of, head_line, is_of_head, say_check, say_number,
+};
 use std::alloc::{AllocError, Global};
-use sts_asm::{AsmError, AsmKind, Outline, outlined};
+use sts_asm::{AsmError, AsmKind, Outline};
 use sts_code::CodeError;
+use sts_rules::Cause;
 
-/// The functions of a text, or none if a fault is found before any name is looked up.
-fn functions_of<'a>(alloc: Global, text: &'a [u8]) -> Result<Option<Outline<'a>>, AllocError>
-    ensures { IfOk result (λ found. functions_of text.now ≡ found) }
-{
-    match outlined(alloc, text) {
-        Ok(outline) => Ok(Some(outline)),
-        Err(
-            AsmError {
-                kind: AsmKind::Memory,
-                ..
-            },
-        ) => Err(AllocError),
-        Err(_) => Ok(None),
-    }
+/// Why a text has a problem, as its code says it.
+#[derive(Clone, Copy)]
+pub(crate) enum Problem {
+    Fault(AsmKind),
+    Refusal(Cause),
 }
 
 /// The line of a failed check.
@@ -35,7 +26,7 @@ fn check_line(source: &Source<'_, '_>, outline: &Outline<'_>, error: CodeError) 
     ensures { result ≡ def.check_line source.now outline.now error }
 {
     if is_of_head(outline, error) {
-        head_line(source.text(), failing(outline, error)).unwrap_or(1)
+        head_line(source.text(), failing_function(outline, error)).unwrap_or(1)
     } else {
         source.line_of(error.function, error.pc)
     }
@@ -70,32 +61,19 @@ pub(crate) fn fault_line(
     }
 }
 
-/// ` C4`, of a failed check
-fn say_check(alloc: Global, out: &mut Vec<u8>, kind: AsmKind) -> Said
-    ensures { OnOk result (out.new.items ≡ out.old.items ++ check_words kind) }
-{
-    match kind {
-        AsmKind::Code(error) => {
-            let number = error.cause.number();
-            let words = format!(in alloc; " C{number}")?;
-            say(out, words.as_str())
-        }
-        _ => Ok(()),
-    }
-}
-
-/// The code of a fault: `A2`, or `A9 C4`.
+/// Appends the code of a problem: `A2`, `A9 C4` or `V13`.
 ///
 /// # Errors
 ///
-/// Memory ran out.
-pub(crate) fn fault_code(alloc: Global, kind: AsmKind) -> Result<Vec<u8>, AllocError>
-    ensures { IfOk result (λ b. b.items ≡ def.fault_code kind) }
+/// Memory ran out; `out` may then have a part of it.
+pub(crate) fn say_code(alloc: Global, out: &mut Vec<u8>, problem: Problem) -> Said
+    ensures { OnOk result (out.new.items ≡ out.old.items ++ def.code problem) }
 {
-    let number = kind.number();
-    let head = format!(in alloc; "A{number}")?;
-    let mut code = Vec::new(alloc);
-    say(&mut code, head.as_str())?;
-    say_check(alloc, &mut code, kind)?;
-    Ok(code)
+    match problem {
+        Problem::Fault(kind) => {
+            say_number(alloc, out, "A", kind.number() as u128)?;
+            say_check(alloc, out, kind)
+        }
+        Problem::Refusal(cause) => say_number(alloc, out, "V", cause.number() as u128),
+    }
 }

@@ -7,7 +7,6 @@
 
 mod explained;
 mod faults;
-mod heads;
 mod marks;
 mod named;
 mod report;

@@ -8,11 +8,13 @@ ghost use Rattle.sts_code.specs.Program.{Program as AnyProgram};
 ghost use Rattle.sts_output.specs.Output as cli;
 ghost use Rattle.sts_rules.specs.Refusal.{IsAccepted, IsRefusal};
 ghost use Rattle.sts_text.specs.Words.{lines};
+ghost use Rattle.look_text.specs.Lines.{fault_lines as lines_of_fault};
+ghost use Rattle.look_places.specs.Faults.{code, refusal_code};
 ghost use Rattle.look_places.specs.Marks.{line_of};
 ghost use Rattle.look_places.specs.Reports as def;
 
 use crate::explained::explained;
-use crate::faults::{fault_code, fault_line};
+use crate::faults::{Problem, fault_line};
 use crate::marks::Source;
 use look_accepted::{Note, all_notes};
 use look_names::{Names, outline_of};
@@ -26,6 +28,50 @@ use sts_output::{STATUS_OUTSIDE, TakeError, WriteFailed, failed, written};
 use sts_rules::Cause;
 use sts_verify::{VerifyError, verify};
 
+/// The lines of a problem whose explanation is known.
+fn problem_lines(
+    alloc: Global,
+    source: &Source<'_, '_>,
+    line: u32,
+    problem: Problem,
+    explained: &[u8],
+) -> Result<Vec<u8>, AllocError>
+    ensures { IfOk result (λ b. b.items
+        ≡ def.reported source.now line (code problem) (lines explained.now)) }
+{
+    let mut bytes = Vec::new(alloc);
+    source.say_reported(alloc, &mut bytes, line, problem, explained)?;
+    Ok(bytes)
+}
+
+/// The explanation of a fault.
+fn fault_words(alloc: Global, error: AsmError, text: &[u8]) -> Result<Vec<u8>, AllocError>
+    ensures { IfOk result (λ b. b.items ≡ lines_of_fault error text.now) }
+{
+    let mut words = Vec::new(alloc);
+    fault_lines(alloc, &mut words, error, text)?;
+    Ok(words)
+}
+
+/// The lines of a fault.
+fn fault_report(
+    alloc: Global,
+    source: &Source<'_, '_>,
+    error: AsmError,
+) -> Result<Vec<u8>, AllocError>
+    ensures { IfOk result (λ b. b.items ≡ def.fault_bytes source.now error) }
+{
+    let line = fault_line(alloc, source, error)?;
+    let words = fault_words(alloc, error, source.text())?;
+    problem_lines(
+        alloc,
+        source,
+        line,
+        Problem::Fault(error.kind),
+        words.as_slice(),
+    )
+}
+
 /// The report of a fault of a text. Running out of memory is no fault of it.
 fn faulty(
     alloc: Global,
@@ -38,18 +84,7 @@ fn faulty(
     if matches!(error.kind, AsmKind::Memory) {
         return Err(AllocError);
     }
-    let line = fault_line(alloc, source, error)?;
-    let code = fault_code(alloc, error.kind)?;
-    let mut explained = Vec::new(alloc);
-    fault_lines(alloc, &mut explained, error, source.text())?;
-    let mut bytes = Vec::new(alloc);
-    source.say_reported(
-        alloc,
-        &mut bytes,
-        line,
-        code.as_slice(),
-        explained.as_slice(),
-    )?;
+    let bytes = fault_report(alloc, source, error)?;
     Ok(Explanation { bytes, status: 3 })
 }
 
@@ -75,19 +110,30 @@ fn refusal_lines(
     told: &Explanation,
 ) -> Result<Vec<u8>, AllocError>
     ensures { IfOk result (λ b. b.items ≡ def.reported source.now
-        (line_of source.now function pc) (def.refusal_code cause) (lines told.now.bytes)) }
+        (line_of source.now function pc) (refusal_code cause) (lines told.now.bytes)) }
 {
-    let number = cause.number();
-    let code = format!(in alloc; "V{number}")?;
     let line = source.line_of(function, pc);
-    let mut bytes = Vec::new(alloc);
-    source.say_reported(
-        alloc,
-        &mut bytes,
-        line,
-        code.as_bytes(),
-        told.bytes.as_slice(),
-    )?;
+    let problem = Problem::Refusal(cause);
+    problem_lines(alloc, source, line, problem, told.bytes.as_slice())
+}
+
+/// The same, and the notes on two ways that meet.
+fn refusal_report(
+    alloc: Global,
+    source: &Source<'_, '_>,
+    program: &Program,
+    function: u32,
+    pc: u32,
+    cause: Cause,
+    told: &Explanation,
+) -> Result<Vec<u8>, AllocError>
+    requires { IsRefusal program.now function pc cause }
+    ensures { IfOk result (λ b. def.AddsWays source.now program.now function pc cause
+        (def.reported source.now (line_of source.now function pc) (refusal_code cause)
+        (lines told.now.bytes)) b.items) }
+{
+    let mut bytes = refusal_lines(alloc, source, function, pc, cause, told)?;
+    source.say_ways(alloc, &mut bytes, program, function, pc, cause)?;
     Ok(bytes)
 }
 
@@ -105,8 +151,7 @@ fn refused(
 {
     let printed = explained(alloc, source.text())?;
     let told = whole(printed)?;
-    let mut bytes = refusal_lines(alloc, source, function, pc, cause, &told)?;
-    source.say_ways(alloc, &mut bytes, program, function, pc, cause)?;
+    let bytes = refusal_report(alloc, source, program, function, pc, cause, &told)?;
     Ok(Explanation { bytes, status: 4 })
 }
 

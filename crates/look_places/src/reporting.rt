@@ -2,11 +2,12 @@
 
 ghost use Rattle.std.specs.Prelude.{◌≡◌, ◌++◌, OnOk};
 ghost use Rattle.sts_text.specs.Words.{lines};
+ghost use Rattle.look_places.specs.Faults.{code};
 ghost use Rattle.look_places.specs.Reports as def;
 
+use crate::faults::{Problem, say_code};
 use crate::marks::Source;
-use look_names::Said;
-use look_text::say;
+use look_text::{Said, say};
 use std::alloc::Global;
 use sts_text::cut_at_newline;
 
@@ -17,15 +18,15 @@ impl Source<'_, '_> {
         alloc: Global,
         out: &mut Vec<u8>,
         line: u32,
-        code: &[u8],
+        problem: Problem,
         message: &[u8],
     ) -> Said
         ensures { OnOk result (out.new.items
-            ≡ out.old.items ++ def.problem self.now line code.now message.now) }
+            ≡ out.old.items ++ def.problem self.now line (code problem) message.now) }
     {
         self.say_mark(alloc, out, line)?;
         say(out, ": ")?;
-        out.extend_from_slice(code)?;
+        say_code(alloc, out, problem)?;
         say(out, ": ")?;
         out.extend_from_slice(message)?;
         say(out, "\n")
@@ -76,16 +77,16 @@ impl Source<'_, '_> {
         alloc: Global,
         out: &mut Vec<u8>,
         line: u32,
-        code: &[u8],
+        problem: Problem,
         words: &[u8],
     ) -> Said
         ensures { OnOk result (out.new.items
-            ≡ out.old.items ++ def.below self.now line code.now (lines words.now)) }
+            ≡ out.old.items ++ def.below self.now line (code problem) (lines words.now)) }
     {
         match cut_at_newline(words) {
-            None => self.say_problem(alloc, out, line, code, words),
+            None => self.say_problem(alloc, out, line, problem, words),
             Some((message, more)) => {
-                self.say_problem(alloc, out, line, code, message)?;
+                self.say_problem(alloc, out, line, problem, message)?;
                 self.say_notes(alloc, out, line, more)
             }
         }
@@ -101,15 +102,15 @@ impl Source<'_, '_> {
         alloc: Global,
         out: &mut Vec<u8>,
         line: u32,
-        code: &[u8],
+        problem: Problem,
         explained: &[u8],
     ) -> Said
         ensures { OnOk result (out.new.items
-            ≡ out.old.items ++ def.reported self.now line code.now (lines explained.now)) }
+            ≡ out.old.items ++ def.reported self.now line (code problem) (lines explained.now)) }
     {
         match cut_at_newline(explained) {
             None => Ok(()),
-            Some((_, rest)) => self.say_below(alloc, out, line, code, rest),
+            Some((_, rest)) => self.say_below(alloc, out, line, problem, rest),
         }
     }
 }

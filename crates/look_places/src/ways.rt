@@ -58,10 +58,7 @@ impl Source<'_, '_> {
     {
         match find_meeting(alloc, program, function, pc)? {
             None => Ok(()),
-            Some(meeting) => {
-                self.say_meeting(alloc, out, function, &meeting)?;
-                Ok(())
-            }
+            Some(meeting) => self.say_meeting(alloc, out, function, &meeting),
         }
     }
 

@@ -8,5 +8,4 @@ pub returns : goal.returns
 returns c =
     ap app_of_fields c.subcommand_required.ensures
     ∙ ap (λ f. required (app_of_fields f)) c.version.ensures
-    ∙ ap (λ f. required (def.versioned (app_of_fields f))) c.about.ensures
-    ∙ ap (λ a. required (def.versioned a)) c.new.ensures.app
+    ∙ ap (λ a. required (def.versioned a)) c.named.ensures.app

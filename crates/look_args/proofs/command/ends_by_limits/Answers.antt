@@ -1,4 +1,10 @@
+use Rattle.std.specs.Prelude.{codes}
+use Rattle.clap.specs.Words.{new_app, with_rule}
+use Rattle.sts_args.specs.Command.{file_rule}
+use Rattle.look_args.specs.Command.{IsMade}
 use Rattle.look_args.proofs.command.ends_by_limits.Goals as goal
 
 pub returns : goal.returns
-returns c = c.option-3.ensures _ (c.option-2.ensures _ (c.option.ensures _ (c.flag.ensures _ c.on_file.ensures)))
+returns c =
+    let begun : IsMade (with_rule (new_app (codes "ends")) file_rule) c.on_file.result = record { app = c.on_file.ensures.app; local = c.on_file.ensures.local } in
+    c.with_arguments.ensures _ begun

@@ -1,4 +1,5 @@
 use Rattle.std.proofs.Common.{refl}
+use Rattle.std.proofs.lemmas.Result.{on_ok_weaker}
 use Rattle.sts_rules.specs.Refusal.{IsTypeRefusal}
 use Rattle.sts_rules.specs.declared.typing.Cause.TheVariants.{StatesDiffer}
 use Rattle.look_refusal.proofs.TellLemmas.{type_refusal}
@@ -10,8 +11,9 @@ returns-in-None c =
     let none : ¬ IsTypeRefusal c.args.program.now c.args.function c.args.pc StatesDiffer = rw c.in-None.is at c.in_ok-find_meeting.ensures in
     absurd (none (type_refusal c.args.program.now c.args.function c.args.pc StatesDiffer refl c.requires.1))
 
-pub returns-in_ok-say_meeting-in-Some : goal.returns-in_ok-say_meeting-in-Some
-returns-in_ok-say_meeting-in-Some c =
-    added (meeting_notes c.args.self.now c.args.function c.in-Some.meeting)
-    (meets c.in-Some.meeting (rw c.in-Some.is at c.in_ok-find_meeting.ensures))
-    c.in_ok-say_meeting-in-Some.ensures
+pub returns-in-Some : goal.returns-in-Some
+returns-in-Some c =
+    on_ok_weaker c.say_meeting.result
+    (λ e. added (meeting_notes c.args.self.now c.args.function c.in-Some.meeting)
+    (meets c.in-Some.meeting (rw c.in-Some.is at c.in_ok-find_meeting.ensures)) e)
+    c.say_meeting.ensures
