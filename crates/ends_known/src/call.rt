@@ -1,6 +1,6 @@
 //! Calls, and what each may come to.
 
-use crate::hash::{mixed, mixed_values};
+use ends_search::hash::{mixed, mixed_values};
 use sts_model::{Bound, End};
 
 /// All that the ends of a subtask depend on: its function, its arguments and the scoped values that

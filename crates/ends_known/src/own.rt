@@ -1,7 +1,7 @@
 //! A state of one task by itself.
 
-use crate::hash::{mixed, mixed_entries, mixed_values};
 use crate::seen::Seen;
+use ends_search::hash::{mixed, mixed_entries, mixed_values};
 use std::alloc::{AllocError, Global};
 use sts_code::{Instr, LAST_SLOT};
 use sts_frames::{copy_frame, is_local};

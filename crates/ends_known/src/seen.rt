@@ -1,7 +1,7 @@
 //! A scope, as its owner knows it.
 
-use crate::hash::mixed;
 use crate::part::Run;
+use ends_search::hash::mixed;
 use std::alloc::{AllocError, Global};
 use sts_code::Joiner;
 use sts_model::Phase;

@@ -7,7 +7,7 @@ use ends_search::index::Index;
 use std::alloc::{AllocError, Global};
 
 /// What a trace needs to know of a step.
-#[derive(Clone, Copy, PartialEq, Eq)]
+#[derive(Clone, Copy)]
 pub enum Label {
     Plain,
     /// An interrupt comes just before the step.

@@ -45,6 +45,13 @@ pub fn interrupts(alloc: Global, left: u32, world: &World) -> Result<Vec<Event>,
     Ok(events)
 }
 
+/// May this scope expire?
+pub fn may_expire(may: bool, world: &World, s: u32) -> bool
+    ensures { result ≡ expires_now may world.now (event.Expire s) }
+{
+    may && world.records().can_expire(s)
+}
+
 /// The expiries that mark a scope, if expiries may come.
 pub fn expiries(alloc: Global, may: bool, world: &World) -> Result<Vec<Event>, AllocError>
     ensures { IfOk result (λ es. AreThose (expires_now may world.now) es.items) }
@@ -52,7 +59,7 @@ pub fn expiries(alloc: Global, may: bool, world: &World) -> Result<Vec<Event>, A
     let mut events = Vec::new(alloc);
     let born = world.records().scopes_born() as u32;
     for s in 0..born {
-        if may && world.records().can_expire(s) {
+        if may_expire(may, world, s) {
             events.push(Event::Expire(s))?;
         }
     }

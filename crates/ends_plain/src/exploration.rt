@@ -7,9 +7,9 @@ ghost use Rattle.ends_search.specs.Search.{IsSpace};
 ghost use Rattle.ends_plain.specs.Configs.{next_kept, tries, is_last, IsLike};
 
 use crate::config::{Asked, Config, EndsFound, Setting};
-use crate::ends::{has_fault, list};
+use crate::ends::{has_fault, is_fault, list, shown_at};
 use crate::reading::reads_nothing;
-use ends_search::search::{Space, advance, begin, restored};
+use ends_search::search::{Space, advance, begin};
 use std::alloc::{AllocError, Global};
 use std::marker::Model;
 
@@ -44,14 +44,53 @@ fn finds_fault(alloc: Global, asked: &Asked, space: &Space<Config>) -> Result<bo
         space.now.marks.items }
 {
     for k in 0..space.origins.len() {
-        if space.origins[k].is_last {
-            let config = restored(alloc, asked, space, k)?;
-            if config.position.world().is_none() {
-                return Ok(true);
-            }
+        if space.origins[k].is_last && is_fault(shown_at(alloc, asked, space, k)?) {
+            return Ok(true);
         }
     }
     Ok(false)
+}
+
+/// Has a search to begin again as an exact one? It has if it is over and has found a fault.
+fn begins_again(alloc: Global, asked: &Asked, space: &Space<Config>) -> Result<bool, AllocError>
+    requires { IsSpace (next_kept asked.now) (tries asked.now.setting) (IsLike asked.now)
+        is_last space.now.first space.now.origins.items space.now.closed space.now.kept.items
+        space.now.marks.items }
+{
+    if asked.exact || space.closed < space.origins.len() {
+        return Ok(false);
+    }
+    finds_fault(alloc, asked, space)
+}
+
+/// The search after `count` more states were expanded, or fewer if it is over. Has it to begin again
+/// as an exact one?
+fn advanced(
+    alloc: Global,
+    asked: &Asked,
+    space: Space<Config>,
+    count: usize,
+) -> Result<(Space<Config>, bool), AllocError>
+    requires { IsSpace (next_kept asked.now) (tries asked.now.setting) (IsLike asked.now)
+        is_last space.first space.origins.items space.closed space.kept.items
+        space.marks.items }
+    ensures first { IfOk result (λ r. r.0.first ≡ space.first) }
+    ensures space { IfOk result (λ r. IsSpace (next_kept asked.now) (tries asked.now.setting)
+        (IsLike asked.now) is_last r.0.first r.0.origins.items r.0.closed r.0.kept.items
+        r.0.marks.items) }
+{
+    let space = advance(alloc, asked, space, count)?;
+    let again = begins_again(alloc, asked, &space)?;
+    Ok((space, again))
+}
+
+/// The same, but exact.
+fn exactly(asked: Asked) -> Asked
+    ensures { result.setting ≡ asked.setting }
+{
+    let mut exact = asked;
+    exact.exact = true;
+    exact
 }
 
 /// A search from the start.
@@ -91,23 +130,12 @@ impl Exploration {
         ensures { IfOk result (λ x. x ≡ self) }
     {
         let asked = self.asked;
-        let space = advance(alloc, &asked, self.space, count)?;
-        if asked.exact || space.closed < space.origins.len() {
-            return Ok(Exploration { asked, space });
+        let (space, again) = advanced(alloc, &asked, self.space, count)?;
+        if again {
+            begun(alloc, exactly(asked), space.most)
+        } else {
+            Ok(Exploration { asked, space })
         }
-        if finds_fault(alloc, &asked, &space)? {
-            let setting = asked.setting;
-            return begun(
-                alloc,
-                Asked {
-                    setting,
-                    exact: true,
-                    own_steps: OWN_STEPS,
-                },
-                space.most,
-            );
-        }
-        Ok(Exploration { asked, space })
     }
 
     /// The input of the search.

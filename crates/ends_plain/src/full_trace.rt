@@ -8,30 +8,43 @@ ghost use Rattle.ends_plain.specs.declared.config.Config.{Config};
 use crate::config::{Asked, Config, Setting};
 use crate::moves::own_step;
 use crate::trace::Trace;
-use ends_search::machine::StateMachine;
+use crate::way::Way;
 use std::alloc::{AllocError, Global};
 use sts_model::Event;
 
-/// Takes own steps, at most this number, and adds each of them to the trace.
+/// Goes on by own steps, at most this number.
 fn add_own_steps(
     alloc: Global,
     setting: &Setting,
     most: u32,
-    config: &mut Config,
-    trace: &mut Trace,
+    way: &mut Way,
 ) -> Result<(), AllocError>
-    ensures config { OnOk result (config.new ≡ settled most setting.now config.old) }
+    ensures config { OnOk result (way.new.config ≡ settled most setting.now way.old.config) }
     ensures trace { OnOk result
-        (trace.new ≡ trace.old ++ own_events most setting.now config.old) }
+        (way.new.trace ≡ way.old.trace ++ own_events most setting.now way.old.config) }
 {
     let mut left = most;
     while left > 0 {
-        let Some(t) = own_step(config, setting) else {
+        let Some(t) = own_step(&way.config, setting) else {
             return Ok(());
         };
-        config.apply_event(alloc, setting, Event::Step(t))?;
-        trace.push(Event::Step(t))?;
+        way.go(alloc, setting, Event::Step(t))?;
         left -= 1;
+    }
+    Ok(())
+}
+
+/// Goes on by events that lead from state to state of a search, and by the own steps that follow
+/// each of them.
+fn add_all(alloc: Global, asked: &Asked, events: &[Event], way: &mut Way) -> Result<(), AllocError>
+    ensures { (first : Config) → (r : Config)
+        → IsWay (next asked.now.setting) (can asked.now.setting) first way.old.trace way.old.config
+        → IsWay (next_kept asked.now) (tries asked.now.setting) way.old.config events.now r
+        → OnOk result (IsWay (next asked.now.setting) (can asked.now.setting) first way.new.trace r) }
+{
+    for event in events {
+        way.go(alloc, &asked.setting, *event)?;
+        add_own_steps(alloc, &asked.setting, asked.own_steps, way)?;
     }
     Ok(())
 }
@@ -52,18 +65,7 @@ pub fn with_own_steps(
         → IsWay (next_kept asked.now) (tries asked.now.setting) first.now events.now r
         → IsWay (next asked.now.setting) (can asked.now.setting) first.now t r) }
 {
-    let mut config = first.copied(alloc)?;
-    let mut trace = Trace::new(alloc);
-    for event in events {
-        trace.push(*event)?;
-        config.apply_event(alloc, &asked.setting, *event)?;
-        add_own_steps(
-            alloc,
-            &asked.setting,
-            asked.own_steps,
-            &mut config,
-            &mut trace,
-        )?;
-    }
-    Ok(trace)
+    let mut way = Way::begin(alloc, first)?;
+    add_all(alloc, asked, events, &mut way)?;
+    Ok(way.trace)
 }

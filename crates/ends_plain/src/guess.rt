@@ -10,6 +10,8 @@ use sts_world::{Records, World};
 pub struct Guess {
     pub names: NameLists,
     pub back: NameLists,
+    /// For each task of the other state, the first scope that may be its next one.
+    nexts: Vec<u32>,
 }
 
 /// Names that all are 0.
@@ -33,35 +35,60 @@ fn scope_of(records: &Records, owner: u32, from: u32) -> Option<u32> {
     (from..born).find(|s| records.owner(*s) == owner)
 }
 
-/// Names the subtasks of a scope, place by place.
-fn name_subtasks(guess: &mut Guess, ours: &[u32], theirs: &[u32]) {
-    for (t, u) in ours.iter().zip(theirs.iter()) {
-        put(&mut guess.names.tasks, *t, *u);
-        put(&mut guess.back.tasks, *u, *t);
+impl Guess {
+    /// All names are 0.
+    fn blank(alloc: Global, tasks: usize, scopes: usize) -> Result<Guess, AllocError> {
+        let names = blank(alloc, tasks, scopes)?;
+        let back = blank(alloc, tasks, scopes)?;
+        let nexts = Vec::from_elem(alloc, 0, tasks)?;
+        Ok(Guess { names, back, nexts })
+    }
+
+    /// Names the subtasks of a scope, place by place.
+    fn name_subtasks(&mut self, ours: &[u32], theirs: &[u32]) {
+        for (t, u) in ours.iter().zip(theirs.iter()) {
+            put(&mut self.names.tasks, *t, *u);
+            put(&mut self.back.tasks, *u, *t);
+        }
+    }
+
+    /// Names a scope of this owner.
+    fn name_scope(&mut self, owner: u32, s: u32, r: u32) {
+        put(&mut self.nexts, owner, r.saturating_add(1));
+        put(&mut self.names.scopes, s, r);
+        put(&mut self.back.scopes, r, s);
+    }
+
+    /// The scope of the other state that is the next one of the owner of this scope, and the owner.
+    fn next_of(&self, ours: &Records, theirs: &Records, s: u32) -> (u32, Option<u32>) {
+        let owner = name(self.names.tasks.as_slice(), ours.owner(s));
+        let from = self.nexts.get(owner as usize).copied().unwrap_or(0);
+        (owner, scope_of(theirs, owner, from))
+    }
+
+    /// Names the scopes of each owner in the order of their births, and the subtasks of each scope
+    /// in the order of their forks.
+    fn fill(&mut self, ours: &World, theirs: &World) {
+        for s in 0..ours.records().scopes_born() as u32 {
+            let (owner, next) = self.next_of(ours.records(), theirs.records(), s);
+            let Some(r) = next else {
+                return;
+            };
+            self.name_scope(owner, s, r);
+            self.name_subtasks(ours.subtasks(s), theirs.subtasks(r));
+        }
     }
 }
 
-/// Names the scopes of each owner in the order of their births, and the subtasks of each scope in
-/// the order of their forks.
+/// Guesses the names of one state's births in the other.
+///
+/// # Errors
+///
+/// There is no memory.
 pub fn guessed(alloc: Global, ours: &World, theirs: &World) -> Result<Guess, AllocError> {
     let tasks = ours.records().tasks_born();
     let scopes = ours.records().scopes_born();
-    let mut guess = Guess {
-        names: blank(alloc, tasks, scopes)?,
-        back: blank(alloc, tasks, scopes)?,
-    };
-    // For each task of the other state, the first scope that may be its next one.
-    let mut nexts: Vec<u32> = Vec::from_elem(alloc, 0, tasks)?;
-    for s in 0..scopes as u32 {
-        let owner = name(guess.names.tasks.as_slice(), ours.records().owner(s));
-        let from = nexts.get(owner as usize).copied().unwrap_or(0);
-        let Some(r) = scope_of(theirs.records(), owner, from) else {
-            return Ok(guess);
-        };
-        put(&mut nexts, owner, r.saturating_add(1));
-        put(&mut guess.names.scopes, s, r);
-        put(&mut guess.back.scopes, r, s);
-        name_subtasks(&mut guess, ours.subtasks(s), theirs.subtasks(r));
-    }
+    let mut guess = Guess::blank(alloc, tasks, scopes)?;
+    guess.fill(ours, theirs);
     Ok(guess)
 }

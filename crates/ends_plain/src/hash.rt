@@ -4,26 +4,12 @@ ghost use Rattle.std.specs.Prelude.{◌≡◌, ◌<◌, length, true};
 ghost use Rattle.sts_model.specs.Living as living;
 ghost use Rattle.sts_model.specs.World as def;
 
-use sts_model::{End, Entry, Frame, KeptEntry, KeptSlot, Slot};
+use ends_search::hash::{mixed, mixed_entries, mixed_values};
+use sts_model::{End, Frame, KeptSlot, Slot};
 use sts_world::{Records, World};
 
 /// The hash of no numbers.
 const SEED: u64 = 0xcbf2_9ce4_8422_2325;
-
-/// The hash of one number more.
-pub fn mixed(hash: u64, n: u64) -> u64 {
-    let product = (hash ^ n).wrapping_mul(0x9e37_79b9_7f4a_7c15);
-    product ^ (product >> 32)
-}
-
-/// Mixes in how many values there are, and each value.
-pub fn mixed_values(hash: u64, values: &[i64]) -> u64 {
-    let mut hash = mixed(hash, values.len() as u64);
-    for value in values {
-        hash = mixed(hash, value.cast_unsigned());
-    }
-    hash
-}
 
 fn number_of_slot(slot: Slot) -> u64 {
     match slot {
@@ -38,23 +24,6 @@ fn mixed_slots(hash: u64, slots: &[KeptSlot]) -> u64 {
     let mut hash = hash;
     for slot in slots {
         hash = mixed(hash, number_of_slot(slot.get()));
-    }
-    hash
-}
-
-fn mixed_entry(hash: u64, entry: Entry) -> u64 {
-    match entry {
-        Entry::Scope(n) => mixed(hash, u64::from(n)),
-        Entry::Binding(key, value) => {
-            mixed(mixed(hash, 256 + u64::from(key)), value.cast_unsigned())
-        }
-    }
-}
-
-fn mixed_entries(hash: u64, entries: &[KeptEntry]) -> u64 {
-    let mut hash = hash;
-    for entry in entries {
-        hash = mixed_entry(hash, entry.get());
     }
     hash
 }

@@ -17,3 +17,4 @@ pub mod schedule;
 pub mod shorter;
 pub mod trace;
 pub mod walk;
+pub mod way;

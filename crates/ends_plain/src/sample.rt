@@ -1,6 +1,9 @@
 //! Random schedules: some of the ends, and how often each came. It says nothing of other ends.
 
-ghost use Rattle.std.specs.Prelude.{◌<◌, IfOk, IfSome, length};
+ghost use Rattle.std.specs.Prelude.{◌≡◌, ◌<◌, ◌++◌, ◌∷◌, [], true, IfOk, IfSome, OnOk, length};
+ghost use Rattle.ends_search.specs.Search.{IsWay};
+ghost use Rattle.ends_plain.specs.Configs.{next, can};
+ghost use Rattle.ends_plain.specs.declared.config.Config.{Config};
 ghost use Rattle.ends_plain.specs.Listed.{AreEnds, IsEndOf};
 
 use crate::config::{Config, Found, Setting};
@@ -8,9 +11,11 @@ use crate::ends::is_end_at;
 use crate::moves::events_of;
 use crate::schedule::Schedule;
 use crate::trace::Trace;
+use crate::way::Way;
 use rand_core::SeedableRng;
 use rand_xoshiro::Xoshiro256PlusPlus;
 use std::alloc::{AllocError, Global};
+use sts_model::Event;
 use sts_plain::PlainState;
 
 /// The ends that came, each once, with the trace of the first schedule that reached it.
@@ -42,6 +47,48 @@ fn born(config: &Config) -> usize {
     }
 }
 
+/// The event that comes at this moment by a schedule, if one can come.
+fn drawn(
+    alloc: Global,
+    setting: &Setting,
+    rng: &mut Xoshiro256PlusPlus,
+    schedule: &mut Schedule,
+    config: &Config,
+    moment: usize,
+) -> Result<Option<Event>, AllocError>
+    ensures { IfOk result (λ next. IfSome next (λ e. can setting.now config.now e ≡ true)) }
+{
+    let events = events_of(alloc, config, setting)?;
+    schedule.give_priorities(rng, born(config))?;
+    Ok(schedule.next(rng, events.as_slice(), moment))
+}
+
+/// Goes on by a schedule up to its end. Is there one within `longest` events?
+fn reach(
+    alloc: Global,
+    setting: &Setting,
+    rng: &mut Xoshiro256PlusPlus,
+    schedule: &mut Schedule,
+    longest: usize,
+    way: &mut Way,
+) -> Result<bool, AllocError>
+    ensures { (first : Config)
+        → IsWay (next setting.now) (can setting.now) first way.old.trace way.old.config
+        → OnOk result
+        (IsWay (next setting.now) (can setting.now) first way.new.trace way.new.config) }
+{
+    for moment in 0..longest.saturating_add(1) {
+        if is_end_at(way.config.position.state()) {
+            return Ok(true);
+        }
+        let Some(event) = drawn(alloc, setting, rng, schedule, &way.config, moment)? else {
+            return Ok(false);
+        };
+        way.go(alloc, setting, event)?;
+    }
+    Ok(false)
+}
+
 /// Goes by a schedule up to its end. It returns nothing if there is no end within `longest` events.
 fn walk(
     alloc: Global,
@@ -52,22 +99,13 @@ fn walk(
 ) -> Result<Option<Found>, AllocError>
     ensures { IfOk result (λ found. IfSome found (IsEndOf setting.now)) }
 {
-    let mut config = Config::start(alloc, setting)?;
-    let mut trace = Trace::new(alloc);
-    for moment in 0..longest.saturating_add(1) {
-        let end = config.position.state();
-        if is_end_at(end) {
-            return Ok(Some(Found { end, trace }));
-        }
-        let events = events_of(alloc, &config, setting)?;
-        schedule.give_priorities(rng, born(&config))?;
-        let Some(event) = schedule.next(rng, events.as_slice(), moment) else {
-            return Ok(None);
-        };
-        config.apply_event(alloc, setting, event)?;
-        trace.push(event)?;
+    let config = Config::start(alloc, setting)?;
+    let trace = Trace::new(alloc);
+    let mut way = Way { config, trace };
+    if !reach(alloc, setting, rng, schedule, longest, &mut way)? {
+        return Ok(None);
     }
-    Ok(None)
+    Ok(way.end())
 }
 
 /// The place of an end.
@@ -77,31 +115,36 @@ fn place_of(found: &[Found], end: PlainState) -> Option<usize>
     found.iter().position(|one| one.end == end)
 }
 
-/// The sample with one end more.
-fn counted(sample: Sample, one: Found) -> Result<Sample, AllocError>
-    ensures { (g : Setting) → AreEnds g sample.found.items → IsEndOf g one
-        → IfOk result (λ s. AreEnds g s.found.items) }
-{
-    let mut found = sample.found;
-    let mut times = sample.times;
-    let unfinished = sample.unfinished;
-    if let Some(k) = place_of(found.as_slice(), one.end) {
-        if k < times.len() {
-            times[k] = times[k].saturating_add(1);
+impl Sample {
+    /// Counts an end that was found before.
+    fn count(&mut self, place: usize)
+        ensures { self.new.found ≡ self.old.found }
+    {
+        if place < self.times.len() {
+            self.times[place] = self.times[place].saturating_add(1);
         }
-        return Ok(Sample {
-            found,
-            times,
-            unfinished,
-        });
     }
-    times.push(1)?;
-    found.push(one)?;
-    Ok(Sample {
-        found,
-        times,
-        unfinished,
-    })
+
+    /// Adds an end that is new.
+    fn push(&mut self, one: Found) -> Result<(), AllocError>
+        ensures { OnOk result (self.new.found.items ≡ self.old.found.items ++ one ∷ []) }
+    {
+        self.found.push(one)?;
+        self.times.push(1)?;
+        Ok(())
+    }
+
+    /// Counts an end.
+    fn add(&mut self, one: Found) -> Result<(), AllocError>
+        ensures { (g : Setting) → AreEnds g self.old.found.items → IsEndOf g one
+            → OnOk result (AreEnds g self.new.found.items) }
+    {
+        let Some(place) = place_of(self.found.as_slice(), one.end) else {
+            return self.push(one);
+        };
+        self.count(place);
+        Ok(())
+    }
 }
 
 /// The number of events from which a schedule is drawn: that of the first end that was found.
@@ -148,7 +191,7 @@ pub fn sample_ends(
         let length = length_of(&so_far, sampling.longest);
         let mut schedule = schedule_of(alloc, &mut rng, number, length)?;
         match walk(alloc, setting, &mut rng, &mut schedule, sampling.longest)? {
-            Some(one) => so_far = counted(so_far, one)?,
+            Some(one) => so_far.add(one)?,
             None => so_far.unfinished = so_far.unfinished.saturating_add(1),
         }
     }

@@ -1,14 +1,16 @@
 //! Traces without the own steps that no later step needs.
 
-ghost use Rattle.std.specs.Prelude.{◌≡◌, true, IfOk, IfSome};
-ghost use Rattle.ends_plain.specs.Configs.{can};
+ghost use Rattle.std.specs.Prelude.{◌≡◌, true, IfOk, IfSome, OnOk};
+ghost use Rattle.ends_search.specs.Search.{IsWay};
+ghost use Rattle.ends_plain.specs.Configs.{next, can};
+ghost use Rattle.ends_plain.specs.declared.config.Config.{Config};
 ghost use Rattle.ends_plain.specs.Listed.{IsEndOf, IsShownBy};
 
 use crate::config::{Config, Found, Setting};
-use crate::ends::is_end_at;
-use crate::events::may_interrupt;
+use crate::events::{may_expire, may_interrupt};
 use crate::own::has_own_step;
 use crate::trace::Trace;
+use crate::way::Way;
 use ends_search::machine::StateMachine;
 use std::alloc::{AllocError, Global};
 use sts_model::Event;
@@ -23,7 +25,7 @@ pub fn can_come(config: &Config, setting: &Setting, event: Event) -> bool
         Some(world) => match event {
             Event::Step(t) => can_step(world, &setting.program, t),
             Event::Interrupt(t) => may_interrupt(config.left, world, t),
-            Event::Expire(s) => setting.expiries && world.records().can_expire(s),
+            Event::Expire(s) => may_expire(setting.expiries, world, s),
         },
     }
 }
@@ -39,6 +41,27 @@ fn coming(config: &Config, setting: &Setting, event: Event) -> Option<Event>
     }
 }
 
+/// Goes on by the events, as far as they can come. Can each of them?
+fn follow(
+    alloc: Global,
+    setting: &Setting,
+    events: &[Event],
+    way: &mut Way,
+) -> Result<bool, AllocError>
+    ensures { (first : Config)
+        → IsWay (next setting.now) (can setting.now) first way.old.trace way.old.config
+        → OnOk result
+        (IsWay (next setting.now) (can setting.now) first way.new.trace way.new.config) }
+{
+    for next in events {
+        let Some(event) = coming(&way.config, setting, *next) else {
+            return Ok(false);
+        };
+        way.go(alloc, setting, event)?;
+    }
+    Ok(true)
+}
+
 /// The end that the events lead to, if each of them can come.
 fn walked(
     alloc: Global,
@@ -48,20 +71,11 @@ fn walked(
 ) -> Result<Option<Found>, AllocError>
     ensures { IfOk result (λ found. IfSome found (IsShownBy setting.now first.now)) }
 {
-    let mut config = first.copied(alloc)?;
-    let mut trace = Trace::new(alloc);
-    for next in events {
-        let Some(event) = coming(&config, setting, *next) else {
-            return Ok(None);
-        };
-        config.apply_event(alloc, setting, event)?;
-        trace.push(event)?;
+    let mut way = Way::begin(alloc, first)?;
+    if !follow(alloc, setting, events, &mut way)? {
+        return Ok(None);
     }
-    let end = config.position.state();
-    if is_end_at(end) {
-        return Ok(Some(Found { end, trace }));
-    }
-    Ok(None)
+    Ok(way.end())
 }
 
 /// The end after these events, if each of them can come and they lead to an end.
@@ -91,6 +105,19 @@ fn is_own_step(config: &Config, setting: &Setting, event: Event) -> bool {
     }
 }
 
+/// Adds whether the event is an own step, and applies it.
+fn mark(
+    alloc: Global,
+    setting: &Setting,
+    event: Event,
+    config: &mut Config,
+    own: &mut Vec<bool>,
+) -> Result<(), AllocError> {
+    own.push(is_own_step(config, setting, event))?;
+    config.apply_event(alloc, setting, event)?;
+    Ok(())
+}
+
 /// Whether each of the events is an own step.
 fn own_steps(
     alloc: Global,
@@ -101,8 +128,7 @@ fn own_steps(
     let mut config = first.copied(alloc)?;
     let mut own = Vec::new(alloc);
     for event in events {
-        own.push(is_own_step(&config, setting, *event))?;
-        config.apply_event(alloc, setting, *event)?;
+        mark(alloc, setting, *event, &mut config, &mut own)?;
     }
     Ok(own)
 }
@@ -140,6 +166,21 @@ fn needed(alloc: Global, events: &[Event], own: &[bool]) -> Result<Vec<Event>, A
     Ok(back)
 }
 
+/// The end that the events of a trace lead to without the own steps that no later step needs.
+fn shorter(
+    alloc: Global,
+    setting: &Setting,
+    first: &Config,
+    trace: &Trace,
+) -> Result<Option<Found>, AllocError>
+    ensures { IfOk result (λ found. IfSome found (IsShownBy setting.now first.now)) }
+{
+    let all = trace.events(alloc)?;
+    let own = own_steps(alloc, setting, first, all.as_slice())?;
+    let events = needed(alloc, all.as_slice(), own.as_slice())?;
+    walked(alloc, setting, first, events.as_slice())
+}
+
 /// The same end by fewer events, if the own steps that no later step needs can be left out.
 pub fn shortened(
     alloc: Global,
@@ -151,10 +192,7 @@ pub fn shortened(
         → IfOk result (IsShownBy setting.now first.now) }
     ensures end { IfOk result (λ one. one.end ≡ found.end) }
 {
-    let all = found.trace.events(alloc)?;
-    let own = own_steps(alloc, setting, first, all.as_slice())?;
-    let events = needed(alloc, all.as_slice(), own.as_slice())?;
-    let Some(one) = walked(alloc, setting, first, events.as_slice())? else {
+    let Some(one) = shorter(alloc, setting, first, &found.trace)? else {
         return Ok(found);
     };
     if one.end == found.end {

@@ -1,7 +1,8 @@
 //! A number that two states share if they differ only by birth numbers, and most others don't: only
 //! a hint, with no contract.
 
-use crate::hash::{mixed, mixed_end, mixed_values};
+use crate::hash::mixed_end;
+use ends_search::hash::{mixed, mixed_values};
 use std::alloc::{AllocError, Global};
 use sts_model::{Entry, Frame, KeptEntry, KeptSlot, Slot};
 use sts_world::{Records, World};

@@ -8,27 +8,27 @@ use Rattle.ends_plain.proofs.full_trace.add_own_steps.Goals as goal
 pub returns-in_default-clause-config : goal.returns-in_default-clause-config
 returns-in_default-clause-config c =
     let none = sym c.own_step.ensures ∙ c.in_default.is in
-    sym (settled_none c.loop-left.left c.args.setting.now c.loop-left.config none) ∙ c.loop-left.invariant.0
+    sym (settled_none c.loop-left.left c.args.setting.now c.loop-left.way.config none) ∙ c.loop-left.invariant.0
 
 pub returns-in_default-clause-trace : goal.returns-in_default-clause-trace
 returns-in_default-clause-trace c =
     let none = sym c.own_step.ensures ∙ c.in_default.is in
-    sym (append-nil c.loop-left.trace)
-    ∙ ap (λ (es : List Event). c.loop-left.trace ++ es) (sym (own_none c.loop-left.left c.args.setting.now c.loop-left.config none))
+    sym (append-nil c.loop-left.way.trace)
+    ∙ ap (λ (es : List Event). c.loop-left.way.trace ++ es) (sym (own_none c.loop-left.left c.args.setting.now c.loop-left.way.config none))
     ∙ c.loop-left.invariant.1
 
 pub loop-left-preserved : goal.loop-left-preserved
 loop-left-preserved c =
     let g = c.args.setting.now in
-    let x = c.loop-left.config in
+    let x = c.loop-left.way.config in
     let left = c.loop-left.left in
     let t = c.in-Some.t in
     let some = sym c.own_step.ensures ∙ c.in-Some.is in
     let rest = own_events (left - 1) g (next g x (event.Step t)) in
-    rw (c.in_ok-push.ensures, c.in_ok-apply_event.ensures) (
+    rw (c.in_ok-go.ensures.trace, c.in_ok-go.ensures.config) (
       settled_some left (left - 1) g x t (omega arith) some ∙ c.loop-left.invariant.0,
-      append_assoc c.loop-left.trace (event.Step t ∷ []) rest
-          ∙ ap (λ (es : List Event). c.loop-left.trace ++ es) (sym (own_some left (left - 1) g x t (omega arith) some))
+      append_assoc c.loop-left.way.trace (event.Step t ∷ []) rest
+          ∙ ap (λ (es : List Event). c.loop-left.way.trace ++ es) (sym (own_some left (left - 1) g x t (omega arith) some))
           ∙ c.loop-left.invariant.1,
     )
 
@@ -40,4 +40,4 @@ returns-clause-config c =
 pub returns-clause-trace : goal.returns-clause-trace
 returns-clause-trace c =
     let none : c.loop-left.left ≡ 0 = omega arith in
-    sym (append-nil c.loop-left.trace) ∙ (rw none at c.loop-left.invariant.1)
+    sym (append-nil c.loop-left.way.trace) ∙ (rw none at c.loop-left.invariant.1)

@@ -1,36 +1,13 @@
-use Rattle.std.proofs.Common.{◌<◌, ◌≤◌, ◌+◌, List, length, drop, refl, subst, arith}
-use Rattle.std.specs.Prelude.{slice_index_or}
-use Rattle.std.proofs.lemmas.List.{drop_more, drop_all}
-use Rattle.sts_model.specs.declared.event.Event.{Event}
-use Rattle.sts_model.specs.declared.event.Event.TheVariants as event
+use Rattle.std.proofs.Common.{refl}
 use Rattle.ends_search.specs.Search.{IsWay}
-use Rattle.ends_plain.specs.declared.config.Config.{Config}
 use Rattle.ends_plain.specs.Configs.{next, next_kept, can, tries}
-use Rattle.ends_plain.proofs.SettleLemmas.{way_kept}
 use Rattle.ends_plain.proofs.full_trace.with_own_steps.Goals as goal
 
-pub loop-event-init : goal.loop-event-init
-loop-event-init c r way = rw (c.new-trace.ensures, c.in_ok-config.ensures) (way, record { can_all = tt; leads = refl })
-
-pub loop-event-preserved : goal.loop-event-preserved
-loop-event-preserved c r way =
-    let a = c.args.asked.now in
-    let events = c.args.events.now in
-    let at = c.loop-event.event-index in
-    let x = c.loop-event.config in
-    let i = c.loop-event.invariant r way in
-    let less : at < length events = omega arith in
-    let e = slice_index_or events at (event.Step 0) in
-    let ahead = subst (λ (es : List Event). IsWay (next_kept a) (tries a.setting) x es r) (drop_more events at (event.Step 0) less) i.0 in
-    rw (c.in_ok-add_own_steps.ensures.config, c.in_ok-add_own_steps.ensures.trace, c.in_ok-apply_event.ensures, c.in_ok-push.ensures)
-    (way_kept a c.args.first.now x r (drop (at + 1) events) c.loop-event.trace e ahead i.1)
-
 pub returns : goal.returns
-returns c r way =
+returns c r leads =
     let a = c.args.asked.now in
-    let events = c.args.events.now in
-    let at = c.loop-event.event-index in
-    let i = c.loop-event.invariant r way in
-    let over : length events ≤ at = omega arith in
-    let ends = subst (λ (es : List Event). IsWay (next_kept a) (tries a.setting) c.loop-event.config es r) (drop_all at events over) i.0 in
-    subst (λ (x : Config). IsWay (next a.setting) (can a.setting) c.args.first.now c.loop-event.trace x) ends.leads i.1
+    let first = c.args.first.now in
+    let way = c.in_ok-way.way in
+    let begins : IsWay (next a.setting) (can a.setting) first way.trace way.config = rw (c.in_ok-way.ensures.trace, c.in_ok-way.ensures.config) (record { can_all = tt; leads = refl }) in
+    let ahead : IsWay (next_kept a) (tries a.setting) way.config c.args.events.now r = rw c.in_ok-way.ensures.config leads in
+    c.in_ok-add_all.ensures first r begins ahead

@@ -1,16 +1,11 @@
-use Rattle.std.proofs.Common.{sym, ◌∙◌}
-use Rattle.ends_plain.proofs.WayLemmas.{way_more}
+use Rattle.std.proofs.Common.{refl}
+use Rattle.ends_search.specs.Search.{IsWay}
+use Rattle.ends_plain.specs.Configs.{next, can}
 use Rattle.ends_plain.proofs.shorter.walked.Goals as goal
 
-pub returns-then-is_end_at : goal.returns-then-is_end_at
-returns-then-is_end_at c = record {
-  config = c.loop-next.config;
-  way = c.loop-next.invariant;
-  shows = sym c.state-end.ensures;
-  ends = sym c.is_end_at.ensures ∙ c.if-is_end_at.true;
-}
-
-pub loop-next-preserved : goal.loop-next-preserved
-loop-next-preserved c =
-    let e = c.in-Some.event in
-    rw (c.in_ok-push.ensures, c.in_ok-apply_event.ensures) (way_more c.args.setting.now c.args.first.now c.loop-next.config c.loop-next.trace e c.loop-next.invariant c.in-Some.ensures)
+pub returns : goal.returns
+returns c =
+    let g = c.args.setting.now in
+    let first = c.args.first.now in
+    let begins : IsWay (next g) (can g) first c.in_ok-way.way.trace c.in_ok-way.way.config = rw (c.in_ok-way.ensures.trace, c.in_ok-way.ensures.config) (record { can_all = tt; leads = refl }) in
+    c.end.ensures g first (c.in_ok-follow.ensures first begins)

@@ -1,4 +1,4 @@
-//! A number that the same states share, and most others don't: only a hint, with no contract.
+//! Numbers that the same states share, and most others don't: only hints, with no contract.
 
 use sts_model::{Entry, KeptEntry};
 
