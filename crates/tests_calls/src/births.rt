@@ -5,90 +5,82 @@ ghost use Rattle.std.specs.Prelude.{◌≡◌, ◌≢◌, Some, None, slice_inde
 use crate::rows::compare;
 use sts_records::Held;
 
-/// Returns the birth of a record that is added, if there is room for it.
-fn push(held: &mut Held<u32>, body: u32) -> Option<usize> {
-    if held.room() > 0 && held.born() < 1000000 {
-        Some(held.push(body))
-    } else {
-        None
-    }
+/// Adds a record, if there is room for it, and returns whether it has this birth.
+fn pushes(held: &mut Held<u32>, body: u32, birth: usize) -> bool {
+    held.room() > 0 && held.born() < 1000000 && held.push(body) == birth
 }
 
-/// Returns the birth of a record that is written over a discarded one, if there are one and room.
-fn reuse(held: &mut Held<u32>, body: u32) -> Option<usize> {
+/// Writes a record over a discarded one, if there are one and room. Returns whether it has this birth.
+fn reuses(held: &mut Held<u32>, body: u32, birth: usize) -> bool {
     if held.room() == 0 || held.born() == 1000000 {
-        return None;
+        return false;
     }
-    let birth = held.born();
-    if held.reuse() {
-        *held.at(birth) = body;
-        Some(birth)
-    } else {
-        None
+    let next = held.born();
+    if !held.reuse() {
+        return false;
     }
+    *held.at(next) = body;
+    next == birth
 }
 
-/// Returns a birth that never has a record, if there may be one.
-fn skip(held: &mut Held<u32>) -> Option<usize> {
-    if held.born() < 1000000 {
-        Some(held.skip())
-    } else {
-        None
-    }
+/// Skips a birth, which never has a record, and returns whether it is this one.
+fn skips(held: &mut Held<u32>, birth: usize) -> bool {
+    held.born() < 1000000 && held.skip() == birth
 }
 
 /// Writes into a record, and returns whether the birth has one.
-fn write(held: &mut Held<u32>, birth: usize, body: u32) -> bool {
-    if held.get(birth).is_some() {
-        *held.at(birth) = body;
-        true
-    } else {
-        false
+fn writes(held: &mut Held<u32>, birth: usize, body: u32) -> bool {
+    if held.get(birth).is_none() {
+        return false;
     }
+    *held.at(birth) = body;
+    true
 }
 
-/// Returns what a record had that is discarded, if the birth has one.
-fn remove(held: &mut Held<u32>, birth: usize) -> Option<u32> {
-    let body = held.get(birth).copied();
-    if body.is_some() {
-        held.discard(birth);
-    }
-    body
+/// Discards a record, and returns whether the birth had one with this body.
+fn discards(held: &mut Held<u32>, birth: usize, body: u32) -> bool {
+    let Some(had) = held.get(birth).copied() else {
+        return false;
+    };
+    held.discard(birth);
+    had == body
 }
 
-/// Returns the birth in the record under the key of this birth: the same birth.
-fn birth_again(held: &Held<u32>, birth: usize) -> Option<usize> {
+/// Returns whether the record of a birth has a key that leads back to the birth.
+fn has_key(held: &Held<u32>, birth: usize) -> bool {
     match held.key_of(birth) {
-        None => None,
-        Some(key) => Some(held.birth(key)),
+        Some(key) => held.birth(key) == birth,
+        None => false,
     }
 }
 
 /// Returns whether a birth has a record with this body, and its key leads back to the birth.
 fn is_there(held: &Held<u32>, birth: usize, body: u32) -> bool {
-    held.get(birth) == Some(&body) && birth_again(held, birth) == Some(birth)
+    match held.get(birth) {
+        Some(found) => *found == body && has_key(held, birth),
+        None => false,
+    }
 }
 
 /// Returns whether a birth has no record.
 fn is_gone(held: &Held<u32>, birth: usize) -> bool {
-    held.get(birth).is_none() && birth_again(held, birth).is_none()
+    held.get(birth).is_none() && held.key_of(birth).is_none()
 }
 
 /// Births 0 and 1 have all the room.
 fn two_come(held: &mut Held<u32>) -> bool {
-    let is_empty = held.born() == 0 && is_gone(held, 0) && reuse(held, 5).is_none();
-    let births = [push(held, 10), push(held, 20)];
-    let is_written = write(held, 1, 25) && held.room() == 0;
-    let are_there = is_there(held, 0, 10) && is_there(held, 1, 25);
-    is_empty && births == [Some(0), Some(1)] && is_written && are_there
+    let is_empty = held.born() == 0 && is_gone(held, 0) && !reuses(held, 5, 0);
+    let come = pushes(held, 10, 0) && pushes(held, 20, 1);
+    let is_written = writes(held, 1, 25) && held.room() == 0;
+    is_empty && come && is_written && is_there(held, 0, 10) && is_there(held, 1, 25)
 }
 
 /// Birth 0 goes, birth 2 never has a record, and birth 3 is written over the record of birth 0.
 fn another_comes(held: &mut Held<u32>) -> bool {
-    let goes = remove(held, 0) == Some(10) && is_gone(held, 0) && held.room() == 1;
-    let skips = skip(held) == Some(2) && is_gone(held, 2) && held.room() == 1;
-    let comes = reuse(held, 40) == Some(3) && held.room() == 0 && held.born() == 4;
-    goes && skips && comes
+    let goes = discards(held, 0, 10) && is_gone(held, 0) && held.room() == 1;
+    let is_skipped = skips(held, 2) && is_gone(held, 2) && held.room() == 1;
+    let comes = reuses(held, 40, 3) && held.room() == 0 && held.born() == 4;
+    goes && is_skipped && comes
 }
 
 /// Births 0 and 2 stay gone, and births 1 and 3 have two keys.
@@ -110,10 +102,13 @@ fn births_go_on_when_keys_come_back(rt: HostRuntime) {
 
 /// Another record comes and goes, and the first one stays.
 fn one_comes_and_goes(held: &mut Held<u32>, birth: usize) -> bool {
-    let comes = push(held, 8) == Some(birth) && held.room() == 0;
-    let are_there = is_there(held, 0, 7) && is_there(held, birth, 8);
-    let goes = remove(held, birth) == Some(8) && is_gone(held, birth);
-    comes && are_there && goes && is_there(held, 0, 7)
+    pushes(held, 8, birth)
+        && held.room() == 0
+        && is_there(held, 0, 7)
+        && is_there(held, birth, 8)
+        && discards(held, birth, 8)
+        && is_gone(held, birth)
+        && is_there(held, 0, 7)
 }
 
 /// Returns the first of thousands of births that doesn't come and go.
@@ -139,7 +134,7 @@ fn one_is_left(held: &Held<u32>) -> bool {
 #[test]
 fn a_record_stays_while_thousands_come_and_go(rt: HostRuntime) {
     let mut held = Held::with_room(rt.alloc(), 2).expect(&rt, "records");
-    let (first, wrong) = (push(&mut held, 7), first_wrong(&mut held));
-    let found = (first, wrong, one_is_left(&held));
-    compare(&rt, "thousands", found, (Some(0), None, true));
+    let (comes, wrong) = (pushes(&mut held, 7, 0), first_wrong(&mut held));
+    let found = (comes, wrong, one_is_left(&held));
+    compare(&rt, "thousands", found, (true, None, true));
 }

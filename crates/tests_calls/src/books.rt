@@ -1,14 +1,15 @@
 //! One book or two, act by act: what each answers, and what it has recorded at the end.
 
+use crate::journals::one_by_one;
 use crate::rows::compare;
 use crate::texts::{SEVEN, TIMED, TURNS, accepted};
-use std::alloc::{AllocError, Global};
+use std::alloc::Global;
 use std::process::Abort;
 use sts_machine::Turned::{Idle, Stepped};
 use sts_machine::{Slice, Turned};
 use sts_model::Event::{Expire, Interrupt, Step};
 use sts_model::{End, Event};
-use sts_pool::Book;
+use sts_pool::{Book, OutsideFull};
 use sts_verify::Verified;
 
 /// Which of the two books.
@@ -200,14 +201,25 @@ static PAIRS: [Pair; 3] = [
     },
 ];
 
-/// Gives the slice back that is there. What the book doesn't take stays there. Returns whether the
-/// book took it, or nothing if there is none.
-fn gives_back<'p>(book: &mut Book<'p>, from: &mut Option<Slice<'p>>) -> Option<bool> {
-    match book.check_in(from.take()?) {
-        Ok(()) => Some(true),
+/// Returns whether an event from outside was taken, and what came of it is what is wanted.
+fn is_turned(answer: Result<Turned, OutsideFull>, wanted: Turned) -> bool {
+    match answer {
+        Ok(turned) => turned == wanted,
+        Err(OutsideFull) => false,
+    }
+}
+
+/// Gives the slice back that is there, and returns whether the book takes it or not as expected. What
+/// it doesn't take stays there.
+fn gives_back<'p>(book: &mut Book<'p>, from: &mut Option<Slice<'p>>, taken: bool) -> bool {
+    let Some(slice) = from.take() else {
+        return false;
+    };
+    match book.check_in(slice) {
+        Ok(()) => taken,
         Err(stranger) => {
             *from = Some(stranger.slice);
-            Some(false)
+            !taken
         }
     }
 }
@@ -231,9 +243,12 @@ impl<'p> Desk<'p> {
         Some(task)
     }
 
-    /// Does local instructions of the slice that is out, and returns how many.
-    fn goes_on(&mut self, limit: u32) -> Option<u32> {
-        self.slice.as_mut().map(|s| s.run_local(limit))
+    /// Does local instructions of the slice that is out, and returns whether they are so many.
+    fn goes_on(&mut self, limit: u32, wanted: u32) -> bool {
+        match &mut self.slice {
+            Some(slice) => slice.run_local(limit) == wanted,
+            None => false,
+        }
     }
 
     /// Does an act on the book, and returns whether the answer is the one that it has. An act with a
@@ -242,8 +257,8 @@ impl<'p> Desk<'p> {
         match act {
             Act::Idle(task) => self.book.turn(task) == Idle,
             Act::Steps(task, turns) => self.steps(task, turns),
-            Act::Interrupt(task, wanted) => self.book.outside(Interrupt(task)) == Ok(wanted),
-            Act::Expire(scope, wanted) => self.book.outside(Expire(scope)) == Ok(wanted),
+            Act::Interrupt(task, wanted) => is_turned(self.book.outside(Interrupt(task)), wanted),
+            Act::Expire(scope, wanted) => is_turned(self.book.outside(Expire(scope)), wanted),
             _ => true,
         }
     }
@@ -253,11 +268,9 @@ impl<'p> Desk<'p> {
     fn moves(&mut self, others: &mut Option<Slice<'p>>, act: Act) -> bool {
         match act {
             Act::Out(wanted) => self.takes_out() == wanted,
-            Act::Local(limit, wanted) => self.goes_on(limit) == Some(wanted),
-            Act::In(Whose::Own, taken) => {
-                gives_back(&mut self.book, &mut self.slice) == Some(taken)
-            }
-            Act::In(Whose::Others, taken) => gives_back(&mut self.book, others) == Some(taken),
+            Act::Local(limit, wanted) => self.goes_on(limit, wanted),
+            Act::In(Whose::Own, taken) => gives_back(&mut self.book, &mut self.slice, taken),
+            Act::In(Whose::Others, taken) => gives_back(&mut self.book, others, taken),
             _ => true,
         }
     }
@@ -303,20 +316,9 @@ fn first_wrong_of_both<'p>(
     None
 }
 
-/// Returns the events of a journal, one by one.
-fn one_by_one(alloc: Global, journal: &[(Event, u32)]) -> Result<Vec<Event>, AllocError> {
-    let mut events = Vec::new(alloc);
-    for (event, times) in journal {
-        for _ in 0..*times {
-            events.push(*event)?;
-        }
-    }
-    Ok(events)
-}
-
 /// Returns whether a book has recorded this end and these events.
 fn has_recorded<R: Abort>(rt: &R, alloc: Global, book: &Book<'_>, record: &Record) -> bool {
-    let journal = one_by_one(alloc, record.journal).expect(rt, "events");
+    let journal = one_by_one(rt, alloc, record.journal);
     book.root_end() == record.end && book.journal() == journal.as_slice()
 }
 

@@ -58,23 +58,22 @@ pub enum Call {
     IsOpen(u32, Joiner),
 }
 
-fn open(tree: &mut Tree<u8>, owner: u32, joiner: Joiner) -> Option<u32> {
-    if tree.scope_room() > 0 && tree.scopes_born() < 1000000 {
-        Some(tree.open_scope(owner, joiner, true, 7))
-    } else {
-        None
-    }
+/// Opens a scope, if there is room for it, and returns whether it has this birth.
+fn opens(tree: &mut Tree<u8>, owner: u32, joiner: Joiner, s: u32) -> bool {
+    tree.scope_room() > 0
+        && tree.scopes_born() < 1000000
+        && tree.open_scope(owner, joiner, true, 7) == s
 }
 
-fn add(tree: &mut Tree<u8>, s: u32) -> Option<u32> {
-    if tree.scope(s).is_some() && tree.task_room() > 0 && tree.tasks_born() < 1000000 {
-        Some(tree.add_subtask(s).0)
-    } else {
-        None
-    }
+/// Adds a subtask, if there is room for it, and returns whether it has this birth.
+fn adds(tree: &mut Tree<u8>, s: u32, t: u32) -> bool {
+    tree.scope(s).is_some()
+        && tree.task_room() > 0
+        && tree.tasks_born() < 1000000
+        && tree.add_subtask(s).0 == t
 }
 
-fn stand(tree: &mut Tree<u8>, t: u32, s: u32, stand: Stand) -> bool {
+fn stands(tree: &mut Tree<u8>, t: u32, s: u32, stand: Stand) -> bool {
     if tree.task(t).is_some() && tree.scope(s).is_some() && tree.owner(s) == t {
         if matches!(stand, Stand::Free) || stand == Stand::AtJoin(s) || stand == Stand::AtClose(s) {
             tree.stand(t, stand);
@@ -84,24 +83,20 @@ fn stand(tree: &mut Tree<u8>, t: u32, s: u32, stand: Stand) -> bool {
     false
 }
 
-fn end(tree: &mut Tree<u8>, t: u32, end: End) -> Option<bool> {
-    if tree.lives(t) {
-        Some(tree.end_task(t, end))
-    } else {
-        None
-    }
+/// Ends a task that lives, and returns whether its scope's joiner asks for a cancel as expected.
+fn ends(tree: &mut Tree<u8>, t: u32, end: End, asks: bool) -> bool {
+    tree.lives(t) && tree.end_task(t, end) == asks
 }
 
-fn closing(tree: &mut Tree<u8>, s: u32) -> bool {
-    if tree.scope(s).is_some() {
-        tree.set_phase(s, Phase::Closing);
-        true
-    } else {
-        false
+fn begins_to_close(tree: &mut Tree<u8>, s: u32) -> bool {
+    if tree.scope(s).is_none() {
+        return false;
     }
+    tree.set_phase(s, Phase::Closing);
+    true
 }
 
-fn close(tree: &mut Tree<u8>, s: u32) -> bool {
+fn closes(tree: &mut Tree<u8>, s: u32) -> bool {
     if tree.scope(s).is_some() && tree.living_front(s).is_none() {
         let owner = tree.owner(s);
         if tree.task(owner).is_some_and(|x| x.stand == Stand::Free) {
@@ -112,79 +107,67 @@ fn close(tree: &mut Tree<u8>, s: u32) -> bool {
     false
 }
 
-fn cancelled(tree: &mut Tree<u8>, s: u32) -> bool {
-    if tree.scope(s).is_some() {
-        cancel(tree, s);
-        true
-    } else {
-        false
+fn cancels(tree: &mut Tree<u8>, s: u32) -> bool {
+    if tree.scope(s).is_none() {
+        return false;
     }
+    cancel(tree, s);
+    true
 }
 
 /// Expires a scope, and returns whether it is expired and cancelled then.
-fn time_out(tree: &mut Tree<u8>, s: u32) -> bool {
-    if tree.scope(s).is_some() && !tree.cancelled(s) {
-        expire(tree, s);
-        tree.scope(s).is_some() && tree.expired(s) && tree.cancelled(s)
-    } else {
-        false
+fn expires(tree: &mut Tree<u8>, s: u32) -> bool {
+    if tree.scope(s).is_none() || tree.cancelled(s) {
+        return false;
     }
+    expire(tree, s);
+    tree.scope(s).is_some() && tree.expired(s) && tree.cancelled(s)
 }
 
-fn interrupted(tree: &mut Tree<u8>, t: u32) -> bool {
-    if tree.task(t).is_some() {
-        interrupt(tree, t);
-        true
-    } else {
-        false
+fn interrupts(tree: &mut Tree<u8>, t: u32) -> bool {
+    if tree.task(t).is_none() {
+        return false;
     }
+    interrupt(tree, t);
+    true
 }
 
-fn clear_flag(tree: &mut Tree<u8>, t: u32) -> bool {
-    if tree.task(t).is_some() {
-        tree.clear_flag(t);
-        true
-    } else {
-        false
+fn clears_flag(tree: &mut Tree<u8>, t: u32) -> bool {
+    if tree.task(t).is_none() {
+        return false;
     }
+    tree.clear_flag(t);
+    true
 }
 
-fn take_flag(tree: &mut Tree<u8>, t: u32) -> Option<bool> {
-    if tree.task(t).is_some() {
-        Some(tree.take_flag(t))
-    } else {
-        None
-    }
+/// Takes the flag of a task, and returns whether it was as expected.
+fn takes_flag(tree: &mut Tree<u8>, t: u32, was: bool) -> bool {
+    tree.task(t).is_some() && tree.take_flag(t) == was
 }
 
-/// Returns how many tasks are in the ready list, if each of them can step.
-fn ready_count(tree: &Tree<u8>) -> Option<u32> {
+/// Returns whether this many tasks are in the ready list, and each of them can step.
+fn has_ready(tree: &Tree<u8>, wanted: u32) -> bool {
     let mut at = tree.ready_front();
     for count in 0..65537 {
         let Some(t) = at else {
-            return Some(count);
+            return count == wanted;
         };
-        if tree.can_step(t) {
-            at = tree.ready_after(t);
-        } else {
-            return None;
+        if !tree.can_step(t) {
+            return false;
         }
+        at = tree.ready_after(t);
     }
-    Some(65537)
+    wanted == 65537
 }
 
-fn flag(tree: &Tree<u8>, t: u32) -> Option<bool> {
-    if tree.task(t).is_some() {
-        Some(tree.flag(t))
-    } else {
-        None
-    }
+fn has_flag(tree: &Tree<u8>, t: u32, set: bool) -> bool {
+    tree.task(t).is_some() && tree.flag(t) == set
 }
 
-fn are_flags(tree: &Tree<u8>, flags: &[bool]) -> bool {
+fn have_flags(tree: &Tree<u8>, flags: &[bool]) -> bool {
     let mut t = 0u32;
     for set in flags {
-        if flag(tree, t) != Some(*set) {
+        if !has_flag(tree, t, *set) {
             return false;
         }
         t = t.saturating_add(1);
@@ -192,21 +175,13 @@ fn are_flags(tree: &Tree<u8>, flags: &[bool]) -> bool {
     true
 }
 
-/// Returns how a task ended, if it has a record.
-fn state(tree: &Tree<u8>, t: u32) -> Option<Option<End>> {
-    if tree.task(t).is_some() {
-        Some(tree.state(t))
-    } else {
-        None
-    }
+/// Returns whether a task has a record and ended so.
+fn ended(tree: &Tree<u8>, t: u32, end: Option<End>) -> bool {
+    tree.task(t).is_some() && tree.state(t) == end
 }
 
-fn scope_of(tree: &Tree<u8>, t: u32) -> Option<u32> {
-    if tree.task(t).is_some() {
-        tree.scope_of(t)
-    } else {
-        None
-    }
+fn is_of(tree: &Tree<u8>, t: u32, s: u32) -> bool {
+    tree.task(t).is_some() && tree.scope_of(t) == Some(s)
 }
 
 /// Returns the subtask at a place in fork order, from 0 on.
@@ -219,73 +194,58 @@ fn forked(tree: &Tree<u8>, s: u32, place: u32) -> Option<u32> {
     at
 }
 
-fn count(tree: &Tree<u8>, s: u32, kind: Kind) -> Option<u32> {
-    if tree.scope(s).is_some() {
-        Some(tree.count(s, kind))
-    } else {
-        None
-    }
+fn has_count(tree: &Tree<u8>, s: u32, kind: Kind, count: u32) -> bool {
+    tree.scope(s).is_some() && tree.count(s, kind) == count
 }
 
-fn subtasks(tree: &Tree<u8>, s: u32) -> Option<(u32, bool)> {
-    if tree.scope(s).is_some() {
-        Some((tree.subtasks(s), tree.any_lives(s)))
-    } else {
-        None
-    }
+fn has_subtasks(tree: &Tree<u8>, s: u32, count: u32, live: bool) -> bool {
+    tree.scope(s).is_some() && tree.subtasks(s) == count && tree.any_lives(s) == live
 }
 
-fn result(tree: &Tree<u8>, s: u32) -> Option<(Verdict, i64)> {
-    if tree.scope(s).is_some() {
-        Some((tree.result(s), tree.total(s)))
-    } else {
-        None
-    }
+fn has_result(tree: &Tree<u8>, s: u32, verdict: Verdict, sum: i64) -> bool {
+    tree.scope(s).is_some() && tree.result(s) == verdict && tree.total(s) == sum
 }
 
-/// Returns the task under the key of this task, which is the same.
-fn task_again(tree: &Tree<u8>, t: u32) -> Option<u32> {
+/// Returns whether a task has a record, and is the task under its key. Or whether it has none.
+fn has_task(tree: &Tree<u8>, t: u32, has: bool) -> bool {
     match tree.key_of(t) {
-        None => None,
-        Some(key) => Some(tree.birth(key)),
+        None => !has,
+        Some(key) => has && tree.birth(key) == t,
     }
 }
 
-/// Returns the scope under the key of this scope, which is the same.
-fn scope_again(tree: &Tree<u8>, s: u32) -> Option<u32> {
+/// Returns whether a scope has a record, and is the scope under its key. Or whether it has none.
+fn has_scope(tree: &Tree<u8>, s: u32, has: bool) -> bool {
     match tree.scope_key_of(s) {
-        None => None,
-        Some(key) => Some(tree.scope_birth(key)),
+        None => !has,
+        Some(key) => has && tree.scope_birth(key) == s,
     }
 }
 
 /// Returns whether a scope is open, timed, and has the environment 7 and this joiner.
 fn is_open(tree: &Tree<u8>, s: u32, joiner: Joiner) -> bool {
-    if tree.scope(s).is_some() {
-        tree.env(s) == &7
-            && tree.timed(s)
-            && tree.joiner(s) == joiner
-            && tree.phase(s) == Phase::Opened
-    } else {
-        false
-    }
+    tree.scope(s).is_some()
+        && tree.env(s) == &7
+        && tree.timed(s)
+        && tree.joiner(s) == joiner
+        && tree.phase(s) == Phase::Opened
 }
 
 /// Makes a call, and returns whether it may be made and its answer is the expected one. A question
 /// makes none.
 fn make(tree: &mut Tree<u8>, call: Call) -> bool {
     match call {
-        Call::Open(owner, joiner, s) => open(tree, owner, joiner) == Some(s),
-        Call::Add(s, t) => add(tree, s) == Some(t),
-        Call::Stand(t, s, at) => stand(tree, t, s, at),
-        Call::End(t, e, asks) => end(tree, t, e) == Some(asks),
-        Call::Closing(s) => closing(tree, s),
-        Call::Close(s) => close(tree, s),
-        Call::Cancel(s) => cancelled(tree, s),
-        Call::Expire(s) => time_out(tree, s),
-        Call::Interrupt(t) => interrupted(tree, t),
-        Call::ClearFlag(t) => clear_flag(tree, t),
-        Call::TakeFlag(t, was) => take_flag(tree, t) == Some(was),
+        Call::Open(owner, joiner, s) => opens(tree, owner, joiner, s),
+        Call::Add(s, t) => adds(tree, s, t),
+        Call::Stand(t, s, stand) => stands(tree, t, s, stand),
+        Call::End(t, end, asks) => ends(tree, t, end, asks),
+        Call::Closing(s) => begins_to_close(tree, s),
+        Call::Close(s) => closes(tree, s),
+        Call::Cancel(s) => cancels(tree, s),
+        Call::Expire(s) => expires(tree, s),
+        Call::Interrupt(t) => interrupts(tree, t),
+        Call::ClearFlag(t) => clears_flag(tree, t),
+        Call::TakeFlag(t, was) => takes_flag(tree, t, was),
         _ => true,
     }
 }
@@ -293,14 +253,14 @@ fn make(tree: &mut Tree<u8>, call: Call) -> bool {
 /// Returns whether the answer of a question about a task is the expected one.
 fn ask_of_task(tree: &Tree<u8>, call: Call) -> bool {
     match call {
-        Call::Ready(n) => ready_count(tree) == Some(n),
+        Call::Ready(count) => has_ready(tree, count),
         Call::Steps(t, can) => tree.can_step(t) == can,
         Call::Lives(t, lives) => tree.lives(t) == lives,
-        Call::Flag(t, set) => flag(tree, t) == Some(set),
-        Call::Flags(flags) => are_flags(tree, flags),
-        Call::State(t, end) => state(tree, t) == Some(end),
-        Call::IsOf(t, s) => scope_of(tree, t) == Some(s),
-        Call::HasTask(t, has) => task_again(tree, t) == has.then_some(t),
+        Call::Flag(t, set) => has_flag(tree, t, set),
+        Call::Flags(flags) => have_flags(tree, flags),
+        Call::State(t, end) => ended(tree, t, end),
+        Call::IsOf(t, s) => is_of(tree, t, s),
+        Call::HasTask(t, has) => has_task(tree, t, has),
         _ => true,
     }
 }
@@ -309,23 +269,69 @@ fn ask_of_task(tree: &Tree<u8>, call: Call) -> bool {
 fn ask_of_scope(tree: &Tree<u8>, call: Call) -> bool {
     match call {
         Call::Forked(s, place, t) => forked(tree, s, place) == t,
-        Call::Count(s, kind, n) => count(tree, s, kind) == Some(n),
-        Call::Subtasks(s, n, live) => subtasks(tree, s) == Some((n, live)),
-        Call::Result(s, verdict, sum) => result(tree, s) == Some((verdict, sum)),
+        Call::Count(s, kind, count) => has_count(tree, s, kind, count),
+        Call::Subtasks(s, count, live) => has_subtasks(tree, s, count, live),
+        Call::Result(s, verdict, sum) => has_result(tree, s, verdict, sum),
         Call::Room(tasks, scopes) => tree.task_room() == tasks && tree.scope_room() == scopes,
-        Call::HasScope(s, has) => scope_again(tree, s) == has.then_some(s),
+        Call::HasScope(s, has) => has_scope(tree, s, has),
         Call::IsOpen(s, joiner) => is_open(tree, s, joiner),
         _ => true,
     }
+}
+
+/// Makes a call, and returns whether it may be made and its answer is the expected one.
+fn is_right(tree: &mut Tree<u8>, call: Call) -> bool {
+    make(tree, call) && ask_of_task(tree, call) && ask_of_scope(tree, call)
 }
 
 /// Makes calls in order on a tree, and compares what each answers. Returns the place of the first
 /// that may not be made, or whose answer is another one.
 pub fn first_wrong(tree: &mut Tree<u8>, calls: &[Call]) -> Option<usize> {
     for (i, call) in calls.iter().enumerate() {
-        if !(make(tree, *call) && ask_of_task(tree, *call) && ask_of_scope(tree, *call)) {
+        if !is_right(tree, *call) {
             return Some(i);
         }
     }
     None
+}
+
+/// Returns whether each of these calls has its answer.
+pub fn fits(tree: &mut Tree<u8>, calls: &[Call]) -> bool {
+    first_wrong(tree, calls).is_none()
+}
+
+/// A call that is made on many births in turn.
+#[derive(Clone, Copy)]
+pub enum Each {
+    /// The root opens the scope.
+    Open,
+    /// The key of the scope leads back to it.
+    HasScope,
+    Close,
+    /// This scope gets the subtask.
+    Add(u32),
+    /// The subtask ends.
+    End,
+}
+
+impl Each {
+    fn call(self, birth: u32) -> Call {
+        match self {
+            Each::Open => Call::Open(0, Joiner::AwaitAll, birth),
+            Each::HasScope => Call::HasScope(birth, true),
+            Each::Close => Call::Close(birth),
+            Each::Add(scope) => Call::Add(scope, birth),
+            Each::End => Call::End(birth, End::Success(1), false),
+        }
+    }
+}
+
+/// Makes a call on each of these births, up to the end, and returns whether each has its answer.
+pub fn each_fits(tree: &mut Tree<u8>, each: Each, first: u32, end: u32) -> bool {
+    for birth in first..end {
+        if !is_right(tree, each.call(birth)) {
+            return false;
+        }
+    }
+    true
 }

@@ -1,6 +1,6 @@
 //! Calls of the tree: three subtasks under a joiner, births that come and go, and who can step then.
 
-use crate::calls::{Call, first_wrong};
+use crate::calls::{Call, Each, each_fits, first_wrong, fits};
 use crate::rows::compare;
 use std::alloc::Global;
 use std::process::Abort;
@@ -170,20 +170,10 @@ fn each_call_has_its_answer(rt: HostRuntime) {
 /// How many subtasks the largest scope has.
 const MOST: u32 = 65535;
 
-/// The root opens a scope, which gets as many subtasks as it may have, from this birth on. Returns
-/// whether each call has its answer.
-fn open_full(tree: &mut Tree<u8>, scope: u32, first: u32) -> bool {
-    for t in first..first.saturating_add(MOST) {
-        if first_wrong(tree, &[Call::Add(scope, t)]).is_some() {
-            return false;
-        }
-    }
-    true
-}
-
-/// The first and the last subtask hear a cancel. Returns the first call with another answer.
-fn cancel_full(tree: &mut Tree<u8>, scope: u32, first: u32, last: u32) -> Option<usize> {
-    first_wrong(
+/// The first and the last subtask hear a cancel. Returns whether each call has its
+/// answer.
+fn cancel_full(tree: &mut Tree<u8>, scope: u32, first: u32, last: u32) -> bool {
+    fits(
         tree,
         &[
             Call::Room(0, 0),
@@ -201,19 +191,9 @@ fn cancel_full(tree: &mut Tree<u8>, scope: u32, first: u32, last: u32) -> Option
     )
 }
 
-/// All subtasks end. Returns whether each call has its answer.
-fn end_full(tree: &mut Tree<u8>, first: u32) -> bool {
-    for t in first..first.saturating_add(MOST) {
-        if first_wrong(tree, &[Call::End(t, End::Success(1), false)]).is_some() {
-            return false;
-        }
-    }
-    true
-}
-
-/// Room comes back when the scope is closed. Returns the first call with another answer.
-fn close_full(tree: &mut Tree<u8>, scope: u32) -> Option<usize> {
-    first_wrong(
+/// Room comes back when the scope is closed. Returns whether each call has its answer.
+fn close_full(tree: &mut Tree<u8>, scope: u32) -> bool {
+    fits(
         tree,
         &[
             Call::Subtasks(scope, MOST, false),
@@ -227,12 +207,12 @@ fn close_full(tree: &mut Tree<u8>, scope: u32) -> Option<usize> {
 /// A scope with 65,535 subtasks comes and goes.
 fn comes_and_goes(tree: &mut Tree<u8>, scope: u32) -> bool {
     let first = scope.saturating_mul(MOST).saturating_add(1);
-    let last = first.saturating_add(MOST - 1);
-    first_wrong(tree, &[Call::Open(0, Joiner::AwaitAll, scope)]).is_none()
-        && open_full(tree, scope, first)
-        && cancel_full(tree, scope, first, last).is_none()
-        && end_full(tree, first)
-        && close_full(tree, scope).is_none()
+    let end = first.saturating_add(MOST);
+    fits(tree, &[Call::Open(0, Joiner::AwaitAll, scope)])
+        && each_fits(tree, Each::Add(scope), first, end)
+        && cancel_full(tree, scope, first, end.saturating_sub(1))
+        && each_fits(tree, Each::End, first, end)
+        && close_full(tree, scope)
 }
 
 /// Returns the first of ten turns in which a call has another answer.

@@ -12,7 +12,7 @@ use sts_verify::Verified;
 /// Fills a book with outside events that are idle.
 fn fill(book: &mut Book<'_>) -> bool {
     for _ in 0..4096u32 {
-        if book.outside(Event::Interrupt(77)) != Ok(Turned::Idle) {
+        if !matches!(book.outside(Event::Interrupt(77)), Ok(Turned::Idle)) {
             return false;
         }
     }
@@ -21,8 +21,8 @@ fn fill(book: &mut Book<'_>) -> bool {
 
 /// A full book refuses an interrupt and an expiry.
 fn refuses(book: &mut Book<'_>) -> bool {
-    book.outside(Event::Interrupt(0)) == Err(OutsideFull)
-        && book.outside(Event::Expire(0)) == Err(OutsideFull)
+    matches!(book.outside(Event::Interrupt(0)), Err(OutsideFull))
+        && matches!(book.outside(Event::Expire(0)), Err(OutsideFull))
         && book.journal().len() == 4096
 }
 
@@ -30,7 +30,7 @@ fn refuses(book: &mut Book<'_>) -> bool {
 fn goes_on(book: &mut Book<'_>) -> bool {
     book.turn(0) == Turned::Stepped
         && book.turn(0) == Turned::Stepped
-        && book.root_end() == Some(End::Success(7))
+        && matches!(book.root_end(), Some(End::Success(7)))
         && book.journal().len() == 4098
 }
 

@@ -14,7 +14,10 @@ static OPEN: [usize; 11] = [0, 0, 0, 1, 1, 1, 0, 1, 0, 0, 0];
 /// Returns whether as many entries are open at each place as `OPEN` says.
 fn is_open_there(typing: &Typing) -> bool {
     for pc in 0..typing.len() {
-        if OPEN.get(pc) != Some(&typing.entries(pc).len()) {
+        let Some(open) = OPEN.get(pc) else {
+            return false;
+        };
+        if *open != typing.entries(pc).len() {
             return false;
         }
     }

@@ -23,6 +23,8 @@ mod full;
 #[cfg(test)]
 mod interrupts;
 #[cfg(test)]
+mod journals;
+#[cfg(test)]
 mod layouts;
 #[cfg(test)]
 mod lists;

@@ -1,7 +1,5 @@
 //! The two ways of a run: with its journal written, and with none.
 
-ghost use Rattle.std.specs.Prelude.{◌≤◌};
-
 use crate::rows::compare;
 use crate::texts::accepted;
 use std::alloc::Global;
@@ -67,22 +65,6 @@ fn reported<R: Abort>(
     }
 }
 
-/// Returns what came of a run whose journal is written.
-fn of_written<R: Abort + Threads + Wait + Sync, G: Gate + Sync, O: Outside + Send + Drop>(
-    rt: &R,
-    alloc: Global,
-    text: &str,
-    workers: u32,
-    gate: &G,
-    outside: O,
-) -> Outcome
-    requires { (1 ≤ workers) × (workers ≤ 16) }
-{
-    let verified = accepted(rt, alloc, text);
-    let report = run(rt, alloc, &verified, workers, gate, outside).expect(rt, "a run");
-    reported(rt, alloc, &verified, workers, &report)
-}
-
 /// Returns what came of a run whose journal wasn't written. All workers came.
 fn counted<R: Abort>(rt: &R, workers: u32, ending: &Ending) -> Outcome {
     compare(rt, "all workers", ending.workers, workers);
@@ -93,22 +75,6 @@ fn counted<R: Abort>(rt: &R, workers: u32, ending: &Ending) -> Outcome {
         entries: ending.steps.saturating_add(came),
         idle: ending.counted.iter().filter(|counts| !**counts).count() as u64,
     }
-}
-
-/// Returns what came of a run whose journal isn't written.
-fn of_unwritten<R: Abort + Threads + Wait + Sync, G: Gate + Sync, O: Outside + Send + Drop>(
-    rt: &R,
-    alloc: Global,
-    text: &str,
-    workers: u32,
-    gate: &G,
-    outside: O,
-) -> Outcome
-    requires { (1 ≤ workers) × (workers ≤ 16) }
-{
-    let verified = accepted(rt, alloc, text);
-    let ended = run_unwritten(rt, alloc, &verified, workers, gate, outside).expect(rt, "a run");
-    counted(rt, workers, &ended)
 }
 
 /// Returns what came of a run of a text on its path with this number of workers.
@@ -122,8 +88,15 @@ pub fn ending<R: Abort + Threads + Wait + Sync, G: Gate + Sync, O: Outside + Sen
     outside: O,
 ) -> Outcome {
     assert!(rt; 1 <= workers && workers <= 16);
+    let verified = accepted(rt, alloc, text);
     match path {
-        Path::Written => of_written(rt, alloc, text, workers, gate, outside),
-        Path::Unwritten => of_unwritten(rt, alloc, text, workers, gate, outside),
+        Path::Written => {
+            let ran = run(rt, alloc, &verified, workers, gate, outside);
+            reported(rt, alloc, &verified, workers, &ran.expect(rt, "a run"))
+        }
+        Path::Unwritten => {
+            let ran = run_unwritten(rt, alloc, &verified, workers, gate, outside);
+            counted(rt, workers, &ran.expect(rt, "a run"))
+        }
     }
 }

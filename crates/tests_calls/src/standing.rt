@@ -1,21 +1,20 @@
 //! The numbers that count after some steps, and the room that is left.
 
+use crate::journals::one_by_one;
 use crate::rows::compare;
 use crate::texts::{BOUND, DOUBLES, THOUSAND, accepted};
-use std::alloc::{AllocError, Global};
+use std::alloc::Global;
 use std::process::Abort;
 use sts_machine::{Machine, Standing, Turned, replay};
+use sts_model::Event::Step;
 use sts_model::{End, Event};
 use sts_verify::Verified;
-
-/// A task, and a number of its steps.
-struct Steps(u32, u16);
 
 /// A text, steps of its tasks in order, and the numbers that count afterwards, with the room that
 /// is left.
 struct Point {
     text: &'static str,
-    steps: &'static [Steps],
+    steps: &'static [(Event, u32)],
     standing: Standing,
     room: Standing,
 }
@@ -29,7 +28,7 @@ const ROOT_ALONE: Standing = Standing {
 static POINTS: [Point; 3] = [
     Point {
         text: DOUBLES,
-        steps: &[Steps(0, 5), Steps(1, 4), Steps(2, 4), Steps(0, 5)],
+        steps: &[(Step(0), 5), (Step(1), 4), (Step(2), 4), (Step(0), 5)],
         standing: Standing {
             tasks: 3,
             scopes: 1,
@@ -43,7 +42,7 @@ static POINTS: [Point; 3] = [
     },
     Point {
         text: DOUBLES,
-        steps: &[Steps(0, 5), Steps(1, 4), Steps(2, 4), Steps(0, 6)],
+        steps: &[(Step(0), 5), (Step(1), 4), (Step(2), 4), (Step(0), 6)],
         standing: Standing {
             tasks: 1,
             scopes: 0,
@@ -57,7 +56,7 @@ static POINTS: [Point; 3] = [
     },
     Point {
         text: BOUND,
-        steps: &[Steps(0, 4)],
+        steps: &[(Step(0), 4)],
         standing: Standing {
             tasks: 2,
             scopes: 1,
@@ -70,16 +69,6 @@ static POINTS: [Point; 3] = [
         },
     },
 ];
-
-fn events(alloc: Global, steps: &[Steps]) -> Result<Vec<Event>, AllocError> {
-    let mut events = Vec::new(alloc);
-    for some in steps {
-        for _ in 0..some.1 {
-            events.push(Event::Step(some.0))?;
-        }
-    }
-    Ok(events)
-}
 
 /// The numbers that count, with the room that is left, and whether a subtask and a scope have a key.
 type Found = (Standing, Standing, bool, bool);
@@ -98,7 +87,7 @@ fn found_after<R: Abort>(rt: &R, alloc: Global, verified: &Verified, events: &[E
 /// Returns what counts at a point.
 fn found_at<R: Abort>(rt: &R, alloc: Global, point: &Point) -> Found {
     let verified = accepted(rt, alloc, point.text);
-    let events = events(alloc, point.steps).expect(rt, "events");
+    let events = one_by_one(rt, alloc, point.steps);
     found_after(rt, alloc, &verified, events.as_slice())
 }
 
@@ -123,7 +112,7 @@ fn stand_one_at_a_time(machine: &mut Machine<'_>) -> bool {
         let Some(task) = machine.ready() else {
             return true;
         };
-        let is_step = machine.turn(Event::Step(task)) == Turned::Stepped;
+        let is_step = machine.turn(Step(task)) == Turned::Stepped;
         let room = machine.room();
         let is_alone = room.tasks <= 1 && room.scopes <= 1 && room.binds == 0;
         if !is_step || !is_alone || machine.steps() != step + 1 {
