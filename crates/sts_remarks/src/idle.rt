@@ -115,17 +115,17 @@ fn counts(world: &World, program: &Program, event: Event) -> bool
     }
 }
 
-/// Returns which of these events is the first that did nothing, and why.
-fn first_idle(
+/// Returns which of these events is the first that does nothing after a position, and why.
+fn first_idle_after(
     alloc: Global,
     unit: &str,
     program: &Program,
+    position: &mut Position,
     events: &[Event],
 ) -> Result<Option<String>, AllocError>
     ensures { IfOk result (λ r. option_map string_bytes r
-        ≡ def.first_idle unit.now program.now (opening program.now) 1 events.now) }
+        ≡ def.first_idle unit.now program.now position.old 1 events.now) }
 {
-    let mut position = Position::opening(alloc, program)?;
     for i in 0..events.len() {
         let Some(world) = position.world() else {
             return Ok(None);
@@ -137,6 +137,20 @@ fn first_idle(
         position.apply(alloc, program, events[i])?;
     }
     Ok(None)
+}
+
+/// Returns which of these events is the first that did nothing, and why.
+fn first_idle(
+    alloc: Global,
+    unit: &str,
+    program: &Program,
+    events: &[Event],
+) -> Result<Option<String>, AllocError>
+    ensures { IfOk result (λ r. option_map string_bytes r
+        ≡ def.first_idle unit.now program.now (opening program.now) 1 events.now) }
+{
+    let mut position = Position::opening(alloc, program)?;
+    first_idle_after(alloc, unit, program, &mut position, events)
 }
 
 /// Returns a line about a trace; the words follow the name of the trace.

@@ -3,7 +3,7 @@
 use crate::idle::idle_line;
 use crate::watched::unwritten_line;
 use std::alloc::Global;
-use std::io::ErrorKind;
+use std::io::{ErrorKind, Write};
 use sts_asm::assemble;
 use sts_output::{Named, Notes};
 use sts_trace::read_trace;
@@ -81,6 +81,12 @@ impl Remarks {
         if let Ok(Some(line)) = line {
             self.add(line.as_slice());
         }
+    }
+
+    /// Writes why something failed, and then the other lines, as far as they can be written.
+    pub fn write<E: Write>(&self, err: &mut E) {
+        let _told = err.write_all(self.notes.lines());
+        let _told = err.write_all(self.lines());
     }
 
     /// Adds why standard output was not written, if a write failed.

@@ -1,9 +1,9 @@
-use Rattle.std.proofs.Common.{◌≡◌, ◌+◌, ◌∙◌, sym, refl, drop, true}
-use Rattle.sts_plain.specs.Seen.{is_fault}
-use Rattle.sts_remarks.proofs.Events.{first_idle-fault}
+use Rattle.std.proofs.Common.{◌≡◌, subst}
+use Rattle.std.specs.Prelude.{IfOk, option_map}
+use Rattle.std.specs.String.{string_bytes}
+use Rattle.sts_remarks.specs.Idle as def
 use Rattle.sts_remarks.proofs.idle.first_idle.Goals as goal
 
-pub returns-in_default : goal.returns-in_default
-returns-in_default c =
-    let faulted : is_fault c.loop-i.position ≡ true = cc (c.in_default.ensures.fault refl) in
-    sym (first_idle-fault c.args.unit.now c.args.program.now c.loop-i.position (c.loop-i.i + 1) (drop c.loop-i.i c.args.events.now) faulted) ∙ c.loop-i.invariant
+pub returns : goal.returns
+returns c =
+    subst (λ s. IfOk c.first_idle_after.result (λ r. option_map string_bytes r ≡ def.first_idle c.args.unit.now c.args.program.now s 1 c.args.events.now)) c.in_ok-position.ensures c.first_idle_after.ensures
