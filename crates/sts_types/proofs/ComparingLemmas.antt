@@ -135,6 +135,9 @@ module _ {X : Type 0} (E : X → X → Bool) (same : IsSame E) where
 pub are_same_loops : (xs ys a b : List TypedLoop) (r : Bool) → reverse xs ≡ a → reverse ys ≡ b → r ≡ pointwise loop_eq.eq-value.it xs ys → IsTrue r ↔ (a ≡ b)
 are_same_loops = stacks_same _ loops_same
 
+pub are_same_entries : (xs ys a b : List TypedEntry) (r : Bool) → reverse xs ≡ a → reverse ys ≡ b → r ≡ pointwise entry_eq.eq-value.it xs ys → IsTrue r ↔ (a ≡ b)
+are_same_entries = stacks_same _ entries_same
+
 pub is_same_entry : (a b : TypedEntry) (r : Bool) → r ≡ entry_eq.eq-value.it a b → IsTrue r ↔ (a ≡ b)
 is_same_entry a b r e = (λ t. entries_same.0 a b (sym e ∙ t), λ k. e ∙ subst (λ x. entry_eq.eq-value.it a x ≡ true) k (entries_same.1 a))
 

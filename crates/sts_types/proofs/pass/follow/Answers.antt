@@ -1,4 +1,4 @@
-use Rattle.std.proofs.Common.{◌∙◌, ◌≤◌, length, slice_get, sym, ap, arith}
+use Rattle.std.proofs.Common.{◌∙◌, length, slice_get, sym, ap, arith}
 use Rattle.sts_rules.specs.Edges.{follows}
 use Rattle.sts_types.proofs.Arriving.{place_within}
 use Rattle.sts_types.proofs.pass.follow.Goals as goal
