@@ -1,6 +1,6 @@
 //! The counters of the ends of a scope's subtasks.
 
-ghost use Rattle.std.specs.Prelude.{◌≡◌, ◌<◌, [], ◌∷◌, ◌++◌, List, count_by, option_map};
+ghost use Rattle.std.specs.Prelude.{◌≡◌, ◌<◌, ◌+◌, [], ◌∷◌, ◌++◌, List, count_by, option_map};
 ghost use Rattle.sts_code.specs.declared.limits.TheConstants.{MAX_STANDING};
 ghost use Rattle.sts_model.specs.declared.event.End.{End as AnyEnd};
 ghost use Rattle.sts_model.specs.declared.event.End.TheVariants.{Success, Failed};
@@ -65,6 +65,15 @@ impl Tally {
     }
 }
 
+/// Counts one end more.
+#[inline(always)]
+fn count_one(count: &mut u32)
+    requires { count.old < MAX_STANDING }
+    ensures { count.new ≡ count.old + 1 }
+{
+    *count += 1;
+}
+
 impl Tally {
     /// The tally of no ends.
     pub fn new(joiner: Joiner) -> Self
@@ -109,24 +118,18 @@ impl Tally {
         requires { ends_told self.old < MAX_STANDING }
         ensures { self.new ≡ with_end self.old (Success value) }
     {
-        *self = Tally {
-            successes: self.successes + 1,
-            first_success: self.first_success.or(Some(value)),
-            reached: self.reached || is_awaited(self.joiner, value),
-            total: sum(self.total, value),
-            ..*self
-        };
+        count_one(&mut self.successes);
+        self.first_success = self.first_success.or(Some(value));
+        self.reached = self.reached || is_awaited(self.joiner, value);
+        self.total = sum(self.total, value);
     }
 
     fn add_failure(&mut self, code: i64)
         requires { ends_told self.old < MAX_STANDING }
         ensures { self.new ≡ with_end self.old (Failed code) }
     {
-        *self = Tally {
-            failures: self.failures + 1,
-            first_failure: self.first_failure.or(Some(code)),
-            ..*self
-        };
+        count_one(&mut self.failures);
+        self.first_failure = self.first_failure.or(Some(code));
     }
 
     fn cancels(&self) -> bool

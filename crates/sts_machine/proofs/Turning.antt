@@ -1,11 +1,13 @@
 -- The facts that the laws of runs give a machine at an event.
-use Rattle.std.proofs.Common.{◌≡◌, ℕ, ◌+◌, ◌<◌, ◌≤◌, List, [], ◌∷◌, ◌++◌, length, Bool, true, false, Option, Some, None, refl, sym, ◌∙◌, ap, subst, cond, arith, get_or}
+use Rattle.std.proofs.Common.{◌≡◌, ℕ, ◌+◌, ◌<◌, ◌≤◌, List, [], ◌∷◌, ◌++◌, length, Bool, true, false, Option, Some, None, refl, sym, ◌∙◌, ap, subst, cond, arith, get_or, nat_lt}
 use Rattle.std.specs.Prelude.{count_by, is_some}
 use Rattle.std.proofs.lemmas.Bool.{and_parts}
 use Rattle.std.proofs.lemmas.Option.{get_or_from_slice_get, slice_get_within}
 use Rattle.std.specs.List.{slice_get}
 use Rattle.std.proofs.lemmas.List.Sums.{sum_by-cons}
-use Rattle.sts_code.specs.Program.{Program}
+use Rattle.std.proofs.lemmas.Bool.Decides.{nat_tests}
+use Rattle.std.proofs.lemmas.List.{get_or_past}
+use Rattle.sts_code.specs.Program.{Program, Routine, no_routine}
 use Rattle.sts_code.specs.declared.instr.Instr.{Instr}
 use Rattle.sts_code.specs.declared.instr.Instr.TheVariants.{Open, Fork, Bind}
 use Rattle.sts_rules.specs.declared.budget.Budgets.{Budgets}
@@ -63,6 +65,21 @@ module _ (p q : Program) (f g : Frame) (xs : List Instr) (same : q ≡ p) (here 
 
   pub at_hand : (d : Instr) → instr_at p f ≡ Some (get_or xs g.pc d)
   at_hand d = next.1 ∙ ap (λ i. Some i) (sym (get_or_from_slice_get xs g.pc next.0 d got))
+
+-- a function with a next instruction is there
+pub has_function : (p q : Program) (f g : Frame) → q ≡ p → g ≡ f → (i : Instr) × (instr_at p f ≡ Some i) → g.function < length q.routines
+has_function p q f g same here next = by (nat_lt g.function (length q.routines)) refl
+  where
+    is : slice_get (code q g) g.pc ≡ Some next.0
+    is = ap (instr_at q) here ∙ ap (λ r. instr_at r f) same ∙ next.1
+
+    by : (t : Bool) → nat_lt g.function (length q.routines) ≡ t → g.function < length q.routines
+    by true e = grind (arith, nat_tests)
+    by false e =
+        let past : length q.routines ≤ g.function = grind (arith, nat_tests) in
+        let none : code q g ≡ [] = ap (λ (r : Routine). r.code) (get_or_past q.routines g.function no_routine past) in
+        let never : None ≡ Some next.0 = ap (λ xs. slice_get xs g.pc) (sym none) ∙ is in
+        cc
 
 -- a step of a task that can step
 pub stepped : (p : Program) (v : Live) (t : ℕ) (i : Instr) → live_can_step p v t ≡ true → instr_at p (alive_at v t).frame ≡ Some i → live_apply p v (event.Step t) ≡ live_effect p v t (alive_at v t).frame i

@@ -1,6 +1,8 @@
 //! The machine.
 
-ghost use Rattle.std.specs.Prelude.{◌≡◌, ◌+◌, ◌++◌, ◌∷◌, [], ℕ, List, true, IfOk};
+ghost use Rattle.std.specs.Prelude.{◌≡◌, ◌+◌, ◌<◌, ◌≤◌, ◌++◌, ◌∷◌, [], ℕ, List, length, true, IfOk};
+ghost use Rattle.sts_code.specs.Program.{routine};
+ghost use Rattle.sts_code.specs.declared.limits.TheConstants.{MAX_INSTRUCTIONS};
 ghost use Rattle.laws_accepted.specs.Accepted.{main_of};
 ghost use Rattle.laws_accepted.specs.EveryRun.{RunsWell};
 ghost use Rattle.sts_machine.specs.Laws.{HasLaws};
@@ -24,10 +26,21 @@ use crate::turned::Turned;
 use laws_live::{run_is_seen, stands_are_owned};
 use std::alloc::{AllocError, Global};
 use std::marker::Model;
-use sts_frames::code;
+use sts_code::{Instr, Program};
 use sts_model::{End, Event};
 use sts_store::{Room, Store};
 use sts_verify::Verified;
+
+/// The instructions of a function that is there.
+#[inline(always)]
+fn code_there(program: &Program, function: u32) -> &[Instr]
+    requires { function < length program.now.routines }
+    ensures value { result.now ≡ (routine program.now function).code }
+    ensures short { length result.now ≤ MAX_INSTRUCTIONS }
+{
+    let routine = &program.functions()[function as usize];
+    routine.code.as_slice()
+}
 
 /// A run of a verified program.
 #[derive(Drop)]
@@ -112,7 +125,7 @@ impl<'p> Machine<'p> {
     {
         let program = self.verified.program();
         let frame = self.store.frame(t);
-        let code = code(program, frame);
+        let code = code_there(program, frame.function);
         let instr = &code[frame.pc as usize];
         let can_step = perform(&mut self.store, program, code, t, instr);
         self.steps += 1;

@@ -87,6 +87,7 @@ impl<'p> Machine<'p> {
     /// Does local instructions of a task that can step, in place, until the limit or the first other
     /// instruction. Answers how many. Each is a step of the task. In the parts that the view doesn't
     /// show, only the scopes that are recorded for tasks change.
+    #[inline(always)]
     pub fn run_here(&mut self, task: u32, limit: u32) -> u32
         requires { live_can_step self.old.program self.old.live task ≡ true }
         ensures program { self.new.program ≡ self.old.program }

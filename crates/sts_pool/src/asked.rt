@@ -174,6 +174,7 @@ impl<'p, O: Outside, B: Runs<O>> Asked<'p, O, B> {
     }
 
     /// Does local steps of a task that isn't out, and records them. Answers how many.
+    #[inline(always)]
     pub(crate) fn run_here(&mut self, task: u32, limit: u32) -> u32 {
         self.is_spent = false;
         self.book.run_here(task, limit)

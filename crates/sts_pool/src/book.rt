@@ -187,6 +187,7 @@ impl<'p> Book<'p> {
 
     /// Does local steps of a task that can step and isn't out, in place, until the limit or the
     /// first other step. Records them, and answers how many. Of another task it does none.
+    #[inline(always)]
     pub fn run_here(&mut self, task: u32, limit: u32) -> u32
         ensures most { result ≤ limit }
         ensures stops { is_free self.old task ≡ true → result < limit

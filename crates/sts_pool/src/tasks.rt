@@ -47,6 +47,7 @@ impl<'p, O: Outside, B: Runs<O>> Tasks for Asked<'p, O, B> {
         Asked::turns(self, task, most)
     }
 
+    #[inline(always)]
     fn run_here(&mut self, task: u32, limit: u32) -> u32 {
         Asked::run_here(self, task, limit)
     }

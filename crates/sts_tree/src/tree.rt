@@ -122,6 +122,7 @@ impl<E: Drop> Tree<E> {
 
     /// Ends a task. The joiner of its scope is told unless the scope is cancelled. Answers whether
     /// the joiner now asks to cancel.
+    #[inline(always)]
     pub fn end_task(&mut self, t: u32, end: End) -> bool
         requires { (x : AnyTask)
             × (slice_index_or self.old.tasks t None ≡ Some x) × (x.lives ≡ true) }

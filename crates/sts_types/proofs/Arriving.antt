@@ -1,5 +1,5 @@
 -- Typestates arrive in order.
-use Rattle.std.proofs.Common.{◌≡◌, ℕ, zero, suc, ◌+◌, ◌<◌, List, [], ◌∷◌, ◌++◌, length, take}
+use Rattle.std.proofs.Common.{◌≡◌, ℕ, zero, suc, ◌+◌, ◌<◌, ◌≤◌, List, [], ◌∷◌, ◌++◌, length, take}
 use Rattle.std.proofs.Common.{get_or, set, Option, Some, None, slice_get, inl, inr, refl, sym, ap}
 use Rattle.std.proofs.Common.{◌∙◌, subst, arith, length-set}
 use Rattle.std.specs.List.{All}
@@ -27,6 +27,12 @@ module _ {S : Type 0} where
       by : (o : Option (ℕ × S)) → slice_get out k ≡ o → ArriveAt now o after → Arrive table (take (k + 1) out) after × (length after ≡ length now)
       by None none is = (subst (λ es. Arrive table es after) (sym (take_missing out k none)) (subst (Arrive table (take k out)) (sym is) h), ap length is)
       by (Some e) there is = (arrive_next out table now after k e.0 e.1 is.0 h there is.1.0 is.1.1, ap length is.1.1 ∙ length-set now e.0 is.0)
+
+  -- the typestate of the only edge has arrived
+  pub arrive_only : (out : List (ℕ × S)) (table after : List (Arrival S)) → length out ≤ 1 → ArriveAt table (slice_get out 0) after → Arrive table out after
+  arrive_only [] table after few at = at
+  arrive_only (e ∷ []) table after few at = at
+  arrive_only (e ∷ f ∷ es) table after few at = absurd (omega (arith, few))
 
   -- the place of an edge
   pub place_within : (out : List (ℕ × S)) (k to n : ℕ) (s : S) → slice_get out k ≡ Some (to, s) → All (λ e. e.0 < n) out → to < n

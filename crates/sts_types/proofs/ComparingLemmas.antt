@@ -118,19 +118,28 @@ entries_same = (to, from)
     from (Scope x) = scopes_same.1 x
     from (Binding x) = grind arith
 
+-- a comparison of two lists is one of the lists in reverse
+pub turned : {X : Type 0} → (xs ys a b : List X) (r : Bool) → reverse xs ≡ a → reverse ys ≡ b → (IsTrue r ↔ (xs ≡ ys)) → IsTrue r ↔ (a ≡ b)
+turned xs ys a b r p q h = (
+  λ t. sym p ∙ ap reverse (h.0 t) ∙ q,
+  λ k. h.1 (sym (reverse-reverse xs) ∙ ap reverse (p ∙ k ∙ sym q) ∙ reverse-reverse ys),
+)
+
 -- two stacks that are seen in reverse are the same if their views are
 module _ {X : Type 0} (E : X → X → Bool) (same : IsSame E) where
   pub stacks_same : (xs ys a b : List X) (r : Bool) → reverse xs ≡ a → reverse ys ≡ b → r ≡ pointwise E xs ys → IsTrue r ↔ (a ≡ b)
-  stacks_same xs ys a b r p q e = (
-    λ t. sym p ∙ ap reverse ((lists_same E same).0 xs ys (sym e ∙ t)) ∙ q,
-    λ h. e ∙ (let k : xs ≡ ys = sym (reverse-reverse xs) ∙ ap reverse (p ∙ h ∙ sym q) ∙ reverse-reverse ys in subst (λ l. pointwise E xs l ≡ true) k ((lists_same E same).1 xs)),
-  )
+  stacks_same xs ys a b r p q e =
+      let h = lists_same E same in
+      turned xs ys a b r p q (λ t. h.0 xs ys (sym e ∙ t), λ k. e ∙ subst (λ l. pointwise E xs l ≡ true) k (h.1 xs))
 
 pub are_same_loops : (xs ys a b : List TypedLoop) (r : Bool) → reverse xs ≡ a → reverse ys ≡ b → r ≡ pointwise loop_eq.eq-value.it xs ys → IsTrue r ↔ (a ≡ b)
 are_same_loops = stacks_same _ loops_same
 
 pub are_same_entries : (xs ys a b : List TypedEntry) (r : Bool) → reverse xs ≡ a → reverse ys ≡ b → r ≡ pointwise entry_eq.eq-value.it xs ys → IsTrue r ↔ (a ≡ b)
 are_same_entries = stacks_same _ entries_same
+
+pub is_same_entry : (a b : TypedEntry) (r : Bool) → r ≡ entry_eq.eq-value.it a b → IsTrue r ↔ (a ≡ b)
+is_same_entry a b r e = (λ t. entries_same.0 a b (sym e ∙ t), λ k. e ∙ subst (λ x. entry_eq.eq-value.it a x ≡ true) k (entries_same.1 a))
 
 pub are_same_slots : (xs ys : List SlotKind) (r : Bool) → r ≡ pointwise slot_eq.eq-value.it xs ys → IsTrue r ↔ (xs ≡ ys)
 are_same_slots xs ys r e =

@@ -121,7 +121,7 @@ fn keep_new(kept: &mut Vec<TypeState>, state: &TypeState) -> Result<u32, AllocEr
 }
 
 /// Keeps a typestate, unless a kept one differs from it only in its number of operands: that at
-/// `near`, that at `like`, or the last one of the same look. Answers the index of the kept one.
+/// `near`, the last one of the same look, or that at `like`. Answers the index of the kept one.
 fn keep(
     kept: &mut Vec<TypeState>,
     near: u32,
@@ -136,16 +136,16 @@ fn keep(
         state.now)) }
     ensures more { (added : List TypeState) × (kept.new.items ≡ kept.old.items ++ added) }
 {
-    if kept[near as usize].is_like(state) {
+    if near != like && kept[near as usize].is_like(state) {
         return Ok(near);
-    }
-    if near != like && kept[like as usize].is_like(state) {
-        return Ok(like);
     }
     let look = look_of(state);
     let guess = recent.kept_with(look);
     if (guess as usize) < kept.len() && kept[guess as usize].is_like(state) {
         return Ok(guess);
+    }
+    if guess != like && kept[like as usize].is_like(state) {
+        return Ok(like);
     }
     let new = keep_new(kept, state)?;
     recent.note(look, new);

@@ -74,6 +74,20 @@ fn spread(site: &Site<'_>, arrivals: &mut Arrivals) -> Result<(), AllocError>
     Ok(())
 }
 
+/// The typestate after an instruction with at most one edge arrives at its place.
+fn go_one_way(site: &Site<'_>, arrivals: &mut Arrivals) -> Result<(), AllocError>
+    requires site { IsSite site.now }
+    requires room { HasRoomAt site.now arrivals.old.state }
+    requires places { All (λ e. e.0 < length arrivals.old.table)
+        (follows_at site.now arrivals.old.state) }
+    requires one { length (follows_at site.now arrivals.old.state) ≤ 1 }
+    ensures { OnOk result (Arrive arrivals.old.table
+        (follows_at site.now arrivals.old.state) arrivals.new.table) }
+{
+    arrivals.arrive_along(site, 0)?;
+    Ok(())
+}
+
 /// The typestates after an instruction arrive at their places. Instructions that only change the
 /// number of operands take a short way.
 fn follow(site: &Site<'_>, arrivals: &mut Arrivals) -> Result<(), AllocError>
@@ -91,6 +105,7 @@ fn follow(site: &Site<'_>, arrivals: &mut Arrivals) -> Result<(), AllocError>
             arrivals.arrive_moved(to, height);
             Ok(())
         }
+        None if edge_count(site.instr) == 1 => go_one_way(site, arrivals),
         None => spread(site, arrivals),
     }
 }

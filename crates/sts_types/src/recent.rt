@@ -10,7 +10,7 @@ use sts_rules::{Known, SlotKind, TypedEntry, TypedPhase, filled};
 const LOOKS: usize = 1024;
 
 /// How many slots a look takes in. Programs use the low ones most.
-const SLOTS: usize = 8;
+const SLOTS: usize = 4;
 
 /// For each look, the index of the typestate that was kept last with it.
 ///

@@ -44,7 +44,31 @@ pub(crate) fn are_same_loops(a: &Stack<TypedLoop, 8>, b: &Stack<TypedLoop, 8>) -
 pub(crate) fn are_same_entries(a: &Stack<TypedEntry, 16>, b: &Stack<TypedEntry, 16>) -> bool
     ensures { IsTrue result ↔ (a.now ≡ b.now) }
 {
-    a.as_slice() == b.as_slice()
+    are_same_in_turn(a.as_slice(), b.as_slice())
+}
+
+/// Are two entries the same?
+#[inline(always)]
+fn is_same_entry(a: TypedEntry, b: TypedEntry) -> bool
+    ensures { IsTrue result ↔ (a ≡ b) }
+{
+    a == b
+}
+
+/// Are the entries of two lists the same? One is compared after the other, since there are few.
+#[inline(always)]
+fn are_same_in_turn(a: &[TypedEntry], b: &[TypedEntry]) -> bool
+    ensures { IsTrue result ↔ (a.now ≡ b.now) }
+{
+    if a.len() != b.len() {
+        return false;
+    }
+    for i in 0..a.len() {
+        if !is_same_entry(a[i], b[i]) {
+            return false;
+        }
+    }
+    true
 }
 
 pub(crate) fn are_same_slots(a: &[SlotKind; 16], b: &[SlotKind; 16]) -> bool

@@ -7,8 +7,16 @@ use Rattle.laws_live.specs.Waiting.{live_can_step}
 use Rattle.sts_store.specs.Parts.{frame_of, live_of}
 use Rattle.laws_live.specs.Order.{InOrder}
 use Rattle.sts_machine.specs.Machine.{Seen}
-use Rattle.sts_machine.proofs.Turning.{asked, within, at_hand, stepped, one_step, ordered, ordered_after, next, fine, has_room, few_steps, moved}
+use Rattle.sts_machine.proofs.Turning.{asked, has_function, within, at_hand, stepped, one_step, ordered, ordered_after, next, fine, has_room, few_steps, moved}
 use Rattle.sts_machine.proofs.machine.Machine.take_step.Goals as goal
+
+pub code_there-code-requires : goal.code_there-code-requires
+code_there-code-requires c =
+    let p = c.self.inside.verified.now in
+    let m = c.self.inside.store in
+    let can : live_can_step p (live_of m) c.args.t ≡ true = asked _ _ (event.Step c.args.t) (event.Step c.args.t) c.self.view_is refl c.requires in
+    let i = next p m c.self.inside.steps c.self.invariant c.args.t can in
+    has_function p _ (frame_of m c.args.t) _ c.program-program.ensures.value c.frame-frame.ensures i
 
 pub bounds-code-frame : goal.bounds-code-frame
 bounds-code-frame c =
@@ -16,7 +24,7 @@ bounds-code-frame c =
     let m = c.self.inside.store in
     let can : live_can_step p (live_of m) c.args.t ≡ true = asked _ _ (event.Step c.args.t) (event.Step c.args.t) c.self.view_is refl c.requires in
     let i = next p m c.self.inside.steps c.self.invariant c.args.t can in
-    within p _ (frame_of m c.args.t) _ _ c.program-program.ensures.value c.frame-frame.ensures c.code-code.ensures.value i
+    within p _ (frame_of m c.args.t) _ _ c.program-program.ensures.value c.frame-frame.ensures c.code_there-code.ensures.value i
 
 pub perform-can_step-requires-clause-at : goal.perform-can_step-requires-clause-at
 perform-can_step-requires-clause-at c =
@@ -26,10 +34,10 @@ perform-can_step-requires-clause-at c =
     let can : live_can_step p (live_of m) c.args.t ≡ true = asked _ _ (event.Step c.args.t) (event.Step c.args.t) c.self.view_is refl c.requires in
     let i = next p m c.self.inside.steps c.self.invariant c.args.t can in
     ap (λ r. instr_at r (frame_of m c.args.t)) same
-    ∙ at_hand p _ (frame_of m c.args.t) _ _ same c.frame-frame.ensures c.code-code.ensures.value i (Push (pos 0))
+    ∙ at_hand p _ (frame_of m c.args.t) _ _ same c.frame-frame.ensures c.code_there-code.ensures.value i (Push (pos 0))
 
 pub perform-can_step-requires-clause-own_code : goal.perform-can_step-requires-clause-own_code
-perform-can_step-requires-clause-own_code c = c.code-code.ensures.value ∙ ap (code c.program-program.result.now) c.frame-frame.ensures
+perform-can_step-requires-clause-own_code c = c.code_there-code.ensures.value ∙ ap (code c.program-program.result.now) c.frame-frame.ensures
 
 pub perform-can_step-requires-clause-fine : goal.perform-can_step-requires-clause-fine
 perform-can_step-requires-clause-fine c =
@@ -37,7 +45,7 @@ perform-can_step-requires-clause-fine c =
     let m = c.self.inside.store in
     let can : live_can_step p (live_of m) c.args.t ≡ true = asked _ _ (event.Step c.args.t) (event.Step c.args.t) c.self.view_is refl c.requires in
     let i = next p m c.self.inside.steps c.self.invariant c.args.t can in
-    let at = at_hand p _ (frame_of m c.args.t) _ _ c.program-program.ensures.value c.frame-frame.ensures c.code-code.ensures.value i (Push (pos 0)) in
+    let at = at_hand p _ (frame_of m c.args.t) _ _ c.program-program.ensures.value c.frame-frame.ensures c.code_there-code.ensures.value i (Push (pos 0)) in
     rw c.program-program.ensures.value (fine p m c.self.inside.steps c.self.invariant c.args.t _ can at)
 
 pub perform-can_step-requires-clause-room : goal.perform-can_step-requires-clause-room
@@ -46,7 +54,7 @@ perform-can_step-requires-clause-room c =
     let m = c.self.inside.store in
     let can : live_can_step p (live_of m) c.args.t ≡ true = asked _ _ (event.Step c.args.t) (event.Step c.args.t) c.self.view_is refl c.requires in
     let i = next p m c.self.inside.steps c.self.invariant c.args.t can in
-    let at = at_hand p _ (frame_of m c.args.t) _ _ c.program-program.ensures.value c.frame-frame.ensures c.code-code.ensures.value i (Push (pos 0)) in
+    let at = at_hand p _ (frame_of m c.args.t) _ _ c.program-program.ensures.value c.frame-frame.ensures c.code_there-code.ensures.value i (Push (pos 0)) in
     has_room p m c.self.inside.steps c.self.invariant c.args.t _ can at
 
 pub perform-can_step-requires-clause-order : goal.perform-can_step-requires-clause-order
@@ -59,7 +67,7 @@ perform-can_step-requires-clause-after c =
     let t = c.args.t in
     let can : live_can_step p (live_of m) t ≡ true = asked _ _ (event.Step c.args.t) (event.Step c.args.t) c.self.view_is refl c.requires in
     let i = next p m c.self.inside.steps c.self.invariant t can in
-    let at = at_hand p _ (frame_of m t) _ _ c.program-program.ensures.value c.frame-frame.ensures c.code-code.ensures.value i (Push (pos 0)) in
+    let at = at_hand p _ (frame_of m t) _ _ c.program-program.ensures.value c.frame-frame.ensures c.code_there-code.ensures.value i (Push (pos 0)) in
     rw c.program-program.ensures.value
     (subst InOrder (stepped p (live_of m) t _ can at)
     (ordered_after p m c.self.inside.steps c.self.invariant (event.Step t)))
@@ -77,7 +85,7 @@ invariant_of-self c =
     let same = c.program-program.ensures.value in
     let can : live_can_step p (live_of m) t ≡ true = asked _ _ (event.Step c.args.t) (event.Step c.args.t) c.self.view_is refl c.requires in
     let i = next p m c.self.inside.steps c.self.invariant t can in
-    let at = at_hand p _ (frame_of m t) _ _ same c.frame-frame.ensures c.code-code.ensures.value i (Push (pos 0)) in
+    let at = at_hand p _ (frame_of m t) _ _ same c.frame-frame.ensures c.code_there-code.ensures.value i (Push (pos 0)) in
     moved p m c.self.inside.steps c.self.invariant (event.Step t) c.perform-can_step.new.store (c.self.inside.steps + 1)
     ((rw same at c.perform-can_step.ensures.live) ∙ sym (stepped p (live_of m) t _ can at))
     (sym (ap (λ k. c.self.inside.steps + k) (one_step p (live_of m) t can)))
@@ -91,7 +99,7 @@ returns-clause-live c =
     let same = c.program-program.ensures.value in
     let can : live_can_step p (live_of m) t ≡ true = asked _ _ (event.Step c.args.t) (event.Step c.args.t) c.self.view_is refl c.requires in
     let i = next p m c.self.inside.steps c.self.invariant t can in
-    let at = at_hand p _ (frame_of m t) _ _ same c.frame-frame.ensures c.code-code.ensures.value i (Push (pos 0)) in
+    let at = at_hand p _ (frame_of m t) _ _ same c.frame-frame.ensures c.code_there-code.ensures.value i (Push (pos 0)) in
     (rw same at c.perform-can_step.ensures.live) ∙ sym (stepped p (live_of m) t _ can at)
     ∙ ap (λ (s : Seen). live_apply s.program s.live (event.Step t)) c.self.view_is
 
