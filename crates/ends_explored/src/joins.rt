@@ -1,13 +1,13 @@
 //! The next states of a `join`.
 
 use crate::frames::next_place;
-use crate::learned::{Cancelled, cancelled_by, heard, may_go_on};
-use crate::next::{Around, Looked, Move, Steps};
+use crate::learned::{Cancelled, cancelled_by, heard, may_go_on, only_way};
+use crate::next::{At, Looked, Move, Steps};
 use crate::subtasks::{came, value_of};
 use ends_known::joiners::limit;
 use ends_known::own::Own;
 use ends_known::part::{Run, count_open, count_parts, none_open_early};
-use ends_known::pick::some_fits;
+use ends_known::pick::if_fits;
 use ends_known::seen::{Facts, Knowledge, Seen};
 use ends_known::table::{Label, Table};
 use std::alloc::{AllocError, Global};
@@ -23,15 +23,8 @@ pub struct Targets {
 }
 
 /// Adds the state after a timeout.
-fn late(
-    alloc: Global,
-    own: &Own,
-    place: u32,
-    scope: &Seen,
-    to: u32,
-    steps: &mut Steps,
-) -> Result<(), AllocError> {
-    let knowledge = match scope.facts.knowledge {
+fn late(at: At<'_>, to: u32, steps: &mut Steps<'_>) {
+    let knowledge = match at.scope.facts.knowledge {
         Knowledge::Unseen => Knowledge::Late,
         known => known,
     };
@@ -39,10 +32,9 @@ fn late(
         phase: Phase::Joined,
         expired: true,
         knowledge,
-        ..scope.facts
+        ..at.scope.facts
     };
-    let next = scope.with(alloc, facts)?;
-    steps.add_with(alloc, own, place, next, Move::jumps(to, Label::Plain))
+    steps.add_facts(at, facts, Move::jumps(to, Label::Plain));
 }
 
 /// What a `join` does after the joiner has cancelled the scope.
@@ -75,141 +67,99 @@ fn joined_scope(scope: Seen) -> Seen {
 
 /// Adds the state after the joiner has cancelled the scope, for each way in which it has, the last one
 /// first.
-fn cut_off(
-    alloc: Global,
-    own: &Own,
-    place: u32,
-    failed: u32,
-    found: &mut Vec<Cancelled>,
-    steps: &mut Steps,
-) -> Result<(), AllocError> {
+fn cut_off(place: u32, failed: u32, found: &mut Vec<Cancelled>, steps: &mut Steps<'_>) {
     for _ in 0..found.len() {
         if let Some(one) = found.pop() {
-            let step = after_cancel(own, &one, failed);
-            steps.add_with(alloc, own, place, joined_scope(one.scope), step)?;
+            let step = after_cancel(steps.own, &one, failed);
+            steps.add_with(place, Ok(joined_scope(one.scope)), step);
         }
     }
-    Ok(())
 }
 
 /// The ways in which the joiner may have cancelled the scope, or has if that is known.
-fn cut_offs(
-    alloc: Global,
-    around: &Around,
-    own: &Own,
-    scope: &Seen,
-) -> Result<Vec<Cancelled>, AllocError> {
+fn cut_offs(scope: &Seen, steps: &Steps<'_>) -> Result<Vec<Cancelled>, AllocError> {
+    let alloc = steps.alloc;
     let is_known = scope.facts.knowledge == Knowledge::ByJoiner;
     if is_known && limit(scope.facts.joiner) > 1 {
-        let mut found = Vec::new(alloc);
-        let scope = scope.copied(alloc)?;
-        found.push(Cancelled { end: None, scope })?;
-        return Ok(found);
+        return only_way(alloc, scope.copied(alloc)?);
     }
     if is_known || scope.facts.knowledge == Knowledge::Unseen {
-        return cancelled_by(alloc, around.table, scope, around.left(own));
+        return cancelled_by(alloc, steps.around.table, scope, steps.left());
     }
     Ok(Vec::new(alloc))
 }
 
 /// Adds a state for each way of each part of a run that may have been the first to fail. The first part
 /// is at this place.
-fn push_firsts(
-    alloc: Global,
-    around: &Around,
-    own: &Own,
-    place: u32,
-    scope: &Seen,
-    first: u32,
-    run: &Run,
-    failed: u32,
-    steps: &mut Steps,
-) -> Result<(), AllocError> {
-    if !run.part.is_early && scope.facts.has_failure {
-        return Ok(());
+fn push_firsts(at: At<'_>, first: u32, run: &Run, failed: u32, steps: &mut Steps<'_>) {
+    if !run.part.is_early && at.scope.facts.has_failure {
+        return;
     }
     for k in 0..run.count {
-        let at = Looked {
-            scope,
-            place,
+        let child = first.saturating_add(k);
+        let looked = Looked {
+            scope: at.scope,
+            place: at.place,
             part: run.part,
-            child: first.saturating_add(k),
+            child,
         };
         let label = Label::First {
-            scope: place,
-            part: at.child,
+            scope: at.place,
+            part: child,
         };
-        came(alloc, around, own, &at, true, failed, label, steps)?;
+        came(&looked, true, failed, label, steps);
     }
-    Ok(())
 }
 
 /// Adds the states in which all subtasks of an `any` have failed, with the code of the first one.
-fn all_failed(
-    alloc: Global,
-    around: &Around,
-    own: &Own,
-    place: u32,
-    scope: &Seen,
-    failed: u32,
-    steps: &mut Steps,
-) -> Result<(), AllocError> {
-    if scope.runs.is_empty() {
+fn all_failed(at: At<'_>, failed: u32, steps: &mut Steps<'_>) {
+    if at.scope.runs.is_empty() {
         let step = Move::pushes(failed, -1, Label::Plain);
-        return steps.add_with(alloc, own, place, scope.copied(alloc)?, step);
+        steps.add_facts(at, at.scope.facts, step);
+        return;
     }
     let mut first: u32 = 0;
-    for run in scope.runs.as_slice() {
-        push_firsts(alloc, around, own, place, scope, first, run, failed, steps)?;
+    for run in at.scope.runs.as_slice() {
+        push_firsts(at, first, run, failed, steps);
         first = first.saturating_add(run.count);
     }
-    Ok(())
+}
+
+/// What a `join` does after all subtasks of this scope were heard, unless they have to have failed.
+fn after_heard(own: &Own, scope: &Seen) -> Option<Move> {
+    let to = next_place(&own.frame);
+    match scope.facts.joiner {
+        Joiner::AnySucceeds => None,
+        Joiner::AllSucceed | Joiner::Until(_) => {
+            let count = i64::from(count_parts(scope.runs.as_slice()));
+            Some(Move::pushes(to, count, Label::Plain))
+        }
+        Joiner::AwaitOk | Joiner::AwaitAll => Some(Move::jumps(to, Label::Plain)),
+    }
 }
 
 /// Adds the states after all subtasks were heard, as this scope is then.
-fn all_heard(
-    alloc: Global,
-    around: &Around,
-    own: &Own,
-    place: u32,
-    scope: Seen,
-    failed: u32,
-    steps: &mut Steps,
-) -> Result<(), AllocError> {
-    let to = next_place(&own.frame);
-    let step = match scope.facts.joiner {
-        Joiner::AnySucceeds => {
-            return all_failed(alloc, around, own, place, &scope, failed, steps);
+fn all_heard(place: u32, scope: Seen, failed: u32, steps: &mut Steps<'_>) {
+    match after_heard(steps.own, &scope) {
+        Some(step) => steps.add_with(place, Ok(scope), step),
+        None => {
+            let at = At {
+                scope: &scope,
+                place,
+            };
+            all_failed(at, failed, steps);
         }
-        Joiner::AllSucceed | Joiner::Until(_) => {
-            let count = i64::from(count_parts(scope.runs.as_slice()));
-            Move::pushes(to, count, Label::Plain)
-        }
-        Joiner::AwaitOk | Joiner::AwaitAll => Move::jumps(to, Label::Plain),
-    };
-    steps.add_with(alloc, own, place, scope, step)
+    }
 }
 
-/// Adds the states after all subtasks were heard, if that fits.
-fn all_came(
-    alloc: Global,
-    around: &Around,
-    own: &Own,
-    place: u32,
-    scope: &Seen,
-    failed: u32,
-    steps: &mut Steps,
-) -> Result<(), AllocError> {
+/// The scope after its `join` and after all subtasks were heard, if that fits.
+fn heard_scope(scope: &Seen, steps: &Steps<'_>) -> Result<Option<Seen>, AllocError> {
     let facts = Facts {
         phase: Phase::Joined,
         ..scope.facts
     };
-    let next = heard(alloc, scope, facts)?;
-    if some_fits(alloc, around.table, &next, around.left(own))? {
-        all_heard(alloc, around, own, place, next, failed, steps)
-    } else {
-        Ok(())
-    }
+    let next = heard(steps.alloc, scope, facts)?;
+    if_fits(steps.alloc, steps.around.table, next, steps.left())
 }
 
 /// The parts of a scope whose `join` waits.
@@ -228,80 +178,51 @@ fn may_wait(table: &Table, scope: &Seen) -> bool {
     may_go_on(table, scope) && count_open(scope.runs.as_slice()) > 0
 }
 
-/// Adds the state after a `join` that waited was interrupted.
-fn cut_short(
-    alloc: Global,
-    own: &Own,
-    place: u32,
-    scope: &Seen,
-    to: u32,
-    steps: &mut Steps,
-) -> Result<(), AllocError> {
+/// The state after a `join` that waited was interrupted.
+fn cut_short(alloc: Global, own: &Own, at: At<'_>, to: u32) -> Result<Own, AllocError> {
     let facts = Facts {
         phase: Phase::Attempted,
-        ..scope.facts
+        ..at.scope.facts
     };
-    let runs = waiting_parts(alloc, scope)?;
-    let mut next = own.with_scope(alloc, place, Seen { facts, runs })?;
+    let runs = waiting_parts(alloc, at.scope)?;
+    let mut next = own.with_scope(alloc, at.place, Seen { facts, runs })?;
     next.frame.goes(to, 0);
     next.used = next.used.saturating_add(1);
-    steps.add(next, Label::Pays)
+    Ok(next)
 }
 
 /// Adds the states after a `join` of a scope of whose cancel the owner doesn't know: all subtasks were
 /// heard, or an interrupt came.
-fn undecided(
-    alloc: Global,
-    around: &Around,
-    own: &Own,
-    place: u32,
-    scope: &Seen,
-    targets: Targets,
-    steps: &mut Steps,
-) -> Result<(), AllocError> {
-    all_came(alloc, around, own, place, scope, targets.failed, steps)?;
-    if may_wait(around.table, scope) && around.left(own) > 0 {
-        cut_short(alloc, own, place, scope, targets.interrupted, steps)
-    } else {
-        Ok(())
+fn undecided(at: At<'_>, targets: Targets, steps: &mut Steps<'_>) -> Result<(), AllocError> {
+    if let Some(next) = heard_scope(at.scope, steps)? {
+        all_heard(at.place, next, targets.failed, steps);
     }
+    if may_wait(steps.around.table, at.scope) && steps.left() > 0 {
+        let next = cut_short(steps.alloc, steps.own, at, targets.interrupted);
+        steps.add(next, Label::Pays);
+    }
+    Ok(())
 }
 
 /// Adds the states after a `join` of a scope that hasn't expired.
-fn in_time(
-    alloc: Global,
-    around: &Around,
-    own: &Own,
-    place: u32,
-    scope: &Seen,
-    targets: Targets,
-    steps: &mut Steps,
-) -> Result<(), AllocError> {
-    let mut found = cut_offs(alloc, around, own, scope)?;
+fn in_time(at: At<'_>, targets: Targets, steps: &mut Steps<'_>) -> Result<(), AllocError> {
+    let mut found = cut_offs(at.scope, steps)?;
     found.reverse();
-    cut_off(alloc, own, place, targets.failed, &mut found, steps)?;
-    if scope.facts.knowledge != Knowledge::Unseen {
+    cut_off(at.place, targets.failed, &mut found, steps);
+    if at.scope.facts.knowledge != Knowledge::Unseen {
         return Ok(());
     }
-    undecided(alloc, around, own, place, scope, targets, steps)
+    undecided(at, targets, steps)
 }
 
 /// Adds the states after a `join`.
-pub fn joined(
-    alloc: Global,
-    around: &Around,
-    own: &Own,
-    place: u32,
-    scope: &Seen,
-    targets: Targets,
-    steps: &mut Steps,
-) -> Result<(), AllocError> {
-    let expired = scope.facts.expired;
-    if expired || around.may_expire(scope) {
-        late(alloc, own, place, scope, targets.timeout, steps)?;
+pub fn joined(at: At<'_>, targets: Targets, steps: &mut Steps<'_>) -> Result<(), AllocError> {
+    let expired = at.scope.facts.expired;
+    if expired || steps.around.may_expire(at.scope) {
+        late(at, targets.timeout, steps);
     }
     if expired {
         return Ok(());
     }
-    in_time(alloc, around, own, place, scope, targets, steps)
+    in_time(at, targets, steps)
 }

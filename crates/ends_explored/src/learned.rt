@@ -62,77 +62,89 @@ pub fn decided(table: &Table, scope: Seen) -> Seen {
     }
 }
 
-/// Adds a scope that its joiner has cancelled, if there is one.
-fn push(
-    found: &mut Vec<Cancelled>,
-    end: Option<End>,
-    scope: Option<Seen>,
-) -> Result<(), AllocError> {
-    if let Some(scope) = scope {
-        found.push(Cancelled { end, scope })?;
-    }
-    Ok(())
+/// The only way in which the joiner has cancelled the scope, by several ends.
+pub fn only_way(alloc: Global, scope: Seen) -> Result<Vec<Cancelled>, AllocError> {
+    let mut found = Vec::new(alloc);
+    found.push(Cancelled { end: None, scope })?;
+    Ok(found)
 }
 
-/// Adds the scope that the part at a place cancelled by one of its ways, if that fits.
-fn push_cancelled(
+/// The ways in which the joiner may have cancelled a scope by one end, as they are found.
+#[derive(Drop)]
+struct Cancels<'a> {
     alloc: Global,
-    table: &Table,
-    scope: &Seen,
+    table: &'a Table,
+    scope: &'a Seen,
+    /// How many interrupts are left to the owner.
     left: u32,
-    place: u32,
-    part: Part,
-    found: &mut Vec<Cancelled>,
-) -> Result<(), AllocError> {
-    let joiner = scope.facts.joiner;
-    let facts = by_joiner(scope.facts);
-    let mut way: u32 = 0;
-    for it in table.ways_of(part) {
-        if part.filter.allows(joiner, way, it.end) && is_trigger(joiner, it.end) {
-            let only = Part {
-                filter: Filter::Only(way),
-                is_open: false,
-                ..part
-            };
-            let next = with_fitting(alloc, table, scope, left, facts, place, only)?;
-            push(found, Some(it.end), next)?;
+    found: Vec<Cancelled>,
+}
+
+impl<'a> Cancels<'a> {
+    /// Adds the scope that this end cancelled, if there is one.
+    fn push(&mut self, end: End, scope: Option<Seen>) -> Result<(), AllocError> {
+        if let Some(scope) = scope {
+            let end = Some(end);
+            self.found.push(Cancelled { end, scope })?;
         }
-        way = way.saturating_add(1);
+        Ok(())
     }
-    Ok(())
+
+    /// The scope that the part at a place cancelled, if that fits.
+    fn with(&self, place: u32, part: Part) -> Result<Option<Seen>, AllocError> {
+        let facts = by_joiner(self.scope.facts);
+        with_fitting(
+            self.alloc, self.table, self.scope, self.left, facts, place, part,
+        )
+    }
+
+    /// Adds the scope that the part at a place cancelled by one of its ways, if that fits.
+    fn push_by(&mut self, place: u32, part: Part) -> Result<(), AllocError> {
+        let joiner = self.scope.facts.joiner;
+        let mut way: u32 = 0;
+        for it in self.table.ways_of(part) {
+            if part.filter.allows(joiner, way, it.end) && is_trigger(joiner, it.end) {
+                let only = Part {
+                    filter: Filter::Only(way),
+                    is_open: false,
+                    ..part
+                };
+                let next = self.with(place, only)?;
+                self.push(it.end, next)?;
+            }
+            way = way.saturating_add(1);
+        }
+        Ok(())
+    }
+
+    /// The same for each part of a run, the first of which is at this place.
+    fn push_by_run(&mut self, first: u32, run: &Run) -> Result<(), AllocError> {
+        for k in 0..run.count {
+            self.push_by(first.saturating_add(k), run.part)?;
+        }
+        Ok(())
+    }
+
+    /// The same for each part.
+    fn push_all(&mut self) -> Result<(), AllocError> {
+        let mut first: u32 = 0;
+        for run in self.scope.runs.as_slice() {
+            self.push_by_run(first, run)?;
+            first = first.saturating_add(run.count);
+        }
+        Ok(())
+    }
 }
 
-/// The same for each part of a run, the first of which is at this place.
-fn push_cancelled_by_run(
+/// The scope that its joiner has cancelled by several ends, if that fits.
+fn cancelled_by_many(
     alloc: Global,
     table: &Table,
     scope: &Seen,
     left: u32,
-    first: u32,
-    run: &Run,
-    found: &mut Vec<Cancelled>,
-) -> Result<(), AllocError> {
-    for k in 0..run.count {
-        let place = first.saturating_add(k);
-        push_cancelled(alloc, table, scope, left, place, run.part, found)?;
-    }
-    Ok(())
-}
-
-/// Adds the scope that one end cancelled, for each part and each of its ways that may have done it.
-fn push_cancelled_by_one(
-    alloc: Global,
-    table: &Table,
-    scope: &Seen,
-    left: u32,
-    found: &mut Vec<Cancelled>,
-) -> Result<(), AllocError> {
-    let mut first: u32 = 0;
-    for run in scope.runs.as_slice() {
-        push_cancelled_by_run(alloc, table, scope, left, first, run, found)?;
-        first = first.saturating_add(run.count);
-    }
-    Ok(())
+) -> Result<Option<Seen>, AllocError> {
+    let next = scope.with(alloc, by_joiner(scope.facts))?;
+    if_fits(alloc, table, next, left)
 }
 
 /// The ways in which the joiner may have cancelled the scope.
@@ -142,12 +154,19 @@ pub fn cancelled_by(
     scope: &Seen,
     left: u32,
 ) -> Result<Vec<Cancelled>, AllocError> {
-    let mut found = Vec::new(alloc);
     if limit(scope.facts.joiner) > 1 {
-        let next = scope.with(alloc, by_joiner(scope.facts))?;
-        push(&mut found, None, if_fits(alloc, table, next, left)?)?;
-    } else {
-        push_cancelled_by_one(alloc, table, scope, left, &mut found)?;
+        return match cancelled_by_many(alloc, table, scope, left)? {
+            Some(scope) => only_way(alloc, scope),
+            None => Ok(Vec::new(alloc)),
+        };
     }
-    Ok(found)
+    let mut cancels = Cancels {
+        alloc,
+        table,
+        scope,
+        left,
+        found: Vec::new(alloc),
+    };
+    cancels.push_all()?;
+    Ok(cancels.found)
 }

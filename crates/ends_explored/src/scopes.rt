@@ -2,10 +2,10 @@
 
 use crate::frames::{next_place, push_and_go, push_entry};
 use crate::learned::{Cancelled, cancelled_by, may_go_on};
-use crate::next::{Around, Move, Steps};
+use crate::next::{At, Move, Steps};
 use ends_known::call::number;
 use ends_known::own::{Held, Own};
-use ends_known::pick::{Count, Needs, Sum, fitting, fitting_within, least_cost};
+use ends_known::pick::{Count, Needs, Sum, fitting_within, least_cost};
 use ends_known::seen::{Asked, Facts, Knowledge, Seen};
 use ends_known::table::{Label, Table};
 use std::alloc::{AllocError, Global};
@@ -15,15 +15,14 @@ use sts_model::Entry;
 /// The most totals of a scope that a search keeps.
 const MOST_TOTALS: usize = 16_384;
 
-/// Adds the state after an `open`.
-pub fn opened(
+/// The state after an `open`.
+fn after_open(
     alloc: Global,
     own: &Own,
     slot: u8,
     joiner: Joiner,
     timed: bool,
-    steps: &mut Steps,
-) -> Result<(), AllocError> {
+) -> Result<Own, AllocError> {
     let mut next = own.copied(alloc)?;
     let place = number(next.scopes.len());
     let to = next_place(&next.frame);
@@ -31,122 +30,98 @@ pub fn opened(
     push_entry(&mut next.frame, Entry::Scope(place));
     next.set_slot(slot, Held::Own(place));
     next.scopes.push(Seen::opened(alloc, joiner, timed))?;
-    steps.add(next, Label::Plain)
-}
-
-/// The state after a value was pushed.
-fn pushed(alloc: Global, own: &Own, value: i64) -> Result<Own, AllocError> {
-    let mut next = own.copied(alloc)?;
-    let to = next_place(&next.frame);
-    push_and_go(&mut next.frame, to, 0, value);
     Ok(next)
 }
 
+/// Adds the state after an `open`.
+pub fn opened(slot: u8, joiner: Joiner, timed: bool, steps: &mut Steps<'_>) {
+    let next = after_open(steps.alloc, steps.own, slot, joiner, timed);
+    steps.add(next, Label::Plain);
+}
+
+/// The state after a value was pushed, and the task took this number of interrupts more.
+fn pushed(alloc: Global, own: &Own, value: i64, used: u32) -> Result<Own, AllocError> {
+    let mut next = own.copied(alloc)?;
+    let to = next_place(&next.frame);
+    push_and_go(&mut next.frame, to, 0, value);
+    next.used = next.used.saturating_add(used);
+    Ok(next)
+}
+
+/// Adds the state after the answer no.
+fn denied(steps: &mut Steps<'_>) {
+    let next = pushed(steps.alloc, steps.own, 0, 0);
+    steps.add(next, Label::Plain);
+}
+
 /// Adds the states after an `interrupted`.
-pub fn interrupted(
-    alloc: Global,
-    around: &Around,
-    own: &Own,
-    steps: &mut Steps,
-) -> Result<(), AllocError> {
-    steps.add(pushed(alloc, own, 0)?, Label::Plain)?;
-    if around.left(own) == 0 {
-        return Ok(());
+pub fn interrupted(steps: &mut Steps<'_>) {
+    denied(steps);
+    if steps.left() > 0 {
+        let next = pushed(steps.alloc, steps.own, 1, 1);
+        steps.add(next, Label::Pays);
     }
-    let mut next = pushed(alloc, own, 1)?;
-    next.used = next.used.saturating_add(1);
-    steps.add(next, Label::Pays)
 }
 
 /// Adds the state after `cancelled` answers yes, for each way in which the joiner has cancelled the
 /// scope, the last one first.
-fn add_cancelled(
-    alloc: Global,
-    own: &Own,
-    place: u32,
-    step: Move,
-    found: &mut Vec<Cancelled>,
-    steps: &mut Steps,
-) -> Result<(), AllocError> {
+fn add_cancelled(place: u32, step: Move, found: &mut Vec<Cancelled>, steps: &mut Steps<'_>) {
     for _ in 0..found.len() {
         if let Some(one) = found.pop() {
-            steps.add_with(alloc, own, place, one.scope, step)?;
+            steps.add_with(place, Ok(one.scope), step);
         }
+    }
+}
+
+/// Adds the states after a look that shows that a scope is cancelled. Its owner didn't know it.
+fn looked(at: At<'_>, step: Move, steps: &mut Steps<'_>) -> Result<(), AllocError> {
+    let mut found = cancelled_by(steps.alloc, steps.around.table, at.scope, steps.left())?;
+    found.reverse();
+    add_cancelled(at.place, step, &mut found, steps);
+    if steps.around.may_expire(at.scope) {
+        let facts = Facts {
+            knowledge: Knowledge::Late,
+            expired: true,
+            ..at.scope.facts
+        };
+        steps.add_facts(at, facts, step);
     }
     Ok(())
 }
 
-/// Adds the states after a look that shows that a scope is cancelled. Its owner didn't know it.
-fn looked(
-    alloc: Global,
-    around: &Around,
-    own: &Own,
-    place: u32,
-    scope: &Seen,
-    step: Move,
-    steps: &mut Steps,
-) -> Result<(), AllocError> {
-    let mut found = cancelled_by(alloc, around.table, scope, around.left(own))?;
-    found.reverse();
-    add_cancelled(alloc, own, place, step, &mut found, steps)?;
-    if !around.may_expire(scope) {
-        return Ok(());
-    }
-    let facts = Facts {
-        knowledge: Knowledge::Late,
-        expired: true,
-        ..scope.facts
-    };
-    let next = scope.with(alloc, facts)?;
-    steps.add_with(alloc, own, place, next, step)
-}
-
 /// Adds the states after `cancelled` of a scope that the task owns.
-fn cancelled(
-    alloc: Global,
-    around: &Around,
-    own: &Own,
-    place: u32,
-    scope: &Seen,
-    steps: &mut Steps,
-) -> Result<(), AllocError> {
-    let knowledge = scope.facts.knowledge;
-    let to = next_place(&own.frame);
-    if knowledge == Knowledge::Heard || may_go_on(around.table, scope) {
-        let step = Move::pushes(to, 0, Label::Open { scope: place });
-        steps.add_with(alloc, own, place, scope.copied(alloc)?, step)?;
+fn cancelled(at: At<'_>, steps: &mut Steps<'_>) -> Result<(), AllocError> {
+    let facts = at.scope.facts;
+    let to = next_place(&steps.own.frame);
+    if facts.knowledge == Knowledge::Heard || may_go_on(steps.around.table, at.scope) {
+        let step = Move::pushes(to, 0, Label::Open { scope: at.place });
+        steps.add_facts(at, facts, step);
     }
     let step = Move::pushes(to, 1, Label::Plain);
-    match knowledge {
-        Knowledge::Unseen => looked(alloc, around, own, place, scope, step, steps),
-        Knowledge::ByJoiner | Knowledge::Late => {
-            steps.add_with(alloc, own, place, scope.copied(alloc)?, step)
-        }
-        Knowledge::Heard => Ok(()),
+    match facts.knowledge {
+        Knowledge::Unseen => return looked(at, step, steps),
+        Knowledge::ByJoiner | Knowledge::Late => steps.add_facts(at, facts, step),
+        Knowledge::Heard => {}
     }
+    Ok(())
 }
 
 /// Adds the states after `cancelled` of a slot.
-pub fn cancelled_at(
-    alloc: Global,
-    around: &Around,
-    own: &Own,
-    slot: u8,
-    steps: &mut Steps,
-) -> Result<(), AllocError> {
-    match own.slot(slot) {
-        Held::Lent => steps.add(pushed(alloc, own, 0)?, Label::Plain),
-        Held::Own(place) => match own.scope(place) {
-            Some(scope) => cancelled(alloc, around, own, place, scope, steps),
+pub fn cancelled_at(slot: u8, steps: &mut Steps<'_>) -> Result<(), AllocError> {
+    match steps.own.slot(slot) {
+        Held::Lent => denied(steps),
+        Held::Own(place) => match steps.own.scope(place) {
+            Some(scope) => return cancelled(At { scope, place }, steps),
             None => steps.break_off(),
         },
         Held::Empty | Held::Sub { .. } => steps.break_off(),
     }
+    Ok(())
 }
 
 /// What a task asks of a scope.
 #[derive(Clone, Copy)]
-enum Question {
+pub enum Question {
     Count(Kind),
     Total,
 }
@@ -172,6 +147,14 @@ impl Question {
                 total: true,
                 ..needs
             },
+        }
+    }
+
+    /// A scope with more answers than these has too many.
+    fn most(self) -> usize {
+        match self {
+            Question::Count(_) => usize::MAX,
+            Question::Total => MOST_TOTALS,
         }
     }
 
@@ -209,98 +192,52 @@ impl Question {
     }
 }
 
-/// Adds each answer once.
-fn push_answers(
-    question: Question,
-    sums: &[Sum],
-    answers: &mut Vec<i64>,
-) -> Result<(), AllocError> {
+/// Each answer once.
+fn answers_of(alloc: Global, question: Question, sums: &[Sum]) -> Result<Vec<i64>, AllocError> {
+    let mut answers = Vec::new(alloc);
     for sum in sums {
         let answer = question.answer(sum.count);
         if !answers.contains(&answer) {
             answers.push(answer)?;
         }
     }
-    Ok(())
+    Ok(answers)
 }
 
 /// Adds a state for each answer.
-fn add_answers(
-    alloc: Global,
-    own: &Own,
-    place: u32,
-    scope: &Seen,
-    question: Question,
-    answers: &[i64],
-    steps: &mut Steps,
-) -> Result<(), AllocError> {
-    let to = next_place(&own.frame);
+fn add_answers(at: At<'_>, question: Question, answers: &[i64], steps: &mut Steps<'_>) {
+    let to = next_place(&steps.own.frame);
     for answer in answers {
         let facts = Facts {
-            asked: question.noted(scope.facts.asked, *answer),
-            ..scope.facts
+            asked: question.noted(at.scope.facts.asked, *answer),
+            ..at.scope.facts
         };
-        let next = scope.with(alloc, facts)?;
-        let step = Move::pushes(to, *answer, Label::Plain);
-        steps.add_with(alloc, own, place, next, step)?;
+        steps.add_facts(at, facts, Move::pushes(to, *answer, Label::Plain));
     }
-    Ok(())
 }
 
 /// Adds a state for each answer of these sums.
 fn answered(
-    alloc: Global,
-    own: &Own,
-    place: u32,
-    scope: &Seen,
+    at: At<'_>,
     question: Question,
     sums: &[Sum],
-    steps: &mut Steps,
+    steps: &mut Steps<'_>,
 ) -> Result<(), AllocError> {
-    let mut answers = Vec::new(alloc);
-    push_answers(question, sums, &mut answers)?;
-    add_answers(
-        alloc,
-        own,
-        place,
-        scope,
-        question,
-        answers.as_slice(),
-        steps,
-    )
+    let answers = answers_of(steps.alloc, question, sums)?;
+    add_answers(at, question, answers.as_slice(), steps);
+    Ok(())
 }
 
-/// Adds a state for each count that fits.
-pub fn tallied(
-    alloc: Global,
-    around: &Around,
-    own: &Own,
-    place: u32,
-    scope: &Seen,
-    kind: Kind,
-    steps: &mut Steps,
-) -> Result<(), AllocError> {
-    let question = Question::Count(kind);
-    let needs = question.needs(scope.facts.asked);
-    let sums = fitting(alloc, around.table, scope, around.left(own), needs)?;
-    answered(alloc, own, place, scope, question, sums.as_slice(), steps)
-}
-
-/// Adds a state for each total that fits, if there are not too many.
-pub fn totalled(
-    alloc: Global,
-    around: &Around,
-    own: &Own,
-    place: u32,
-    scope: &Seen,
-    steps: &mut Steps,
-) -> Result<(), AllocError> {
-    let question = Question::Total;
-    let needs = question.needs(scope.facts.asked);
-    let left = around.left(own);
-    match fitting_within(alloc, around.table, scope, left, needs, MOST_TOTALS)? {
-        None => steps.break_off(),
-        Some(sums) => answered(alloc, own, place, scope, question, sums.as_slice(), steps),
+/// Adds a state for each answer that fits, if there are not too many.
+pub fn asked(at: At<'_>, question: Question, steps: &mut Steps<'_>) -> Result<(), AllocError> {
+    let needs = question.needs(at.scope.facts.asked);
+    let (table, left, most) = (steps.around.table, steps.left(), question.most());
+    match fitting_within(steps.alloc, table, at.scope, left, needs, most)? {
+        Some(sums) => answered(at, question, sums.as_slice(), steps),
+        None => {
+            steps.break_off();
+            Ok(())
+        }
     }
 }
 
@@ -310,31 +247,16 @@ fn is_free(table: &Table, scope: &Seen) -> bool {
 }
 
 /// The fewest interrupts that the subtasks of a scope took.
-fn cost_of(
-    alloc: Global,
-    around: &Around,
-    own: &Own,
-    scope: &Seen,
-) -> Result<Option<u32>, AllocError> {
+fn cost_of(scope: &Seen, steps: &Steps<'_>) -> Result<Option<u32>, AllocError> {
     // Each state that is kept has a pick that fits.
-    if is_free(around.table, scope) {
+    if is_free(steps.around.table, scope) {
         return Ok(Some(0));
     }
-    least_cost(alloc, around.table, scope, around.left(own))
+    least_cost(steps.alloc, steps.around.table, scope, steps.left())
 }
 
-/// Adds the state after a `close`.
-pub fn closed(
-    alloc: Global,
-    around: &Around,
-    own: &Own,
-    place: u32,
-    scope: &Seen,
-    steps: &mut Steps,
-) -> Result<(), AllocError> {
-    let Some(cost) = cost_of(alloc, around, own, scope)? else {
-        return Ok(());
-    };
+/// The state after a `close` of the scope at a place, whose subtasks took this number of interrupts.
+fn after_close(alloc: Global, own: &Own, place: u32, cost: u32) -> Result<Own, AllocError> {
     let mut next = own.copied(alloc)?;
     let to = next_place(&next.frame);
     next.frame.goes(to, 0);
@@ -342,14 +264,29 @@ pub fn closed(
     next.scopes.truncate(place as usize);
     next.forget_scope(place);
     next.used = next.used.saturating_add(cost);
-    steps.add(next, Label::Plain)
+    Ok(next)
 }
 
-/// Adds the state after a `forget`.
-pub fn forgotten(alloc: Global, own: &Own, slot: u8, steps: &mut Steps) -> Result<(), AllocError> {
+/// Adds the state after a `close`.
+pub fn closed(at: At<'_>, steps: &mut Steps<'_>) -> Result<(), AllocError> {
+    if let Some(cost) = cost_of(at.scope, steps)? {
+        let next = after_close(steps.alloc, steps.own, at.place, cost);
+        steps.add(next, Label::Plain);
+    }
+    Ok(())
+}
+
+/// The state after a `forget`.
+fn after_forget(alloc: Global, own: &Own, slot: u8) -> Result<Own, AllocError> {
     let mut next = own.copied(alloc)?;
     let to = next_place(&next.frame);
     next.frame.goes(to, 0);
     next.set_slot(slot, Held::Empty);
-    steps.add(next, Label::Plain)
+    Ok(next)
+}
+
+/// Adds the state after a `forget`.
+pub fn forgotten(slot: u8, steps: &mut Steps<'_>) {
+    let next = after_forget(steps.alloc, steps.own, slot);
+    steps.add(next, Label::Plain);
 }

@@ -1,8 +1,8 @@
 //! The search: each call is explored once, by itself.
 
 use crate::begin::{first_state, root_call};
-use crate::next::{Around, Step};
-use crate::steps::{Outcome, followed};
+use crate::next::{Around, Outcome, Step};
+use crate::steps::followed;
 use ends_known::call::{Call, Way, number};
 use ends_known::outside::Outside;
 use ends_known::own::Own;
@@ -43,26 +43,26 @@ fn empty_lists(alloc: Global, interrupts: u32) -> Result<Vec<Vec<u32>>, AllocErr
 }
 
 impl Exploring {
-    /// A call of which the first state was found.
-    fn begin(
-        alloc: Global,
-        outside: Outside,
-        call: Call,
-        is_root: bool,
-    ) -> Result<Exploring, AllocError> {
-        let first = first_state(alloc, &call, is_root);
-        let mut exploring = Exploring {
+    /// A call of which no state was found.
+    fn new(alloc: Global, interrupts: u32, call: Call) -> Result<Exploring, AllocError> {
+        let index = Index::new(alloc)?;
+        let waiting = empty_lists(alloc, interrupts)?;
+        Ok(Exploring {
             explored: Explored {
                 call,
                 nodes: Vec::new(alloc),
                 ways: Vec::new(alloc),
             },
-            index: Index::new(alloc)?,
-            waiting: empty_lists(alloc, outside.interrupts)?,
-        };
+            index,
+            waiting,
+        })
+    }
+
+    /// Adds the first state of the call.
+    fn add_first(&mut self, alloc: Global, is_root: bool) -> Result<(), AllocError> {
+        let first = first_state(alloc, &self.explored.call, is_root);
         let hash = first.hash();
-        exploring.push(alloc, first, hash, None, Label::Plain)?;
-        Ok(exploring)
+        self.push(alloc, first, hash, None, Label::Plain)
     }
 
     /// Lets a state wait.
@@ -84,13 +84,13 @@ impl Exploring {
     ) -> Result<(), AllocError> {
         let place = number(self.explored.nodes.len());
         let used = own.used;
-        self.index.add(alloc, hash)?;
         self.explored.nodes.push(Node {
             own,
             before,
             label,
             is_done: false,
         })?;
+        self.index.add(alloc, hash)?;
         self.wait(used, place)
     }
 
@@ -116,18 +116,30 @@ impl Exploring {
         None
     }
 
+    /// Is the state at a place not done, and did it take more interrupts than these?
+    fn is_dearer(&self, place: usize, used: u32) -> bool {
+        match self.explored.nodes.get(place) {
+            Some(node) => !node.is_done && used < node.own.used,
+            None => false,
+        }
+    }
+
+    /// Puts a state in the place of another one.
+    fn replace(&mut self, place: usize, step: Step, before: u32) {
+        if let Some(node) = self.explored.nodes.get_mut(place) {
+            node.own = step.own;
+            node.before = Some(before);
+            node.label = step.label;
+        }
+    }
+
     /// Puts a state in the place of one that took more interrupts.
     fn improve(&mut self, place: usize, step: Step, before: u32) -> Result<(), AllocError> {
         let used = step.own.used;
-        let Some(node) = self.explored.nodes.get_mut(place) else {
-            return Ok(());
-        };
-        if node.is_done || node.own.used <= used {
+        if !self.is_dearer(place, used) {
             return Ok(());
         }
-        node.own = step.own;
-        node.before = Some(before);
-        node.label = step.label;
+        self.replace(place, step, before);
         self.wait(used, number(place))
     }
 
@@ -246,7 +258,8 @@ impl Search {
 
     /// Begins with another call.
     fn ask(&mut self, alloc: Global, call: Call, is_root: bool) -> Result<(), AllocError> {
-        let exploring = Exploring::begin(alloc, self.outside, call, is_root)?;
+        let mut exploring = Exploring::new(alloc, self.outside.interrupts, call)?;
+        exploring.add_first(alloc, is_root)?;
         self.stack.push(exploring)?;
         self.states = self.states.saturating_add(1);
         Ok(())
@@ -266,7 +279,7 @@ impl Search {
             table: &self.table,
             call: &top.explored.call,
         };
-        followed(alloc, &around, &node.own)
+        followed(alloc, around, &node.own)
     }
 
     /// Adds the states after one of the innermost call.

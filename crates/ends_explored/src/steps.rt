@@ -2,8 +2,8 @@
 
 use crate::frames::{arguments, environment, next_place, run_frame};
 use crate::joins::{Targets, joined};
-use crate::next::{Around, Step, Steps, looked_at};
-use crate::scopes::{cancelled_at, closed, forgotten, interrupted, opened, tallied, totalled};
+use crate::next::{Around, At, Outcome, Steps, looked_at};
+use crate::scopes::{Question, asked, cancelled_at, closed, forgotten, interrupted, opened};
 use crate::subtasks::{came, cased};
 use ends_known::call::Call;
 use ends_known::own::{Held, Own};
@@ -14,18 +14,6 @@ use std::alloc::{AllocError, Global};
 use sts_code::{Instr, args};
 use sts_frames::instr_at;
 use sts_model::End;
-
-/// What can come of a state.
-#[derive(Drop)]
-pub enum Outcome {
-    Ends(End),
-    /// This call has to be explored first.
-    Asks(Call),
-    Goes(Vec<Step>),
-    /// A scope has too many totals, or an instruction can't be done. In an accepted program each
-    /// can.
-    Breaks,
-}
 
 /// A `fork`: the place of the scope among the open ones, and how many operands are the arguments. Then
 /// come the call by its number, if it may run, and the slot that is to hold the subtask.
@@ -78,27 +66,24 @@ fn forks(own: &mut Own, fork: Fork) -> Result<(), AllocError> {
 }
 
 /// The state after a `fork`.
-fn forked(alloc: Global, own: &Own, fork: Fork) -> Result<Outcome, AllocError> {
+fn after_fork(alloc: Global, own: &Own, fork: Fork) -> Result<Own, AllocError> {
     let mut next = own.copied(alloc)?;
     forks(&mut next, fork)?;
-    let mut found = Vec::new(alloc);
-    found.push(Step {
-        own: next,
-        label: Label::Plain,
-    })?;
-    Ok(Outcome::Goes(found))
+    Ok(next)
+}
+
+/// What comes of a `fork` after the calls that it needs were explored.
+fn forked(fork: Fork, steps: &mut Steps<'_>) -> Result<Outcome, AllocError> {
+    let next = after_fork(steps.alloc, steps.own, fork);
+    steps.add(next, Label::Plain);
+    steps.finish()
 }
 
 /// The call of a `fork` of a function.
-fn call_of(
-    alloc: Global,
-    around: &Around,
-    own: &Own,
-    function: u32,
-    count: u8,
-) -> Result<Call, AllocError> {
-    let arguments = arguments(alloc, &own.frame, count)?;
-    let environment = environment(alloc, &own.frame, around.call)?;
+fn call_of(function: u32, count: u8, steps: &Steps<'_>) -> Result<Call, AllocError> {
+    let frame = &steps.own.frame;
+    let arguments = arguments(steps.alloc, frame, count)?;
+    let environment = environment(steps.alloc, frame, steps.around.call)?;
     Ok(Call {
         function,
         arguments,
@@ -107,54 +92,41 @@ fn call_of(
 }
 
 /// What comes of a `fork` in a scope of whose cancel the owner doesn't know.
-fn forked_call(
-    alloc: Global,
-    around: &Around,
-    own: &Own,
-    function: u32,
-    fork: Fork,
-) -> Result<Outcome, AllocError> {
-    let asked = call_of(alloc, around, own, function, fork.count)?;
-    let call = around.table.find(&asked);
+fn forked_call(function: u32, fork: Fork, steps: &mut Steps<'_>) -> Result<Outcome, AllocError> {
+    let asked = call_of(function, fork.count, steps)?;
+    let call = steps.around.table.find(&asked);
     if call.is_none() {
         return Ok(Outcome::Asks(asked));
     }
-    forked(alloc, own, Fork { call, ..fork })
+    forked(Fork { call, ..fork }, steps)
 }
 
 /// What comes of a `fork` in the scope at a place.
 fn fork_in(
-    alloc: Global,
-    around: &Around,
-    own: &Own,
     place: u32,
     function: u32,
     handle: Option<u8>,
+    steps: &mut Steps<'_>,
 ) -> Result<Outcome, AllocError> {
+    let own = steps.own;
     let fork = Fork {
         place,
-        count: args(around.program, function),
+        count: args(steps.around.program, function),
         call: None,
         handle,
     };
     match own.scope(place) {
         Some(scope) if function < own.frame.function => match scope.facts.knowledge {
-            Knowledge::Unseen => forked_call(alloc, around, own, function, fork),
-            _ => forked(alloc, own, fork),
+            Knowledge::Unseen => forked_call(function, fork, steps),
+            _ => forked(fork, steps),
         },
         _ => Ok(Outcome::Breaks),
     }
 }
 
 /// Adds the states after an instruction about the subtask that a slot holds.
-fn asked_subtask(
-    alloc: Global,
-    around: &Around,
-    own: &Own,
-    slot: u8,
-    instr: Instr,
-    steps: &mut Steps,
-) -> Result<(), AllocError> {
+fn asked_subtask(slot: u8, instr: Instr, steps: &mut Steps<'_>) {
+    let own = steps.own;
     let Held::Sub { scope, part } = own.slot(slot) else {
         return steps.break_off();
     };
@@ -166,28 +138,23 @@ fn asked_subtask(
             success,
             failed,
             ..
-        } => cased(alloc, around, own, &at, success, failed, steps),
-        _ => {
-            let to = next_place(&own.frame);
-            came(alloc, around, own, &at, false, to, Label::Plain, steps)
-        }
+        } => cased(&at, success, failed, steps),
+        _ => came(&at, false, next_place(&own.frame), Label::Plain, steps),
     }
 }
 
+/// The open scope that a slot holds, which the task owns.
+fn owned(own: &Own, slot: u8) -> Option<At<'_>> {
+    let place = own.own_scope(slot)?;
+    let scope = own.scope(place)?;
+    Some(At { scope, place })
+}
+
 /// Adds the states after an instruction about the scope that a slot holds, which the task owns.
-fn asked_scope(
-    alloc: Global,
-    around: &Around,
-    own: &Own,
-    slot: u8,
-    instr: Instr,
-    steps: &mut Steps,
-) -> Result<(), AllocError> {
-    let Some(place) = own.own_scope(slot) else {
-        return steps.break_off();
-    };
-    let Some(scope) = own.scope(place) else {
-        return steps.break_off();
+fn asked_scope(slot: u8, instr: Instr, steps: &mut Steps<'_>) -> Result<(), AllocError> {
+    let Some(at) = owned(steps.own, slot) else {
+        steps.break_off();
+        return Ok(());
     };
     match instr {
         Instr::Join {
@@ -201,64 +168,46 @@ fn asked_scope(
                 timeout: timeout.unwrap_or(0),
                 interrupted,
             };
-            joined(alloc, around, own, place, scope, targets, steps)
+            joined(at, targets, steps)
         }
-        Instr::Tally(_, kind) => tallied(alloc, around, own, place, scope, kind, steps),
-        Instr::Total(_) => totalled(alloc, around, own, place, scope, steps),
-        _ => closed(alloc, around, own, place, scope, steps),
+        Instr::Tally(_, kind) => asked(at, Question::Count(kind), steps),
+        Instr::Total(_) => asked(at, Question::Total, steps),
+        _ => closed(at, steps),
     }
 }
 
 /// Adds the states after an instruction.
-fn stepped(
-    alloc: Global,
-    around: &Around,
-    own: &Own,
-    instr: Instr,
-    steps: &mut Steps,
-) -> Result<(), AllocError> {
+fn stepped(instr: Instr, steps: &mut Steps<'_>) -> Result<(), AllocError> {
     match instr {
         Instr::Open {
             slot,
             joiner,
             timed,
-        } => opened(alloc, own, slot, joiner, timed, steps),
-        Instr::Interrupted => interrupted(alloc, around, own, steps),
-        Instr::Forget(slot) => forgotten(alloc, own, slot, steps),
-        Instr::Cancelled(slot) => cancelled_at(alloc, around, own, slot, steps),
-        Instr::Join { slot, .. } => asked_scope(alloc, around, own, slot, instr, steps),
-        Instr::Close(slot) | Instr::Tally(slot, _) | Instr::Total(slot) => {
-            asked_scope(alloc, around, own, slot, instr, steps)
-        }
-        Instr::Case { handle, .. } => asked_subtask(alloc, around, own, handle, instr, steps),
-        Instr::Get(slot) | Instr::Except(slot) => {
-            asked_subtask(alloc, around, own, slot, instr, steps)
+        } => opened(slot, joiner, timed, steps),
+        Instr::Interrupted => interrupted(steps),
+        Instr::Forget(slot) => forgotten(slot, steps),
+        Instr::Cancelled(slot) => return cancelled_at(slot, steps),
+        Instr::Join { slot, .. }
+        | Instr::Close(slot)
+        | Instr::Tally(slot, _)
+        | Instr::Total(slot) => return asked_scope(slot, instr, steps),
+        Instr::Case { handle: slot, .. } | Instr::Get(slot) | Instr::Except(slot) => {
+            asked_subtask(slot, instr, steps)
         }
         _ => steps.break_off(),
     }
+    Ok(())
 }
 
 /// The states after an instruction.
-fn goes(alloc: Global, around: &Around, own: &Own, instr: Instr) -> Result<Outcome, AllocError> {
-    let mut steps = Steps {
-        found: Vec::new(alloc),
-        breaks: false,
-    };
-    stepped(alloc, around, own, instr, &mut steps)?;
-    if steps.breaks {
-        Ok(Outcome::Breaks)
-    } else {
-        Ok(Outcome::Goes(steps.found))
-    }
+fn goes(instr: Instr, steps: &mut Steps<'_>) -> Result<Outcome, AllocError> {
+    stepped(instr, steps)?;
+    steps.finish()
 }
 
 /// What comes of an instruction that the frame alone can't do.
-fn outcome_of(
-    alloc: Global,
-    around: &Around,
-    own: &Own,
-    instr: Instr,
-) -> Result<Outcome, AllocError> {
+fn outcome_of(instr: Instr, steps: &mut Steps<'_>) -> Result<Outcome, AllocError> {
+    let own = steps.own;
     match instr {
         Instr::Ret => Ok(Outcome::Ends(End::Success(own.frame.operand(0)))),
         Instr::Fail => Ok(Outcome::Ends(End::Failed(own.frame.operand(0)))),
@@ -267,19 +216,27 @@ fn outcome_of(
             function,
             handle,
         } => match own.own_scope(slot) {
-            Some(place) => fork_in(alloc, around, own, place, function, handle),
+            Some(place) => fork_in(place, function, handle, steps),
             None => Ok(Outcome::Breaks),
         },
-        _ => goes(alloc, around, own, instr),
+        _ => goes(instr, steps),
+    }
+}
+
+/// What comes of a state after `run_frame`.
+fn followed_by(alloc: Global, around: Around<'_>, own: &Own) -> Result<Outcome, AllocError> {
+    match instr_at(around.program, &own.frame) {
+        None => Ok(Outcome::Breaks),
+        Some(instr) => {
+            let mut steps = Steps::new(alloc, around, own);
+            outcome_of(instr, &mut steps)
+        }
     }
 }
 
 /// What comes of a state.
-pub fn followed(alloc: Global, around: &Around, own: &Own) -> Result<Outcome, AllocError> {
+pub fn followed(alloc: Global, around: Around<'_>, own: &Own) -> Result<Outcome, AllocError> {
     let mut own = own.copied(alloc)?;
     run_frame(&mut own.frame, around.program, around.call);
-    match instr_at(around.program, &own.frame) {
-        None => Ok(Outcome::Breaks),
-        Some(instr) => outcome_of(alloc, around, &own, instr),
-    }
+    followed_by(alloc, around, &own)
 }

@@ -2,14 +2,13 @@
 
 use crate::frames::next_place;
 use crate::learned::decided;
-use crate::next::{Around, Looked, Move, Steps};
+use crate::next::{Looked, Move, Steps};
 use ends_known::joiners::is_success;
-use ends_known::own::Own;
 use ends_known::part::{Filter, Part, narrowed, with_part};
 use ends_known::pick::{if_fits, with_fitting};
 use ends_known::seen::{Facts, Knowledge, Seen};
 use ends_known::table::{Label, Table};
-use std::alloc::{AllocError, Global};
+use std::alloc::AllocError;
 use sts_code::Joiner;
 use sts_model::End;
 
@@ -38,25 +37,27 @@ fn heard_by(
     Some((facts, part))
 }
 
-/// Adds the state after a `case` that finds an end of one kind and goes to a place.
-fn cased_by(
-    alloc: Global,
-    around: &Around,
-    own: &Own,
+/// The scope in which its owner knows this of a part, if that fits.
+fn with_heard(
     at: &Looked<'_>,
-    succeeds: bool,
-    triggers: bool,
-    to: u32,
-    steps: &mut Steps,
-) -> Result<(), AllocError> {
+    facts: Facts,
+    part: Part,
+    steps: &Steps<'_>,
+) -> Result<Option<Seen>, AllocError> {
+    let table = steps.around.table;
+    let runs = with_part(steps.alloc, at.scope.runs.as_slice(), at.child, part)?;
+    let next = decided(table, Seen { facts, runs });
+    if_fits(steps.alloc, table, next, steps.left())
+}
+
+/// Adds the state after a `case` that finds an end of one kind and goes to a place.
+fn cased_by(at: &Looked<'_>, succeeds: bool, triggers: bool, to: u32, steps: &mut Steps<'_>) {
     let kind = Filter::Kind { succeeds, triggers };
-    let Some((facts, part)) = heard_by(around.table, at.scope, at.part, kind, !succeeds) else {
-        return Ok(());
-    };
-    let runs = with_part(alloc, at.scope.runs.as_slice(), at.child, part)?;
-    let next = decided(around.table, Seen { facts, runs });
-    let next = if_fits(alloc, around.table, next, around.left(own))?;
-    steps.add_if(alloc, own, at.place, next, Move::jumps(to, Label::Plain))
+    let found = heard_by(steps.around.table, at.scope, at.part, kind, !succeeds);
+    if let Some((facts, part)) = found {
+        let next = with_heard(at, facts, part, steps);
+        steps.add_if(at.place, next, Move::jumps(to, Label::Plain));
+    }
 }
 
 /// The part that a `case` found unavailable.
@@ -74,55 +75,33 @@ fn unavailable(facts: &Facts, part: Part) -> Part {
 }
 
 /// Adds the state after a step, if the part may be as this one.
-fn add_if_fits(
-    alloc: Global,
-    around: &Around,
-    own: &Own,
-    at: &Looked<'_>,
-    part: Part,
-    step: Move,
-    steps: &mut Steps,
-) -> Result<(), AllocError> {
-    let (facts, left) = (at.scope.facts, around.left(own));
-    let next = with_fitting(alloc, around.table, at.scope, left, facts, at.child, part)?;
-    steps.add_if(alloc, own, at.place, next, step)
+fn add_if_fits(at: &Looked<'_>, part: Part, step: Move, steps: &mut Steps<'_>) {
+    let (table, facts, left) = (steps.around.table, at.scope.facts, steps.left());
+    let next = with_fitting(steps.alloc, table, at.scope, left, facts, at.child, part);
+    steps.add_if(at.place, next, step);
 }
 
 /// Adds the state after a `case` that finds its part unavailable.
-fn passed(
-    alloc: Global,
-    around: &Around,
-    own: &Own,
-    at: &Looked<'_>,
-    steps: &mut Steps,
-) -> Result<(), AllocError> {
+fn passed(at: &Looked<'_>, steps: &mut Steps<'_>) {
     if !at.part.is_open {
-        return Ok(());
+        return;
     }
     let label = Label::Lives {
         scope: at.place,
         part: at.child,
     };
-    let step = Move::jumps(next_place(&own.frame), label);
+    let step = Move::jumps(next_place(&steps.own.frame), label);
     let part = unavailable(&at.scope.facts, at.part);
-    add_if_fits(alloc, around, own, at, part, step, steps)
+    add_if_fits(at, part, step, steps);
 }
 
 /// Adds the states after a `case`, which goes to one of two places if the subtask has ended.
-pub fn cased(
-    alloc: Global,
-    around: &Around,
-    own: &Own,
-    at: &Looked<'_>,
-    success: u32,
-    failed: u32,
-    steps: &mut Steps,
-) -> Result<(), AllocError> {
+pub fn cased(at: &Looked<'_>, success: u32, failed: u32, steps: &mut Steps<'_>) {
     for triggers in [true, false] {
-        cased_by(alloc, around, own, at, true, triggers, success, steps)?;
-        cased_by(alloc, around, own, at, false, triggers, failed, steps)?;
+        cased_by(at, true, triggers, success, steps);
+        cased_by(at, false, triggers, failed, steps);
     }
-    passed(alloc, around, own, at, steps)
+    passed(at, steps);
 }
 
 /// The value of a success, or the code of a failure.
@@ -135,19 +114,10 @@ pub fn value_of(end: End) -> i64 {
 
 /// Adds a state for each way that the part may have come to, or for those that are failures alone. The
 /// step pushes the value of the end.
-pub fn came(
-    alloc: Global,
-    around: &Around,
-    own: &Own,
-    at: &Looked<'_>,
-    fails: bool,
-    to: u32,
-    label: Label,
-    steps: &mut Steps,
-) -> Result<(), AllocError> {
+pub fn came(at: &Looked<'_>, fails: bool, to: u32, label: Label, steps: &mut Steps<'_>) {
     let part = at.part;
     let mut way: u32 = 0;
-    for it in around.table.ways_of(part) {
+    for it in steps.around.table.ways_of(part) {
         let is_such = !(fails && is_success(it.end));
         if is_such && part.filter.allows(at.scope.facts.joiner, way, it.end) {
             let only = Part {
@@ -155,9 +125,8 @@ pub fn came(
                 ..part
             };
             let step = Move::pushes(to, value_of(it.end), label);
-            add_if_fits(alloc, around, own, at, only, step, steps)?;
+            add_if_fits(at, only, step, steps);
         }
         way = way.saturating_add(1);
     }
-    Ok(())
 }

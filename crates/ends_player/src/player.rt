@@ -440,7 +440,7 @@ impl<'a> Player<'a> {
         instr: Instr,
     ) -> Result<(), AllocError> {
         let pays = match top.after(explored) {
-            Some(node) => node.label == Label::Pays,
+            Some(node) => matches!(node.label, Label::Pays),
             None => false,
         };
         if pays {
