@@ -243,7 +243,7 @@ impl<'p> Desk<'p> {
         Some(task)
     }
 
-    /// Does local instructions of the slice that is out, and returns whether they are so many.
+    /// Does local instructions of the slice that is out, and returns whether this many were done.
     fn goes_on(&mut self, limit: u32, wanted: u32) -> bool {
         match &mut self.slice {
             Some(slice) => slice.run_local(limit) == wanted,
