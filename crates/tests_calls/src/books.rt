@@ -243,7 +243,7 @@ impl<'p> Desk<'p> {
         Some(task)
     }
 
-    /// Does local instructions of the slice that is out, and returns whether they are so many.
+    /// Does local instructions of the slice that is out, and returns whether this many were done.
     fn goes_on(&mut self, limit: u32, wanted: u32) -> bool {
         match &mut self.slice {
             Some(slice) => slice.run_local(limit) == wanted,
@@ -279,6 +279,11 @@ impl<'p> Desk<'p> {
     /// be there, too.
     fn does(&mut self, others: &mut Option<Slice<'p>>, act: Act) -> bool {
         self.turns(act) && self.moves(others, act)
+    }
+
+    /// Ends the book, and returns whether it has recorded this end and these events.
+    fn recorded<R: Abort>(self, rt: &R, alloc: Global, record: &Record) -> bool {
+        has_recorded(rt, alloc, &self.book, record)
     }
 }
 
@@ -335,26 +340,11 @@ fn plays_alone<R: Abort>(rt: &R, alloc: Global, row: &Alone) -> (Option<usize>, 
     let verified = accepted(rt, alloc, row.text);
     let mut desk = start(rt, alloc, &verified);
     let wrong = first_wrong(&mut desk, row.acts);
-    (wrong, has_recorded(rt, alloc, &desk.book, &row.record))
+    (wrong, desk.recorded(rt, alloc, &row.record))
 }
 
-/// Does the same with a first book and a second one of this program. Returns whether each has recorded
-/// what it should.
-fn plays_with<'p, R: Abort>(
-    rt: &R,
-    alloc: Global,
-    row: &Pair,
-    first: &mut Desk<'p>,
-    other: &'p Verified,
-) -> (Option<usize>, bool, bool) {
-    let mut second = start(rt, alloc, other);
-    let wrong = first_wrong_of_both(first, &mut second, row.acts);
-    let has_first = has_recorded(rt, alloc, &first.book, &row.of_first);
-    let has_second = has_recorded(rt, alloc, &second.book, &row.of_second);
-    (wrong, has_first, has_second)
-}
-
-/// Does the same with a book of each of these programs.
+/// Does the same with a book of each of these programs. Returns whether each has recorded what it
+/// should.
 fn plays<'p, R: Abort>(
     rt: &R,
     alloc: Global,
@@ -363,7 +353,10 @@ fn plays<'p, R: Abort>(
     other: &'p Verified,
 ) -> (Option<usize>, bool, bool) {
     let mut first = start(rt, alloc, one);
-    plays_with(rt, alloc, row, &mut first, other)
+    let mut second = start(rt, alloc, other);
+    let wrong = first_wrong_of_both(&mut first, &mut second, row.acts);
+    let has_first = first.recorded(rt, alloc, &row.of_first);
+    (wrong, has_first, second.recorded(rt, alloc, &row.of_second))
 }
 
 /// Does the same with a book of each of these texts.

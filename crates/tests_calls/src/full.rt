@@ -37,7 +37,9 @@ fn goes_on(book: &mut Book<'_>) -> bool {
 /// Does all three with a book of this program.
 fn does_all<R: Abort>(rt: &R, alloc: Global, verified: &Verified) -> (bool, bool, bool) {
     let mut book = Book::start(alloc, verified).expect(rt, "a book");
-    (fill(&mut book), refuses(&mut book), goes_on(&mut book))
+    let found = (fill(&mut book), refuses(&mut book), goes_on(&mut book));
+    drop(book);
+    found
 }
 
 /// After 4,096 outside events a book refuses one more, and its task goes on.

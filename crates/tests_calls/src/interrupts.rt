@@ -1,6 +1,7 @@
 //! Interrupts of a task when its record is used again.
 
 use crate::rows::compare;
+use crate::standing::finish;
 use crate::texts::{THOUSAND, accepted};
 use std::alloc::Global;
 use std::process::Abort;
@@ -31,7 +32,7 @@ fn interrupt_between(machine: &mut Machine<'_>) -> bool {
 /// Does so on a machine of this program. Returns how its root has ended, too.
 fn end_after<R: Abort>(rt: &R, alloc: Global, verified: &Verified) -> (bool, Option<End>) {
     let mut machine = Machine::prepare(alloc, verified).expect(rt, "a machine");
-    (interrupt_between(&mut machine), machine.root_end())
+    (interrupt_between(&mut machine), finish(machine).end)
 }
 
 /// Task 1 lives from the fourth step of `main`, which forks it, to its own second step. The tasks

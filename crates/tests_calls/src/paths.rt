@@ -1,6 +1,7 @@
 //! The two ways of a run: with its journal written, and with none.
 
 use crate::rows::compare;
+use crate::standing::finish;
 use crate::texts::accepted;
 use std::alloc::Global;
 use std::process::Abort;
@@ -42,8 +43,9 @@ pub fn count(journal: &[Event], event: Event) -> u64 {
 
 /// Fails the test unless the reported journal leads to the reported end, in the reported steps.
 pub fn compare_replay<R: Abort>(rt: &R, alloc: Global, verified: &Verified, report: &Report) {
-    let machine = replay(alloc, verified, report.journal.as_slice()).expect(rt, "a replay");
-    let found = (machine.root_end(), machine.steps());
+    let replayed = replay(alloc, verified, report.journal.as_slice());
+    let said = finish(replayed.expect(rt, "a replay"));
+    let found = (said.end, said.steps);
     compare(rt, "a replay", found, (Some(report.end), report.steps));
 }
 

@@ -70,18 +70,36 @@ static POINTS: [Point; 3] = [
     },
 ];
 
+/// What a machine says behind its last step.
+#[derive(Clone, Copy)]
+pub struct Last {
+    pub end: Option<End>,
+    pub steps: u64,
+    standing: Standing,
+    room: Standing,
+    has_subtask: bool,
+    has_scope: bool,
+}
+
+/// Finishes with a machine, and returns what it says then.
+pub fn finish(machine: Machine<'_>) -> Last {
+    Last {
+        end: machine.root_end(),
+        steps: machine.steps(),
+        standing: machine.standing(),
+        room: machine.room(),
+        has_subtask: machine.key_of(1).is_some(),
+        has_scope: machine.scope_key_of(0).is_some(),
+    }
+}
+
 /// The numbers that count, with the room that is left, and whether a subtask and a scope have a key.
 type Found = (Standing, Standing, bool, bool);
 
 /// Returns what counts after these events.
 fn found_after<R: Abort>(rt: &R, alloc: Global, verified: &Verified, events: &[Event]) -> Found {
-    let machine = replay(alloc, verified, events).expect(rt, "a replay");
-    (
-        machine.standing(),
-        machine.room(),
-        machine.key_of(1).is_some(),
-        machine.scope_key_of(0).is_some(),
-    )
+    let said = finish(replay(alloc, verified, events).expect(rt, "a replay"));
+    (said.standing, said.room, said.has_subtask, said.has_scope)
 }
 
 /// Returns what counts at a point.
@@ -126,7 +144,8 @@ fn stand_one_at_a_time(machine: &mut Machine<'_>) -> bool {
 fn end_of<R: Abort>(rt: &R, alloc: Global, verified: &Verified) -> (bool, Option<End>, Standing) {
     let mut machine = Machine::prepare(alloc, verified).expect(rt, "a machine");
     let is_well = stand_one_at_a_time(&mut machine);
-    (is_well, machine.root_end(), machine.standing())
+    let said = finish(machine);
+    (is_well, said.end, said.standing)
 }
 
 /// Only the root counts at the end of a thousand scopes.
