@@ -1,12 +1,12 @@
-use Rattle.std.proofs.Common.{◌≡◌, ◌≢◌, ◌-◌, ◌++◌, ℕ, zero, suc, List, [], ◌∷◌, Bool, true, false}
+use Rattle.std.proofs.Common.{◌≡◌, ◌≢◌, ◌++◌, ℕ, zero, suc, List, [], ◌∷◌, Bool, true, false}
 use Rattle.std.proofs.Common.{Option, Some, None, refl, sym, ◌∙◌, ap, cond, nat_eq, slice_set, arith}
-use Rattle.std.proofs.Common.{length, take, replicate, ◌+◌, ◌<◌}
+use Rattle.std.proofs.Common.{length, replicate, ◌+◌, ◌<◌}
 use Rattle.std.specs.Prelude.{Result, Ok, Err, OnOk, OnErr}
 use Rattle.std.specs.Borrow.{Bor}
 use Rattle.std.specs.List.{slice_get}
 use Rattle.std.specs.BTreeMap.{BTreeMap}
 use Rattle.std.specs.Str.{bytes_eq}
-use Rattle.std.proofs.lemmas.List.{take_at, length-append}
+use Rattle.std.proofs.lemmas.List.{length-append}
 use Rattle.std.proofs.lemmas.Bool.Decides.{nat_tests}
 use Rattle.std.proofs.lemmas.Slice.Eq.{bytes_eq-Decides}
 use Rattle.sts_asm.specs.Buckets.{bucket_of, first_of, other_of, told_by, told, found_in, AreFound}
@@ -55,12 +55,6 @@ told_before ms new others (Some place) q h = ap (λ (m : Option Mark). told_by m
 
 more_room : (ms : List Mark) (new : Mark) (i : ℕ) → i < length ms → i < length (ms ++ new ∷ [])
 more_room ms new i h = omega (arith, length-append {A = Mark})
-
--- a list without its last element
-pub but_last : {A : Type 0} (xs ys : List A) (x : A) (n : ℕ) → n ≡ length xs + 1 → ys ≡ xs ++ x ∷ [] → take (n - 1) ys ≡ xs
-but_last xs ys x n l e =
-    let s : length xs ≡ n - 1 = omega arith in
-    rw e (take_at xs (x ∷ []) (n - 1) s)
 
 -- ---- names that are other ones
 
@@ -147,6 +141,11 @@ found_first ms firsts others new i n h is small none last = record {
         let s : i ≢ bucket_of q = grind (arith, nat_tests) in
         h.apart q (sym (first_there firsts i (bucket_of q) (Some n) s) ∙ e)
 
+-- a name was made the first of its bucket, or nothing was changed
+pub found_begun : {X E : Type 0} (r : Result X E) (ms ns : List Mark) (firsts next : List (Option ℕ)) (others : BTreeMap (Bor (List ℕ)) ℕ) (new : Mark) (i : ℕ) → AreFound ms firsts others → i ≡ bucket_of new.name → i < length firsts → first_of firsts i ≡ None → OnOk r (ns ≡ ms ++ new ∷ []) → OnOk r (next ≡ slice_set firsts i (Some (length ms))) → OnErr r (ns ≡ ms) → OnErr r (next ≡ firsts) → AreFound ns next others
+found_begun (Ok x) ms ns firsts next others new i h is small none put set back same = rw (put, set) (found_first ms firsts others new i (length ms) h is small none refl)
+found_begun (Err e) ms ns firsts next others new i h is small none put set back same = rw (back, same) h
+
 told_more : (old more : BTreeMap (Bor (List ℕ)) ℕ) (new : Mark) (m : Option Mark) (q : List ℕ) → other_of more q ≡ cond (bytes_eq new.name q) (Some new.at) (other_of old q) → (bytes_eq new.name q ≡ true → told_by m old q ≡ None) → told_by m more q ≡ cond (bytes_eq new.name q) (Some new.at) (told_by m old q)
 told_more old more new None q put h = put
 told_more old more new (Some m) q put h = by (bytes_eq m.name q) (bytes_eq new.name q) refl h put
@@ -181,6 +180,11 @@ found_again ms firsts others new h stands = record {
   within = λ i place e. more_room ms new place (h.within i place e);
   apart = h.apart;
 }
+
+-- the same, or nothing was added
+pub found_added : {X E : Type 0} (r : Result X E) (ms ns : List Mark) (firsts : List (Option ℕ)) (others : BTreeMap (Bor (List ℕ)) ℕ) (new : Mark) → AreFound ms firsts others → (marked ms new.name ≡ None → ⊥) → OnOk r (ns ≡ ms ++ new ∷ []) → OnErr r (ns ≡ ms) → AreFound ns firsts others
+found_added (Ok x) ms ns firsts others new h stands put back = rw put (found_again ms firsts others new h stands)
+found_added (Err e) ms ns firsts others new h stands put back = rw back h
 
 -- the same names, if neither the list nor what the map says has changed
 pub found_same : (ms ns : List Mark) (firsts : List (Option ℕ)) (old more : BTreeMap (Bor (List ℕ)) ℕ) → AreFound ms firsts old → ns ≡ ms → ((q : List ℕ) → other_of more q ≡ other_of old q) → AreFound ns firsts more

@@ -145,10 +145,11 @@ fn keep_next<'a>(
     ensures done { OnOk result (length outline.new.done ≡ length outline.old.done) }
     ensures more { OnOk result (length all.new.items ≡ length all.old.items + 1) }
 {
+    all.reserve(1)?;
     let draft = outline.take(all.len());
     let kept = shortened(alloc, draft)?;
     let function = settled(alloc, &outline.functions, kept);
-    all.push(function)?;
+    all.push_reserved(function);
     Ok(())
 }
 

@@ -1,10 +1,10 @@
 //! The names that a text gives to instructions and functions.
 
-ghost use Rattle.std.specs.Prelude.{◌≡◌, ◌≤◌, ◌++◌, ◌∷◌, [], List, ℕ, length, None, OnOk, OnErr};
-ghost use Rattle.std.specs.Prelude.{if◌then◌else◌};
+ghost use Rattle.std.specs.Prelude.{◌≡◌, ◌≤◌, ◌<◌, ◌++◌, ◌∷◌, [], List, ℕ, length, OnOk, OnErr};
+ghost use Rattle.std.specs.Prelude.{Some, None, if◌then◌else◌, slice_set};
 ghost use Rattle.std.specs.Option.{option_copied};
 ghost use Rattle.std.specs.Str.{bytes_eq};
-ghost use Rattle.sts_asm.specs.Buckets.{with_byte, mixed, bucket_of, first_of, other_of};
+ghost use Rattle.sts_asm.specs.Buckets.{with_byte, mixed, bucket_of, first_of, other_of, told_by};
 ghost use Rattle.sts_asm.specs.Marks.{Mark, marked, label_in, function_in};
 
 use std::alloc::{AllocError, Global};
@@ -75,6 +75,41 @@ fn first_of(firsts: &[Option<u32>], bucket: usize) -> Option<u32>
     }
 }
 
+/// Adds a name to the list.
+fn push_mark<'a>(list: &mut Vec<Mark<'a>>, name: &'a [u8], at: u32) -> Result<(), AllocError>
+    ensures ok { OnOk result (list.new.items ≡
+        list.old.items ++ record { name = name.now; at = at } ∷ []) }
+    ensures err { OnErr result (list.new.items ≡ list.old.items) }
+{
+    list.reserve(1)?;
+    list.push_reserved(Mark { name, at });
+    Ok(())
+}
+
+/// Adds a name to the list, as the first of its bucket.
+fn push_first<'a>(
+    list: &mut Vec<Mark<'a>>,
+    firsts: &mut Vec<Option<u32>>,
+    bucket: usize,
+    name: &'a [u8],
+    at: u32,
+) -> Result<(), AllocError>
+    requires { bucket < length firsts.old.items }
+    ensures list { OnOk result (list.new.items ≡
+        list.old.items ++ record { name = name.now; at = at } ∷ []) }
+    ensures first { OnOk result (firsts.new.items ≡
+        slice_set firsts.old.items bucket (Some (length list.old.items))) }
+    ensures same_list { OnErr result (list.new.items ≡ list.old.items) }
+    ensures same_firsts { OnErr result (firsts.new.items ≡ firsts.old.items) }
+{
+    let Ok(place) = u32::try_from(list.len()) else {
+        return Err(AllocError);
+    };
+    push_mark(list, name, at)?;
+    firsts[bucket] = Some(place);
+    Ok(())
+}
+
 /// Adds a name to the list and to the map.
 fn push_other<'a>(
     list: &mut Vec<Mark<'a>>,
@@ -90,13 +125,19 @@ fn push_other<'a>(
     ensures same_map { OnErr result ((q : List ℕ) →
         other_of others.new q ≡ other_of others.old q) }
 {
-    list.push(Mark { name, at })?;
-    match others.insert(name, at) {
-        Ok(_) => Ok(()),
-        Err(_) => {
-            let _ = list.pop();
-            Err(AllocError)
-        }
+    list.reserve(1)?;
+    others.insert(name, at)?;
+    list.push_reserved(Mark { name, at });
+    Ok(())
+}
+
+/// What the first name of a bucket says of a name, or else the map.
+fn told_by(first: Option<&Mark<'_>>, others: &BTreeMap<&[u8], u32>, name: &[u8]) -> Option<u32>
+    ensures { result ≡ told_by (option_copied first.entry) others.now name.now }
+{
+    match first {
+        Some(mark) if mark.name == name => Some(mark.at),
+        _ => others.get(name).copied(),
     }
 }
 
@@ -139,10 +180,7 @@ impl<'a> Marks<'a> {
         ensures { result ≡ marked self.now name.now }
     {
         let place = first_of(self.firsts.as_slice(), bucket_of(name))?;
-        match self.list.get(place as usize) {
-            Some(mark) if mark.name == name => Some(mark.at),
-            _ => self.others.get(name).copied(),
-        }
+        told_by(self.list.get(place as usize), &self.others, name)
     }
 
     /// Adds a new name.
@@ -160,12 +198,7 @@ impl<'a> Marks<'a> {
         if first_of(self.firsts.as_slice(), bucket).is_some() {
             return push_other(&mut self.list, &mut self.others, name, at);
         }
-        let Ok(place) = u32::try_from(self.list.len()) else {
-            return Err(AllocError);
-        };
-        self.list.push(Mark { name, at })?;
-        self.firsts[bucket] = Some(place);
-        Ok(())
+        push_first(&mut self.list, &mut self.firsts, bucket, name, at)
     }
 
     fn push_again(&mut self, name: &'a [u8], at: u32) -> Result<(), AllocError>
@@ -173,8 +206,7 @@ impl<'a> Marks<'a> {
         ensures ok { OnOk result (self.new ≡ self.old ++ record { name = name.now; at = at } ∷ []) }
         ensures err { OnErr result (self.new ≡ self.old) }
     {
-        self.list.push(Mark { name, at })?;
-        Ok(())
+        push_mark(&mut self.list, name, at)
     }
 
     /// Adds a name. If the marks have the name already, it keeps its first meaning.

@@ -5,7 +5,7 @@ ghost use Rattle.sts_asm.specs.Line.{plain_words, numbered_words, slotted_words,
 ghost use Rattle.sts_asm.specs.Line.{mnemonic_of, without_operands};
 ghost use Rattle.sts_asm.specs.Line.{with_number, with_slot, with_target};
 ghost use Rattle.sts_asm.specs.Operand.{looked_up};
-ghost use Rattle.sts_asm.specs.declared.mnemonic.Mnemonic.TheVariants.{Plain};
+ghost use Rattle.sts_asm.specs.declared.mnemonic.Mnemonic.TheVariants.{Plain, WithNumber, WithSlot};
 
 use crate::operand::is_word;
 use sts_code::Instr;
@@ -192,50 +192,50 @@ pub fn plain_word(word: &[u8]) -> Option<Operandless>
     None
 }
 
-fn numbered_word(word: &[u8]) -> Option<Mnemonic>
-    ensures { result ≡ looked_up numbered_words word.now }
+fn numbered_word(word: &[u8]) -> Option<Numbered>
+    ensures { option_map (λ form. WithNumber form) result ≡ looked_up numbered_words word.now }
 {
     if is_word(word, b"load") {
-        return Some(Mnemonic::WithNumber(Numbered::Load));
+        return Some(Numbered::Load);
     }
     if is_word(word, b"store") {
-        return Some(Mnemonic::WithNumber(Numbered::Store));
+        return Some(Numbered::Store);
     }
     if is_word(word, b"bind") {
-        return Some(Mnemonic::WithNumber(Numbered::Bind));
+        return Some(Numbered::Bind);
     }
     if is_word(word, b"read") {
-        return Some(Mnemonic::WithNumber(Numbered::Read));
+        return Some(Numbered::Read);
     }
     if is_word(word, b"bound") {
-        return Some(Mnemonic::WithNumber(Numbered::Bound));
+        return Some(Numbered::Bound);
     }
     if is_word(word, b"orelse") {
-        return Some(Mnemonic::WithNumber(Numbered::OrElse));
+        return Some(Numbered::OrElse);
     }
     None
 }
 
-fn slotted_word(word: &[u8]) -> Option<Mnemonic>
-    ensures { result ≡ looked_up slotted_words word.now }
+fn slotted_word(word: &[u8]) -> Option<Slotted>
+    ensures { option_map (λ form. WithSlot form) result ≡ looked_up slotted_words word.now }
 {
     if is_word(word, b"close") {
-        return Some(Mnemonic::WithSlot(Slotted::Close));
+        return Some(Slotted::Close);
     }
     if is_word(word, b"cancelled") {
-        return Some(Mnemonic::WithSlot(Slotted::Cancelled));
+        return Some(Slotted::Cancelled);
     }
     if is_word(word, b"get") {
-        return Some(Mnemonic::WithSlot(Slotted::Get));
+        return Some(Slotted::Get);
     }
     if is_word(word, b"except") {
-        return Some(Mnemonic::WithSlot(Slotted::Except));
+        return Some(Slotted::Except);
     }
     if is_word(word, b"total") {
-        return Some(Mnemonic::WithSlot(Slotted::Total));
+        return Some(Slotted::Total);
     }
     if is_word(word, b"forget") {
-        return Some(Mnemonic::WithSlot(Slotted::Forget));
+        return Some(Slotted::Forget);
     }
     None
 }
@@ -284,10 +284,13 @@ pub fn mnemonic_of(word: &[u8]) -> Option<Mnemonic>
     if let Some(found) = other_word(word) {
         return Some(found);
     }
-    if let Some(found) = numbered_word(word) {
-        return Some(found);
+    if let Some(form) = numbered_word(word) {
+        return Some(Mnemonic::WithNumber(form));
     }
-    slotted_word(word)
+    match slotted_word(word) {
+        Some(form) => Some(Mnemonic::WithSlot(form)),
+        None => None,
+    }
 }
 
 /// The operands that follow this first word, if it is an instruction's.
@@ -300,8 +303,11 @@ pub fn first_word(word: &[u8]) -> Option<Mnemonic>
     if let Some(form) = plain_word(word) {
         return Some(Mnemonic::Plain(form.instr()));
     }
-    if let Some(found) = numbered_word(word) {
-        return Some(found);
+    if let Some(form) = numbered_word(word) {
+        return Some(Mnemonic::WithNumber(form));
     }
-    slotted_word(word)
+    match slotted_word(word) {
+        Some(form) => Some(Mnemonic::WithSlot(form)),
+        None => None,
+    }
 }

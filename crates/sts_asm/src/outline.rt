@@ -429,7 +429,7 @@ impl<'a> Outline<'a> {
     {
         let name = draft.name.as_bytes();
         let at = self.done.len() as u32;
-        self.current = Some(draft);
+        self.current.insert(draft);
         self.functions.push(name, at)
     }
 

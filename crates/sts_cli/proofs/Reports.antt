@@ -1,5 +1,5 @@
 -- The outcome of a run, and its output.
-use Rattle.std.proofs.Common.{◌≡◌, ℕ, ◌≤◌, List, length, Bool, false, Option, Result, Ok, Err, MatchResult, count_by, ap, subst, sym, ◌∙◌, refl}
+use Rattle.std.proofs.Common.{◌≡◌, ℕ, ◌≤◌, List, length, Bool, true, false, Option, inl, Result, Ok, Err, MatchResult, count_by, ap, subst, sym, ◌∙◌, refl}
 use Rattle.std.specs.Prelude.{IfOk}
 use Rattle.sts_code.specs.Program.{Program}
 use Rattle.sts_model.specs.Run.{is_step}
@@ -11,11 +11,12 @@ use Rattle.sts_rules.specs.Refusal.{IsAccepted}
 use Rattle.sts_output.specs.Output.{AreLines, IsRefused, Output, Writes, file_output}
 use Rattle.sts_cli.proofs.Given.{are_given}
 use Rattle.sts_cli.specs.Dues.{dues_give}
-use Rattle.sts_cli.specs.Running.{IsOutcomeOf, IsRun, Outcome, RunWrites, alone}
+use Rattle.sts_asm.specs.Text.{judged}
+use Rattle.sts_cli.specs.Running.{IsOutcomeOf, IsRun, Outcome, RunWrites, TextRuns, alone}
 use Rattle.sts_cli.specs.Running.{Holds, IsReportOf, refused, report_output, reported}
 use Rattle.sts_output.specs.Taking.{IsTakenOf}
 use Rattle.sts_cli.specs.Ending.{IsOfRun, IsPrinted, of_run}
-use Rattle.sts_output.specs.Streams.{Written, most_of_a_text, most_of_a_stream, no_trace, whole}
+use Rattle.sts_output.specs.Streams.{Written, WritesBoth, most_of_a_text, most_of_a_stream, no_trace, whole}
 use Rattle.sts_cli.specs.Ending.{shown, without_file}
 use Rattle.sts_output.specs.declared.taking.TakeError.TheVariants.{Read}
 
@@ -83,6 +84,16 @@ pub printed_alone : (P : Type 0) (text outside given given_outside : List ℕ) (
     → Writes old new s r.output → (o : Output) × IsPrinted P text outside o × Writes old new s o
 printed_alone P text outside given given_outside old new s r spares e f is out =
     (r.output, of_run spares r (handed_on text outside given given_outside r e f is) refl, out)
+
+-- an output that was printed is that of an outcome
+pub printed_ran : (text outside : List ℕ) (old new : Option (List ℕ)) (s : ℕ) (kept : Bool) (r : Outcome) → Holds kept (TextRuns (judged text) outside) r → Writes old new s r.output
+    → (o : Outcome) × IsOutcomeOf text outside o × Writes old new s o.output
+printed_ran text outside old new s kept r h out = (h.outcome, inl h.is, subst (λ o. Writes old new s o) h.output out)
+
+-- and so is one that was printed after its journal was written
+pub written_ran : (text outside : List ℕ) (w : Written) (s : ℕ) (r : Outcome) → Holds true (TextRuns (judged text) outside) r → RunWrites w s r → (o : Outcome) × IsOutcomeOf text outside o × RunWrites w s o
+written_ran text outside w s r h both =
+    (h.outcome, inl h.is, subst (λ o. WritesBoth w s h.outcome.journal o) h.output (subst (λ es. WritesBoth w s es r.output) (h.journal refl) both))
 
 pub of_texts : (P : Type 0) (file outside_file : Option (List ℕ)) (text outside : List ℕ) (o : Output) → IsTakenOf file most_of_a_text text → IsTakenOf outside_file most_of_a_stream outside → IsPrinted P text outside o → IsOfRun P file outside_file o
 of_texts P file outside_file text outside o taken others printed = shown text outside taken others printed

@@ -95,6 +95,39 @@ impl Aside {
     }
 }
 
+/// Writes the output of a run, and leaves in `aside` which outside events came.
+fn print_ran<W: Write>(ran: &mut Ran, out: &mut W, aside: &mut Aside) -> Result<u8, WriteFailed>
+    ensures { IfOk result (λ s.
+        def.Writes (W.contents out.old) (W.contents out.new) s ran.old.output) }
+{
+    aside.came = ran.came.take();
+    written(out, ran.output.text.as_bytes(), ran.output.status)
+}
+
+/// Writes the journal of a run to its trace, and then the output. If the trace can't be written,
+/// only `error file` is printed, and `aside` gets the reason.
+fn write_ran<T: Write, W: Write>(
+    ran: &mut Ran,
+    trace: &mut T,
+    out: &mut W,
+    aside: &mut Aside,
+) -> Result<u8, WriteFailed>
+    ensures { IfOk result (λ s. RunWrites (record {
+      trace_old = T.contents trace.old;
+      trace_new = T.contents trace.new;
+      out_old = W.contents out.old;
+      out_new = W.contents out.new;
+    }) s ran.old) }
+{
+    match traced(ran.journal.as_slice(), trace) {
+        Ok(()) => print_ran(ran, out, aside),
+        Err(error) => {
+            aside.unwritten = Some(error);
+            failed(TakeError::Read, out)
+        }
+    }
+}
+
 /// Does what `play_run` does if no trace is asked for. No journal is kept.
 ///
 /// # Errors
@@ -118,15 +151,7 @@ pub(crate) fn play_untraced<R: Threads + Wait + Sync, W: Write>(
         kept: false,
     };
     match run::outcome(rt, alloc, text, manner, outside) {
-        Ok(ran) => {
-            let Ran {
-                output,
-                journal: _,
-                came,
-            } = ran;
-            aside.came = came;
-            written(out, output.text.as_bytes(), output.status)
-        }
+        Ok(mut ran) => print_ran(&mut ran, out, aside),
         Err(_) => failed(TakeError::Memory, out),
     }
 }
@@ -156,23 +181,7 @@ pub(crate) fn play_traced<R: Threads + Wait + Sync, T: Write, W: Write>(
         kept: true,
     };
     match run::outcome(rt, alloc, text, manner, outside) {
-        Ok(ran) => {
-            let Ran {
-                output,
-                journal,
-                came,
-            } = ran;
-            match traced(journal.as_slice(), trace) {
-                Ok(()) => {
-                    aside.came = came;
-                    written(out, output.text.as_bytes(), output.status)
-                }
-                Err(error) => {
-                    aside.unwritten = Some(error);
-                    failed(TakeError::Read, out)
-                }
-            }
-        }
+        Ok(mut ran) => write_ran(&mut ran, trace, out, aside),
         Err(_) => failed(TakeError::Memory, out),
     }
 }

@@ -1,14 +1,17 @@
 //! The program `sts`, without its `main`: opens the files that a command line names, and writes the
 //! output.
 
-ghost use Rattle.std.specs.Prelude.{◌≡◌, ◌≤◌, ◌⊎◌, IfOk, map};
+ghost use Rattle.std.specs.Prelude.{◌≡◌, ◌≤◌, ◌⊎◌, ℕ, IfOk, List, Option, [], map};
 ghost use Rattle.std.specs.String.{string_bytes};
+ghost use Rattle.clap.specs.Words.{Text};
 ghost use Rattle.sts_args.specs.Asked.{HasWorkers};
+ghost use Rattle.sts_args.specs.Refused.{Refuses};
 ghost use Rattle.sts_cli.specs.Ending as def;
-ghost use Rattle.sts_output.specs.Output.{Output, Writes};
-ghost use Rattle.sts_output.specs.Streams.{events_of, same_file};
+ghost use Rattle.sts_output.specs.Joined.{halves_of};
+ghost use Rattle.sts_output.specs.Output.{IsOutputOf, Output, Writes};
+ghost use Rattle.sts_output.specs.Streams.{Files as AnyFiles, SameFile, events_of, same_file};
 
-use crate::playing::{Aside, play, play_joined, play_traced, play_untraced};
+use crate::playing::{Aside, play, play_traced, play_untraced};
 use crate::remarks::remark_outside;
 use std::alloc::{AllocError, Global};
 use std::io::{Input, Write};
@@ -26,6 +29,22 @@ use sts_remarks::{Remarks, Watched};
 /// The name that the program goes by.
 const NAME: &str = "sts";
 
+/// Plays a text that was read.
+fn play_text<W: Write>(
+    alloc: Global,
+    mode: Mode,
+    text: Named<'_>,
+    out: &mut W,
+    notes: &mut Notes,
+) -> Result<u8, WriteFailed>
+    ensures { IfOk result (λ s. (o : Output) × IsOutputOf mode text.entry.text.now [] o
+        × Writes (W.contents out.old) (W.contents out.new) s o) }
+{
+    let status = play(alloc, mode, text.text, &[], out)?;
+    notes.status(status, text, Events::None);
+    Ok(status)
+}
+
 /// A mode that only reads a text.
 fn on_text<S: Sources, W: Write>(
     alloc: Global,
@@ -41,23 +60,37 @@ fn on_text<S: Sources, W: Write>(
 {
     match read_text(alloc, sources, path) {
         Ok(text) => {
-            let status = play(alloc, mode, text.as_slice(), &[], out)?;
-            notes.status(status, Named::new(path, text.as_slice()), Events::None);
-            Ok(status)
+            let bytes = text.as_slice();
+            let named = Named {
+                name: path,
+                text: bytes,
+            };
+            play_text(alloc, mode, named, out, notes)
         }
         Err(error) => file_failed(error, out, notes),
     }
 }
 
-/// Adds the lines about a trace that was played: why it failed, and which event did nothing.
-fn remark_trace(status: u8, text: Named<'_>, trace: Named<'_>, remarks: &mut Remarks) {
+/// Plays a text and a trace that were read.
+fn play_trace<W: Write>(
+    mode: Mode,
+    text: Named<'_>,
+    trace: Named<'_>,
+    out: &mut W,
+    remarks: &mut Remarks,
+) -> Result<u8, WriteFailed>
+    ensures { IfOk result (λ s. (o : Output)
+        × IsOutputOf mode text.entry.text.now trace.entry.text.now o
+        × Writes (W.contents out.old) (W.contents out.new) s o) }
+{
+    let status = play(remarks.alloc, mode, text.text, trace.text, out)?;
     remarks.notes.status(status, text, Events::Trace(trace));
     remarks.idle(status, "line", text.text, trace);
+    Ok(status)
 }
 
 /// A mode that looks at a text and a trace.
 fn on_text_and_trace<S: Sources, W: Write>(
-    alloc: Global,
     sources: &S,
     mode: Mode,
     path: &str,
@@ -69,25 +102,40 @@ fn on_text_and_trace<S: Sources, W: Write>(
         × def.IsOfTextAndTrace mode (S.held sources.now path.now) (S.held sources.now trace.now) o
         × Writes (W.contents out.old) (W.contents out.new) s o) }
 {
-    match read_texts(alloc, sources, path, Some(trace)) {
+    match read_texts(remarks.alloc, sources, path, Some(trace)) {
         Ok(texts) => {
             let (text, events) = (texts.program.as_slice(), texts.events.as_slice());
-            let status = play(alloc, mode, text, events, out)?;
-            remark_trace(
-                status,
-                Named::new(path, text),
-                Named::new(trace, events),
-                remarks,
-            );
-            Ok(status)
+            let program = Named { name: path, text };
+            let trace = Named {
+                name: trace,
+                text: events,
+            };
+            play_trace(mode, program, trace, out, remarks)
         }
         Err(error) => file_failed(error, out, &mut remarks.notes),
     }
 }
 
+/// Plays what was read from the input stream.
+fn play_input<W: Write>(input: &[u8], out: &mut W, remarks: &mut Remarks) -> Result<u8, WriteFailed>
+    ensures { IfOk result (λ s. (o : Output)
+        × IsOutputOf Mode.Plain (halves_of input.now).text (halves_of input.now).trace o
+        × Writes (W.contents out.old) (W.contents out.new) s o) }
+{
+    let (text, trace) = split(input);
+    let text = Named {
+        name: "the text",
+        text,
+    };
+    let trace = Named {
+        name: "the trace",
+        text: trace,
+    };
+    play_trace(Mode::Plain, text, trace, out, remarks)
+}
+
 /// A text and a trace on the input stream.
 fn on_input<S: Sources, W: Write>(
-    alloc: Global,
     sources: &S,
     out: &mut W,
     remarks: &mut Remarks,
@@ -96,18 +144,8 @@ fn on_input<S: Sources, W: Write>(
         × def.IsOfInput (S.offered sources.now) o
         × Writes (W.contents out.old) (W.contents out.new) s o) }
 {
-    match read_input(alloc, sources) {
-        Ok(input) => {
-            let status = play_joined(alloc, input.as_slice(), out)?;
-            let (text, trace) = split(input.as_slice());
-            remark_trace(
-                status,
-                Named::new("the text", text),
-                Named::new("the trace", trace),
-                remarks,
-            );
-            Ok(status)
-        }
+    match read_input(remarks.alloc, sources) {
+        Ok(input) => play_input(input.as_slice(), out, remarks),
         Err(error) => file_failed(error, out, &mut remarks.notes),
     }
 }
@@ -162,26 +200,53 @@ fn on_texts<R: Threads + Wait + Sync, S: Sinks, W: Write>(
 }
 
 /// Adds the lines about a run that was done: why it failed, and which outside events had no effect.
-fn remark(wanted: RunRequest<'_>, texts: &Texts, status: u8, aside: Aside, remarks: &mut Remarks) {
-    let Aside { unwritten, came } = aside;
+fn remark(
+    wanted: RunRequest<'_>,
+    texts: &Texts,
+    status: u8,
+    aside: &mut Aside,
+    remarks: &mut Remarks,
+) {
     let events = outside_of(wanted, texts);
     if let Some(path) = wanted.trace {
-        remarks.notes.written(path, unwritten);
+        remarks.notes.written(path, aside.unwritten.take());
     }
     let text = Named::new(wanted.file, texts.program.as_slice());
     remarks.notes.status(status, text, events);
-    if let Events::Outside(named) = events {
-        if let Some(came) = came {
-            remark_outside(remarks, named, &came);
-        }
+    if let (Events::Outside(named), Some(came)) = (events, &aside.came) {
+        remark_outside(remarks, named, came);
     }
+}
+
+/// Does a run of texts that were read.
+fn run_texts<R: Threads + Wait + Sync, S: Sinks, W: Write>(
+    rt: &R,
+    sinks: &mut S,
+    texts: &Texts,
+    wanted: RunRequest<'_>,
+    out: &mut W,
+    remarks: &mut Remarks,
+) -> Result<u8, WriteFailed>
+    requires { (1 ≤ wanted.workers) × (wanted.workers ≤ 16) }
+    ensures { IfOk result (λ s. (o : Output)
+        × def.IsPrinted (def.Spares
+        (same_file (S.same sinks.old) (S.said_yes sinks.old) (S.said_yes sinks.new))
+        wanted.entry.file.now wanted.entry.outside wanted.entry.trace)
+        texts.now.program.items texts.now.events.items o
+        × Writes (W.contents out.old) (W.contents out.new) s o) }
+{
+    let mut aside = Aside::new();
+    let alloc = remarks.alloc;
+    let notes = &mut remarks.notes;
+    let status = on_texts(rt, alloc, sinks, texts, wanted, out, notes, &mut aside)?;
+    remark(wanted, texts, status, &mut aside, remarks);
+    Ok(status)
 }
 
 /// Does a run. The text is read before the outside text, and both before the file of the trace is
 /// made.
 fn on_run<R: Threads + Wait + Sync, S: Sources + Sinks, W: Write>(
     rt: &R,
-    alloc: Global,
     sources: &mut S,
     wanted: RunRequest<'_>,
     out: &mut W,
@@ -196,14 +261,8 @@ fn on_run<R: Threads + Wait + Sync, S: Sources + Sinks, W: Write>(
         (events_of (S.held sources.old) wanted.entry.outside) o
         × Writes (W.contents out.old) (W.contents out.new) s o) }
 {
-    match read_texts(alloc, &*sources, wanted.file, wanted.outside) {
-        Ok(texts) => {
-            let mut aside = Aside::new();
-            let notes = &mut remarks.notes;
-            let status = on_texts(rt, alloc, sources, &texts, wanted, out, notes, &mut aside)?;
-            remark(wanted, &texts, status, aside, remarks);
-            Ok(status)
-        }
+    match read_texts(remarks.alloc, &*sources, wanted.file, wanted.outside) {
+        Ok(texts) => run_texts(rt, sources, &texts, wanted, out, remarks),
         Err(error) => file_failed(error, out, &mut remarks.notes),
     }
 }
@@ -211,7 +270,6 @@ fn on_run<R: Threads + Wait + Sync, S: Sources + Sinks, W: Write>(
 /// Does what a line asks for.
 fn on_line<R: Threads + Wait + Sync, S: Sources + Sinks, W: Write>(
     rt: &R,
-    alloc: Global,
     sources: &mut S,
     wanted: asked::Line<'_>,
     out: &mut W,
@@ -224,16 +282,21 @@ fn on_line<R: Threads + Wait + Sync, S: Sources + Sinks, W: Write>(
         (S.offered sources.old) o
         × Writes (W.contents out.old) (W.contents out.new) s o) }
 {
-    let notes = &mut remarks.notes;
     match wanted {
-        asked::Line::Joined => on_input(alloc, &*sources, out, remarks),
-        asked::Line::Verify { file } => on_text(alloc, &*sources, Mode::Verify, file, out, notes),
-        asked::Line::List { file } => on_text(alloc, &*sources, Mode::List, file, out, notes),
+        asked::Line::Joined => on_input(&*sources, out, remarks),
+        asked::Line::Verify { file } => {
+            let notes = &mut remarks.notes;
+            on_text(remarks.alloc, &*sources, Mode::Verify, file, out, notes)
+        }
+        asked::Line::List { file } => {
+            let notes = &mut remarks.notes;
+            on_text(remarks.alloc, &*sources, Mode::List, file, out, notes)
+        }
         asked::Line::Plain { file, trace } => {
-            on_text_and_trace(alloc, &*sources, Mode::Plain, file, trace, out, remarks)
+            on_text_and_trace(&*sources, Mode::Plain, file, trace, out, remarks)
         }
         asked::Line::Replay { file, trace } => {
-            on_text_and_trace(alloc, &*sources, Mode::Replay, file, trace, out, remarks)
+            on_text_and_trace(&*sources, Mode::Replay, file, trace, out, remarks)
         }
         asked::Line::Run {
             file,
@@ -247,8 +310,29 @@ fn on_line<R: Threads + Wait + Sync, S: Sources + Sinks, W: Write>(
                 outside,
                 trace,
             };
-            on_run(rt, alloc, sources, wanted, out, remarks)
+            on_run(rt, sources, wanted, out, remarks)
         }
+    }
+}
+
+/// Writes why a line asks for nothing that can be done.
+fn on_error<W: Write, E: Write>(
+    error: LineError,
+    out: &mut W,
+    err: &mut E,
+) -> Result<u8, WriteFailed>
+    ensures { (words : List Text) (files : AnyFiles) (same : SameFile) (input : Option (List ℕ))
+        → Refuses words error → IfOk result (def.Ends words files same input (record {
+          out_old = W.contents out.old;
+          out_new = W.contents out.new;
+          err_old = E.contents err.old;
+          err_new = E.contents err.new;
+        })) }
+{
+    match error {
+        LineError::Memory => failed(TakeError::Memory, out),
+        LineError::Help(text) => written(err, text.as_bytes(), 0),
+        LineError::Usage(text) => written(err, text.as_bytes(), 2),
     }
 }
 
@@ -286,10 +370,8 @@ pub fn run<R: Threads + Wait + Sync, S: Sources + Sinks, W: Write, E: Write>(
         })) }
 {
     match line(alloc, words) {
-        Ok(wanted) => on_line(rt, alloc, sources, wanted, out, remarks),
-        Err(LineError::Memory) => failed(TakeError::Memory, out),
-        Err(LineError::Help(text)) => written(err, text.as_bytes(), 0),
-        Err(LineError::Usage(text)) => written(err, text.as_bytes(), 2),
+        Ok(wanted) => on_line(rt, sources, wanted, out, remarks),
+        Err(error) => on_error(error, out, err),
     }
 }
 
@@ -331,6 +413,25 @@ pub fn run_words<R: Threads + Wait + Sync, S: Sources + Sinks, W: Write, E: Writ
 const WAITS: &[u8] =
     b"sts: waits for a text, a line % and a trace on standard input; --help lists the commands\n";
 
+/// Does what the words ask for with the files of the process, and gives the status; a stream that
+/// fails is status 6.
+fn watched<R: Files + Input + Threads + Wait + Sync, W: Write, E: Write>(
+    rt: &R,
+    words: &Result<Vec<String>, WordsError>,
+    out: &mut W,
+    err: &mut E,
+    remarks: &mut Remarks,
+) -> u8 {
+    let mut files = Host::new(rt);
+    let mut out = Watched::new(out);
+    let alloc = remarks.alloc;
+    let status = run_words(rt, alloc, &mut files, words, &mut out, err, remarks);
+    if status.is_err() {
+        remarks.unwritten(out.failure());
+    }
+    status.unwrap_or(STATUS_OUTSIDE)
+}
+
 /// Does what the process was asked for, and gives the status; a stream that fails is status 6.
 ///
 /// `at_terminal` says whether a person types the input.
@@ -350,13 +451,7 @@ pub fn start<R: Env + Files + Input + Threads + Wait + Sync, W: Write, E: Write>
     if at_terminal && words.as_ref().is_ok_and(|words| words.len() == 1) {
         let _told = err.write_all(WAITS);
     }
-    let mut out = Watched::new(out);
-    let mut files = Host::new(rt);
-    let status = run_words(rt, alloc, &mut files, &words, &mut out, err, &mut remarks);
-    if status.is_err() {
-        remarks.unwritten(out.failure());
-    }
-    let _told = err.write_all(remarks.notes.lines());
-    let _told = err.write_all(remarks.lines());
-    status.unwrap_or(STATUS_OUTSIDE)
+    let status = watched(rt, &words, out, err, &mut remarks);
+    remarks.write(err);
+    status
 }

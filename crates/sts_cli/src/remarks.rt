@@ -1,6 +1,7 @@
 //! The lines on standard error about outside events that had no effect, or came late.
 
-use std::alloc::{AllocError, Global};
+use std::alloc::AllocError;
+use std::fmt::Write;
 use sts_model::Event;
 use sts_output::Named;
 use sts_remarks::Remarks;
@@ -72,55 +73,78 @@ impl Latest {
     }
 }
 
-/// Returns an outside event as its line has it, without `at N`.
-fn event_text(alloc: Global, event: Event) -> Result<String, AllocError> {
+/// Appends an outside event as its line has it, without `at N`.
+fn say_event(out: &mut String, event: Event) -> Result<(), AllocError> {
     match event {
-        Event::Step(task) => format!(in alloc; "step {task}"),
-        Event::Interrupt(task) => format!(in alloc; "interrupt {task}"),
-        Event::Expire(scope) => format!(in alloc; "expire {scope}"),
+        Event::Step(task) => write!(out, "step {task}"),
+        Event::Interrupt(task) => write!(out, "interrupt {task}"),
+        Event::Expire(scope) => write!(out, "expire {scope}"),
     }
 }
 
-/// Returns what an outside event did, and why.
-fn reason(alloc: Global, event: Event, lost: Lost) -> Result<String, AllocError> {
-    match (lost, event) {
-        (Lost::Undue(entries), _) => {
-            format!(in alloc; "was never due, since the journal ended with {entries} events")
+/// Appends why an outside event did nothing when it came.
+fn say_idle(out: &mut String, event: Event) -> Result<(), AllocError> {
+    match event {
+        Event::Step(task) => write!(out, "did nothing, since task {task} could not step then"),
+        Event::Interrupt(task) => write!(out, "did nothing, since task {task} did not live then"),
+        Event::Expire(scope) => write!(
+            out,
+            "did nothing, since scope {scope} could not expire then"
+        ),
+    }
+}
+
+/// Appends what an outside event did, and why.
+fn say_reason(out: &mut String, event: Event, lost: Lost) -> Result<(), AllocError> {
+    match lost {
+        Lost::Idle => say_idle(out, event),
+        Lost::Undue(entries) => {
+            write!(
+                out,
+                "was never due, since the journal ended with {entries} events"
+            )
         }
-        (Lost::Held(index), _) => {
+        Lost::Held(index) => {
             let number = index.saturating_add(1);
-            format!(in alloc; "never came, since line {number} comes first and was never due")
+            write!(
+                out,
+                "never came, since line {number} comes first and was never due"
+            )
         }
-        (Lost::Late(Latest { index, at }), _) => {
+        Lost::Late(Latest { index, at }) => {
             let number = (index as u64).saturating_add(1);
-            format!(in alloc; "waited for line {number}, which comes first and is due at {at}")
-        }
-        (Lost::Idle, Event::Expire(scope)) => {
-            format!(in alloc; "did nothing, since scope {scope} could not expire then")
-        }
-        (Lost::Idle, Event::Interrupt(task)) => {
-            format!(in alloc; "did nothing, since task {task} did not live then")
-        }
-        (Lost::Idle, Event::Step(task)) => {
-            format!(in alloc; "did nothing, since task {task} could not step then")
+            write!(
+                out,
+                "waited for line {number}, which comes first and is due at {at}"
+            )
         }
     }
 }
 
-/// Returns the line about the event of line `index`, counted from 0.
-fn line(
-    remarks: &Remarks,
+/// Appends the line about the event of line `index`, counted from 0.
+fn say_line(
+    out: &mut String,
+    program: &str,
     name: &str,
     index: usize,
     due: Due,
     lost: Lost,
-) -> Result<String, AllocError> {
-    let (alloc, program) = (remarks.alloc, remarks.program);
+) -> Result<(), AllocError> {
     let number = (index as u64).saturating_add(1);
     let at = due.at;
-    let event = event_text(alloc, due.event)?;
-    let reason = reason(alloc, due.event, lost)?;
-    format!(in alloc; "{program}: {name}, line {number}: \"at {at} {event}\" {reason}\n")
+    write!(out, "{program}: {name}, line {number}: \"at {at} ")?;
+    say_event(out, due.event)?;
+    out.push_str("\" ")?;
+    say_reason(out, due.event, lost)?;
+    out.push_str("\n")
+}
+
+/// Adds the line about the event of line `index`, counted from 0, if there is memory for it.
+fn remark_event(remarks: &mut Remarks, name: &str, index: usize, due: Due, lost: Lost) {
+    let mut line = String::new(remarks.alloc);
+    if say_line(&mut line, remarks.program, name, index, due, lost).is_ok() {
+        remarks.add(line.as_bytes());
+    }
 }
 
 /// Adds a line for each event of an outside text that had no effect in a run, or came late.
@@ -131,9 +155,7 @@ pub(crate) fn remark_outside(remarks: &mut Remarks, named: Named<'_>, came: &Cam
     let mut latest = Latest { index: 0, at: 0 };
     for (index, due) in dues.iter().enumerate() {
         if let Some(lost) = came.lost(index, *due).or(latest.holds(*due)) {
-            if let Ok(line) = line(remarks, named.name, index, *due, lost) {
-                remarks.add(line.as_bytes());
-            }
+            remark_event(remarks, named.name, index, *due, lost);
         }
         latest = latest.or(index, *due);
     }

@@ -30,7 +30,9 @@ fn run(alloc: Global, verified: &Verified, events: &[Event]) -> Result<Output, A
 {
     let machine = replay(alloc, verified, events)?;
     let state = state_of(machine.root_end());
-    output::state_output(alloc, verified.program(), state, machine.steps())
+    let steps = machine.steps();
+    drop(machine);
+    output::state_output(alloc, verified.program(), state, steps)
 }
 
 /// Assembles the text, reads the trace, verifies the program and runs the events.

@@ -1,9 +1,10 @@
 //! Mode `run`: workers bring an accepted program to its end.
 
-ghost use Rattle.std.specs.Prelude.{◌≡◌, ◌≤◌, ◌++◌, ℕ, IfOk, [], length};
+ghost use Rattle.std.specs.Prelude.{◌≡◌, ◌≤◌, ◌++◌, ℕ, IfOk, OnOk, [], length};
 ghost use Rattle.std.specs.String.{string_bytes};
 ghost use Rattle.sts_asm.specs.Text.{judged};
 ghost use Rattle.sts_trace.specs.Reading.{outside_read};
+ghost use Rattle.sts_output.specs.Printed.{end_line, steps_line};
 ghost use Rattle.sts_cli.specs.Running as def;
 
 use crate::dues::Dues;
@@ -14,7 +15,7 @@ use std::sync::Wait;
 use std::thread::Threads;
 use sts_asm::assemble;
 use sts_code::{MAX_OUTSIDE, Program};
-use sts_model::Event;
+use sts_model::{End, Event};
 use sts_output::{Output, accepted, output, printed, verify};
 use sts_pool::{Ending, Gate, PoolError, Report, run, run_unwritten};
 use sts_trace::read_outside;
@@ -93,6 +94,15 @@ fn report<R: Threads + Wait + Sync>(
     })
 }
 
+/// Appends how the root ended, and the steps.
+fn say_end(out: &mut String, end: End, steps: u64) -> Result<(), AllocError>
+    ensures { OnOk result (string_bytes out.new
+        ≡ string_bytes out.old ++ (end_line end ++ steps_line steps)) }
+{
+    printed::end_line(out, end)?;
+    printed::steps_line(out, steps)
+}
+
 /// The outcome of a report: the lines of the budgets, then how the root ended and the steps.
 fn reported(budgets: String, report: Report) -> Result<Ran, AllocError>
     ensures { IfOk result (λ r. r ≡ record {
@@ -101,8 +111,7 @@ fn reported(budgets: String, report: Report) -> Result<Ran, AllocError>
     }) }
 {
     let mut text = budgets;
-    printed::end_line(&mut text, report.end)?;
-    printed::steps_line(&mut text, report.steps)?;
+    say_end(&mut text, report.end, report.steps)?;
     Ok(Ran {
         output: Output {
             text,

@@ -7,12 +7,11 @@ use Rattle.sts_output.specs.Taking.{IsTakenOf}
 use Rattle.sts_cli.proofs.Ends.{of_input}
 use Rattle.sts_cli.proofs.program.on_input.Goals as goal
 
-pub returns-in_ok-status-in-Ok : goal.returns-in_ok-status-in-Ok
-returns-in_ok-status-in-Ok g c =
+pub returns-in-Ok : goal.returns-in-Ok
+returns-in-Ok g c =
     let input = g.S.Sources.offered c.args.sources.now in
     let taken = subst (λ xs. IsTakenOf input streams.most_of_a_stream xs) (sym c.as_slice.ensures.value) c.in-Ok.ensures in
-    let h = c.in_ok-status-in-Ok.ensures in
-    (h.0, of_input input _ h.0 taken h.1, h.2)
+    IfOk-weaker c.play_input.result _ _ (λ s h. (h.0, of_input input _ h.0 taken h.1, h.2)) c.play_input.ensures
 
 pub returns-in-Err : goal.returns-in-Err
 returns-in-Err g c =

@@ -7,12 +7,11 @@ use Rattle.sts_output.specs.Taking.{IsTakenOf}
 use Rattle.sts_cli.proofs.Ends.{of_text}
 use Rattle.sts_cli.proofs.program.on_text.Goals as goal
 
-pub returns-in_ok-status-in-Ok : goal.returns-in_ok-status-in-Ok
-returns-in_ok-status-in-Ok g c =
+pub returns-in-Ok : goal.returns-in-Ok
+returns-in-Ok g c =
     let file = g.S.Sources.held c.args.sources.now c.args.path.now in
-    let taken = subst (λ xs. IsTakenOf file streams.most_of_a_text xs) (sym c.as_slice.ensures.value) c.in-Ok.ensures in
-    let h = c.in_ok-status-in-Ok.ensures in
-    (h.0, of_text c.args.mode file _ h.0 taken h.1, h.2)
+    let taken = subst (λ xs. IsTakenOf file streams.most_of_a_text xs) (sym c.as_slice-bytes.ensures.value) c.in-Ok.ensures in
+    IfOk-weaker c.play_text.result _ _ (λ s h. (h.0, of_text c.args.mode file _ h.0 taken h.1, h.2)) c.play_text.ensures
 
 pub returns-in-Err : goal.returns-in-Err
 returns-in-Err g c =

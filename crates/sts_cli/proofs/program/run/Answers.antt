@@ -1,9 +1,6 @@
-use Rattle.std.proofs.Common.{map, ap, subst}
 use Rattle.std.proofs.KnownBytes.{Keeps-refl}
 use Rattle.std.proofs.lemmas.Result.{IfOk-weaker}
-use Rattle.sts_args.specs.Refused.{Refuses}
 use Rattle.sts_cli.specs.Ending as def
-use Rattle.sts_output.specs.Output.{Output}
 use Rattle.sts_cli.proofs.program.run.Goals as goal
 
 pub returns-in-Ok : goal.returns-in-Ok
@@ -12,18 +9,5 @@ returns-in-Ok g c =
     (λ s h. def.played c.in-Ok.wanted h.0 c.in-Ok.ensures.asked h.1 (record { written = h.2; kept = Keeps-refl _ }))
     c.on_line.ensures
 
-pub returns-in-Err-Help : goal.returns-in-Err-Help
-returns-in-Err-Help g c =
-    let words = map (λ w. w.now) c.args.words.now in
-    let asks = subst (λ e. Refuses words e) c.in-Err-Help.field-0-is c.in-Err-Help.ensures.refused in
-    IfOk-weaker c.written.result _ _
-    (λ s h. def.helped h.0 asks (ap (λ (o : Output). o.status) h.1) (record { told = h.2; kept = Keeps-refl _ }))
-    c.written.ensures
-
-pub returns-in-Err-Usage : goal.returns-in-Err-Usage
-returns-in-Err-Usage g c =
-    let words = map (λ w. w.now) c.args.words.now in
-    let mistaken = subst (λ e. Refuses words e) c.in-Err-Usage.field-0-is c.in-Err-Usage.ensures.refused in
-    IfOk-weaker c.written-in-Err-Usage.result _ _
-    (λ s h. def.mistaken h.0 mistaken (ap (λ (o : Output). o.status) h.1) (record { told = h.2; kept = Keeps-refl _ }))
-    c.written-in-Err-Usage.ensures
+pub returns-in-Err : goal.returns-in-Err
+returns-in-Err g c = c.on_error.ensures _ _ _ _ c.in-Err.ensures.refused

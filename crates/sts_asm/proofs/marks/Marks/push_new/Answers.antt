@@ -1,7 +1,7 @@
 use Rattle.std.proofs.Common.{rules, ◌≡◌, ◌<◌, None, length}
 use Rattle.sts_asm.specs.Buckets.{bucket_of, first_of}
 use Rattle.sts_asm.specs.Marks.{Mark, marked}
-use Rattle.sts_asm.proofs.BucketLemmas.{found_filled, found_first, found_tried}
+use Rattle.sts_asm.proofs.BucketLemmas.{found_filled, found_begun, found_tried}
 use Rattle.sts_asm.proofs.marks.Marks.push_new.Goals as goal
 
 pub invariant_of-self-then-is_some : goal.invariant_of-self-then-is_some
@@ -21,8 +21,7 @@ invariant_of-self-2 c =
     let bucket = c.bucket_of-bucket.result in
     let new : Mark = record { name = c.args.name.now; at = c.args.at } in
     let filled = found_filled list c.self.inside.firsts.items firsts c.self.inside.others c.self.invariant c.fill.ensures.same in
-    let is : bucket ≡ bucket_of new.name = search rules in
+    let is : bucket ≡ bucket_of new.name = c.bucket_of-bucket.ensures in
     let small : bucket < length firsts = search rules in
     let none : first_of firsts bucket ≡ None = search rules in
-    let last : c.in-Ok.place ≡ length list = search rules in
-    rw c.in_ok-push.ensures.items (found_first list firsts c.self.inside.others new bucket c.in-Ok.place filled is small none last)
+    found_begun c.push_first.result list c.push_first.new.list.items firsts c.push_first.new.firsts.items c.self.inside.others new bucket filled is small none c.push_first.ensures.list c.push_first.ensures.first c.push_first.ensures.same_list c.push_first.ensures.same_firsts
