@@ -30,7 +30,7 @@ def looked_at(pid):
         crate = kit.crate_of(words)
         if not words[0].endswith("/rattle") or not crate:
             return None
-        is_edit = bool(re.search("/(rt-edit|sts-named)-", os.readlink(f"/proc/{pid}/cwd")))
+        is_edit = bool(re.search("/(rt-edit|sts-edited)-", os.readlink(f"/proc/{pid}/cwd")))
         stat = open(f"/proc/{pid}/stat").read().rsplit(")", 1)[1].split()
     except (OSError, IndexError):
         return None
