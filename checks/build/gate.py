@@ -1,7 +1,10 @@
-"""Runs the checks of the gate side by side.  before|after [--unproved]
+"""Runs the checks of the gate side by side.  before|after [--wait|--unproved]
 
     before    what needs no program: documents, prose, and whether each wrong body and each mistake can be planted
     after     what tests the programs that `rt ci` has built; with --unproved the programs without proofs
+
+With --wait, `after` waits for the programs that an `rt ci` builds meanwhile: each check starts once those that it runs have come.
+The gate runs it so beside `rt ci`, which leaves processors idle while it builds its last programs.
 
 As many run at a time as there are processors, those first that take longest. What a check prints comes in one piece at its
 end, below its name, its status and its seconds. The last line says which failed; the status is 1 if one did.
@@ -24,15 +27,28 @@ BEFORE = {
     "planted --fit": door("planted", "--fit"),
     "mistakes --fit": door("mistakes", "--fit"),
 }
-OF_PROGRAMS = ("ends", "launchers", "memory", "rows", "streams", "shown", "looks", "cases", "call_ends", "heaviest", "edges", "outsides", "each_cause",
-               "look_rows", "workers", "waits")
+STS, LOOK, BOTH, RECORD = ["sts"], ["look"], ["sts", "look"], "record"
+# The programs that each check runs, those checks first that take longest.
+PROGRAMS = {RECORD: BOTH, "ends": BOTH, "launchers": BOTH, "memory": [*BOTH, "tests_rows"], "rows": STS, "streams": BOTH, "shown": BOTH,
+            "looks": BOTH, "cases": LOOK, "call_ends": LOOK, "heaviest": LOOK, "edges": BOTH, "outsides": STS, "each_cause": BOTH,
+            "look_rows": LOOK, "workers": STS, "waits": ["tests_waits"]}
+WAIT = "--wait"
+LOOKS = 1  # how many seconds after a look for programs the next one comes
+SETTLED = 5  # A program is whole so many seconds after its file came.
 
 
 def after(words):
-    """Returns the checks of the built programs, those that take longest first."""
-    tests = {it: door(it, *words) for it in OF_PROGRAMS}
+    """Returns the checks of the built programs."""
     named = ["--sts", f"{proved('sts')}.unproved", "--look", f"{proved('look')}.unproved"] if words else []
-    return {"record": [sys.executable, "record/test.py", *named], **tests}
+    return {it: [sys.executable, "record/test.py", *named] if it == RECORD else door(it, *words) for it in PROGRAMS}
+
+
+def has_come(crate, since):
+    """Returns whether the program of a crate came after a time, and is whole."""
+    try:
+        return since <= os.stat(proved(crate)).st_ctime < time.time() - SETTLED
+    except OSError:
+        return False
 
 
 def ran(name, words):
@@ -42,28 +58,34 @@ def ran(name, words):
     return name, done.returncode, done.stdout, time.monotonic() - since
 
 
-def side_by_side(checks):
-    """Runs these checks, prints what each says, and returns the names of those that failed."""
-    failed = []
+def side_by_side(checks, can_start):
+    """Runs these checks, each once it can start. Prints what each says, and returns the names of those that failed."""
+    failed, left, running, parent = [], dict(checks), set(), os.getppid()
     with concurrent.futures.ThreadPoolExecutor(len(os.sched_getaffinity(0))) as pool:
-        work = [pool.submit(ran, *it) for it in checks.items()]
-        for it in concurrent.futures.as_completed(work):
-            name, status, said, seconds = it.result()
-            print(f"== {name}: {'failed' if status else 'passed'} in {seconds:.0f} s\n{said}", end="", flush=True)
-            failed += [name] if status else []
+        while left or running:
+            for it in filter(can_start, list(left)):
+                running.add(pool.submit(ran, it, left.pop(it)))
+            ended, running = concurrent.futures.wait(running, LOOKS if left else None, concurrent.futures.FIRST_COMPLETED)
+            for name, status, said, seconds in (it.result() for it in ended):
+                print(f"== {name}: {'failed' if status else 'passed'} in {seconds:.0f} s\n{said}", end="", flush=True)
+                failed += [name] if status else []
+            if left and os.getppid() != parent:
+                sys.exit("gate: what started it has ended")
+            time.sleep(0 if ended or running else LOOKS)
     return failed
 
 
 def main():
     words = sys.argv[1:]
-    if words[:1] not in (["before"], ["after"]):
+    if words[:1] not in (["before"], ["after"]) or words[1:] not in ([], [UNPROVED], [WAIT]):
         print(__doc__, file=sys.stderr)
         return 2
     if words[1:] == [UNPROVED]:
         for it in ("sts", "look", "tests_rows", "tests_waits"):  # (before the clock runs)
             unproved(it)
-    since = time.monotonic()
-    checks = BEFORE if words[0] == "before" else after(words[1:])
-    failed = side_by_side(checks)
+    since, began = time.monotonic(), time.time()
+    is_waiting = words == ["after", WAIT]
+    checks = BEFORE if words[0] == "before" else after([] if is_waiting else words[1:])
+    failed = side_by_side(checks, lambda it: not is_waiting or all(has_come(crate, began) for crate in PROGRAMS[it]))
     print(f"{len(checks)} checks in {time.monotonic() - since:.0f} s; failed: {', '.join(failed) or 'none'}")
     return 1 if failed else 0
