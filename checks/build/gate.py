@@ -3,8 +3,9 @@
     before    what needs no program: documents, prose, and whether each wrong body and each mistake can be planted
     after     what tests the programs that `rt ci` has built; with --unproved the programs without proofs
 
-With --wait, `after` waits for the programs that an `rt ci` builds meanwhile: each check starts once those that it runs have come.
-The gate runs it so beside `rt ci`, which leaves processors idle while it builds its last programs.
+With --wait, `after` waits for the programs that an `rt ci` builds meanwhile: each check starts once those that it runs have come,
+or at the signal USR1, which says that `rt ci` has ended. The gate runs it so beside `rt ci`, which leaves processors idle while it
+builds its last programs.
 
 As many run at a time as there are processors, those first that take longest. What a check prints comes in one piece at its
 end, below its name, its status and its seconds. The last line says which failed; the status is 1 if one did.
@@ -12,8 +13,10 @@ end, below its name, its status and its seconds. The last line says which failed
 import concurrent.futures
 import glob
 import os
+import signal
 import subprocess
 import sys
+import threading
 import time
 
 from checks.programs import ROOT, UNPROVED, door, proved, unproved
@@ -28,10 +31,10 @@ BEFORE = {
     "mistakes --fit": door("mistakes", "--fit"),
 }
 STS, LOOK, BOTH, RECORD = ["sts"], ["look"], ["sts", "look"], "record"
-# The programs that each check runs, those checks first that take longest.
-PROGRAMS = {RECORD: BOTH, "ends": BOTH, "launchers": BOTH, "memory": [*BOTH, "tests_rows"], "rows": STS, "streams": BOTH, "shown": BOTH,
-            "looks": BOTH, "cases": LOOK, "call_ends": LOOK, "heaviest": LOOK, "edges": BOTH, "outsides": STS, "each_cause": BOTH,
-            "look_rows": LOOK, "workers": STS, "waits": ["tests_waits"]}
+# The programs that each check runs, those checks first that take longest. Two compilers build each program.
+PROGRAMS = {RECORD: BOTH, "ends": [*BOTH, "look.by-rattle"], "launchers": BOTH, "memory": [*BOTH, "tests_rows"], "rows": STS,
+            "streams": BOTH, "shown": BOTH, "looks": BOTH, "cases": LOOK, "call_ends": LOOK, "heaviest": LOOK, "edges": BOTH,
+            "outsides": STS, "each_cause": BOTH, "look_rows": LOOK, "workers": STS, "waits": ["tests_waits"]}
 WAIT = "--wait"
 LOOKS = 1  # how many seconds after a look for programs the next one comes
 SETTLED = 5  # A program is whole so many seconds after its file came.
@@ -43,12 +46,21 @@ def after(words):
     return {it: [sys.executable, "record/test.py", *named] if it == RECORD else door(it, *words) for it in PROGRAMS}
 
 
-def has_come(crate, since):
-    """Returns whether the program of a crate came after a time, and is whole."""
+def has_come(program, since):
+    """Returns whether a program came after a time, and is whole."""
+    crate, dot, compiler = program.partition(".")
     try:
-        return since <= os.stat(proved(crate)).st_ctime < time.time() - SETTLED
+        return since <= os.stat(f"{proved(crate)}{dot}{compiler}").st_ctime < time.time() - SETTLED
     except OSError:
         return False
+
+
+def starts(is_waiting):
+    """Returns what says whether a check can start."""
+    began, ended = time.time(), threading.Event()
+    if is_waiting:
+        signal.signal(signal.SIGUSR1, lambda number, frame: ended.set())
+    return lambda check: not is_waiting or ended.is_set() or all(has_come(it, began) for it in PROGRAMS[check])
 
 
 def ran(name, words):
@@ -83,9 +95,8 @@ def main():
     if words[1:] == [UNPROVED]:
         for it in ("sts", "look", "tests_rows", "tests_waits"):  # (before the clock runs)
             unproved(it)
-    since, began = time.monotonic(), time.time()
-    is_waiting = words == ["after", WAIT]
+    since, is_waiting = time.monotonic(), words == ["after", WAIT]
     checks = BEFORE if words[0] == "before" else after([] if is_waiting else words[1:])
-    failed = side_by_side(checks, lambda it: not is_waiting or all(has_come(crate, began) for crate in PROGRAMS[it]))
+    failed = side_by_side(checks, starts(is_waiting))
     print(f"{len(checks)} checks in {time.monotonic() - since:.0f} s; failed: {', '.join(failed) or 'none'}")
     return 1 if failed else 0
