@@ -1,3 +1,5 @@
+use Rattle.std.proofs.Common.{ap, ◌∙◌}
+use Rattle.sts_records.specs.Places.{Places}
 use Rattle.sts_records.specs.Cells.{slots_of}
 use Rattle.sts_records.proofs.Keys.{as_keys, lays_updates, sound_come, vacant_at}
 use Rattle.sts_records.proofs.places.Places.reuse.Goals as goal
@@ -37,3 +39,15 @@ returns-clause-filled g c =
     let before = as_keys c.self.inside.keys old _ c.self.invariant.0 in
     let after = as_keys c.insert_reserved.new.self new _ sound in
     rw (← c.self.view_is, before, after) e.len
+
+pub invariant_of-self : goal.invariant_of-self
+invariant_of-self g c = rw (c.revive.ensures.none c.if-not-revive.true) c.self.invariant
+
+pub returns-then-not-revive-clause-none : goal.returns-then-not-revive-clause-none
+returns-then-not-revive-clause-none g c = rw (c.revive.ensures.none c.if-not-revive.true) c.self.view_is
+
+pub returns-then-not-revive-clause-capacity : goal.returns-then-not-revive-clause-capacity
+returns-then-not-revive-clause-capacity g c = ap (λ (p : Places _). p.capacity) c.self.view_is
+
+pub returns-clause-capacity : goal.returns-clause-capacity
+returns-clause-capacity g c = c.insert_reserved.ensures.capacity ∙ ap (λ (p : Places _). p.capacity) c.self.view_is

@@ -1,7 +1,9 @@
-use Rattle.std.proofs.Common.{◌+◌, refl, ◌∙◌, arith}
+use Rattle.std.proofs.Common.{◌+◌, refl, sym, ◌∙◌, arith}
+use Rattle.std.specs.Prelude.{option_map}
+use Rattle.std.proofs.lemmas.List.{length-map}
 use Rattle.sts_tree.specs.Births.{births}
 use Rattle.sts_tree.specs.Forest.{families_of, is_of, lives_in, family_of, subtask}
-use Rattle.sts_tree.specs.Stored.{tasks_of}
+use Rattle.sts_tree.specs.Stored.{task_of, tasks_of}
 use Rattle.sts_tree.proofs.Adds.{Added, adds, few_forks}
 use Rattle.sts_tree.proofs.Rows.{family_at, set_family, same_scopes}
 use Rattle.sts_tree.proofs.Stores.{fresh_key}
@@ -56,3 +58,15 @@ returns-clause-added g c =
     let room = c.push_if-row.ensures.rest.room ∙ c.push_back-row.ensures.rest.room ∙ c.push-birth.ensures.room in
     let scopes = same_scopes c.self.inside.scopes.slots c.args.s c.at-row.result.now (record c.at-row.result.now { forks = c.push_back-row.result; fork_count = c.at-row.result.now.fork_count + 1; living = c.push_if-row.result }) c.at-row.ensures.value refl in
     rw (← c.self.view_is, a.tasks, a.keys_are, scopes, room) refl
+
+pub push-birth-requires-clause-room : goal.push-birth-requires-clause-room
+push-birth-requires-clause-room g c = rw (← c.self.view_is) at c.requires.room
+
+pub push-birth-requires-clause-births : goal.push-birth-requires-clause-births
+push-birth-requires-clause-births g c =
+    let born = rw (← c.self.view_is) at c.requires.born in
+    let long = length-map c.self.inside.tasks.held.slots (option_map task_of) in
+    omega (arith, born, long)
+
+pub returns-clause-birth : goal.returns-clause-birth
+returns-clause-birth g c = rw (← c.self.view_is) (c.push-birth.ensures.birth ∙ sym (length-map c.self.inside.tasks.held.slots (option_map task_of)))

@@ -1,10 +1,12 @@
-use Rattle.std.proofs.Common.{◌≡◌, refl, sym, ◌∙◌, ap, arith, cond, false, Some, None, get_or, set, get_or-set_same, is_some}
-use Rattle.sts_tree.specs.Ending.{ended_in}
+use Rattle.std.proofs.Common.{◌≡◌, Bool, true, refl, sym, ◌∙◌, ap, arith, cond, false, Some, None, get_or, set, get_or-set_same, is_some}
+use Rattle.std.specs.Prelude.{option_map}
+use Rattle.sts_tree.specs.Ending.{asks_in, asks_told, ended_in, owner_or, waiter_in}
 use Rattle.sts_tree.specs.Forest.{families_of, family_of, ready_of, is_of}
-use Rattle.sts_tree.specs.Stored.{tasks_of, link_at}
+use Rattle.sts_tree.specs.Stored.{task_of, tasks_of, link_at}
+use Rattle.sts_tree.specs.declared.record.ScopeNode.{ScopeNode}
 use Rattle.sts_tree.specs.declared.record.TaskNode.{TaskNode}
 use Rattle.sts_tree.proofs.BirthLemmas.{births_few}
-use Rattle.sts_tree.proofs.HoldingLemmas.{inside_of}
+use Rattle.sts_tree.proofs.HoldingLemmas.{inside_of, map_at}
 use Rattle.sts_tree.proofs.Counts.{count_kept}
 use Rattle.sts_tree.proofs.Ends.{leaves, spare}
 use Rattle.sts_tree.proofs.Removing.{none_of, ends_alone, row_stands, living_with, EndsIn, ends_in}
@@ -96,3 +98,44 @@ returns-clause-others g c x is =
     let there = get_or-set_same (families_of c.self.inside.scopes.slots) c.in-Some.s (Some row) None (inside_of (families_of c.self.inside.scopes.slots) c.in-Some.s (λ n. let q = sym f ∙ n in cc)) in
     let first = (a.is.living c.in-Some.s row there).first in
     rw scope (c.is_some.ensures ∙ ap is_some first)
+
+pub at-requires : goal.at-requires
+at-requires g c none =
+    let (x0, is0, lives) = c.requires.lives in
+    let slots = c.self.inside.tasks.held.slots in
+    let no : None ≡ Some x0 = sym (map_at task_of slots c.args.t ∙ ap (option_map task_of) none) ∙ (rw (← c.self.view_is) at is0) in
+    cc
+
+pub returns-in_default-clause-asks : goal.returns-in_default-clause-asks
+returns-in_default-clause-asks g c x is =
+    let own = own_task c.self.inside.tasks.held.slots c.args.t c.at.result.now x c.at.ensures.value (rw (← c.self.view_is) at is) in
+    let none = ap (λ (y : TaskNode). y.scope) (sym own) ∙ none_of c.at.result.now.task.scope (λ s e. c.in_default.not-Some s e) in
+    rw none refl
+
+pub returns-in_default-clause-waiter : goal.returns-in_default-clause-waiter
+returns-in_default-clause-waiter g c x is =
+    let own = own_task c.self.inside.tasks.held.slots c.args.t c.at.result.now x c.at.ensures.value (rw (← c.self.view_is) at is) in
+    let none = ap (λ (y : TaskNode). y.scope) (sym own) ∙ none_of c.at.result.now.task.scope (λ s e. c.in_default.not-Some s e) in
+    rw none refl
+
+pub returns-in_default-clause-ready : goal.returns-in_default-clause-ready
+returns-in_default-clause-ready g c = rw (← c.self.view_is) (c.self.invariant.flags c.args.t c.at.result.now.task (task_at c.self.inside.tasks.held.slots c.args.t c.at.result.now c.at.ensures.value))
+
+pub returns-clause-asks : goal.returns-clause-asks
+returns-clause-asks g c x is =
+    let own = own_task c.self.inside.tasks.held.slots c.args.t c.at.result.now x c.at.ensures.value (rw (← c.self.view_is) at is) in
+    let scope : x.scope ≡ Some c.in-Some.s = ap (λ (y : TaskNode). y.scope) (sym own) ∙ c.in-Some.is in
+    let there : get_or c.args.self.now.scopes c.in-Some.s None ≡ Some c.at-row.result.now.scope = rw (← c.self.view_is) (scope_at c.self.inside.scopes.slots c.in-Some.s c.at-row.result.now c.at-row.ensures.value) in
+    c.tell-asks.ensures.asks ∙ ap (asks_told c.args.end) (sym there) ∙ ap (asks_in c.args.self.now c.args.end) (sym scope)
+
+owner_kept : {E : Type 0} (b : Bool) (s u : ScopeNode E) → u.owner ≡ s.owner → (cond b s u).owner ≡ s.owner
+owner_kept true s u e = refl
+owner_kept false s u e = e
+
+pub returns-clause-waiter : goal.returns-clause-waiter
+returns-clause-waiter g c x is =
+    let own = own_task c.self.inside.tasks.held.slots c.args.t c.at.result.now x c.at.ensures.value (rw (← c.self.view_is) at is) in
+    let scope : x.scope ≡ Some c.in-Some.s = ap (λ (y : TaskNode). y.scope) (sym own) ∙ c.in-Some.is in
+    let there : get_or c.args.self.now.scopes c.in-Some.s None ≡ Some c.at-row.result.now.scope = rw (← c.self.view_is) (scope_at c.self.inside.scopes.slots c.in-Some.s c.at-row.result.now c.at-row.ensures.value) in
+    ap (λ (n : ScopeNode _). n.owner) c.tell-asks.ensures.scope ∙ owner_kept c.at-row.result.now.scope.cancelled c.at-row.result.now.scope _ refl
+    ∙ ap (owner_or c.args.t) (sym there) ∙ ap (waiter_in c.args.self.now c.args.t) (sym scope)

@@ -25,3 +25,16 @@ returns-in-Some-clause-marked g c =
 pub returns-in-Some-clause-home : goal.returns-in-Some-clause-home
 returns-in-Some-clause-home g c x s is scope =
     rw (← c.self.view_is) (scope_there c.self.inside.scopes.slots s (c.self.invariant.homes c.args.t s x (rw (← c.self.view_is) at is) scope))
+
+pub returns-in-None-clause-value : goal.returns-in-None-clause-value
+returns-in-None-clause-value g c =
+    let slots = c.self.inside.tasks.held.slots in
+    let none : get_or (tasks_of slots) c.args.t None ≡ None = map_at task_of slots c.args.t ∙ ap (option_map task_of) (sym c.in-None.ensures) in
+    rw (← c.self.view_is) (sym none)
+
+pub returns-in-Some-clause-value : goal.returns-in-Some-clause-value
+returns-in-Some-clause-value g c = rw (← c.self.view_is) (sym (task_at c.self.inside.tasks.held.slots c.args.t c.in-Some.r.now (sym c.in-Some.ensures)))
+
+pub returns-in-None-clause-home : goal.returns-in-None-clause-home
+returns-in-None-clause-home g c x s is scope =
+    rw (← c.self.view_is) (scope_there c.self.inside.scopes.slots s (c.self.invariant.homes c.args.t s x (rw (← c.self.view_is) at is) scope))

@@ -1,11 +1,13 @@
-use Rattle.std.proofs.Common.{◌≡◌, ◌<◌, ◌∙◌, sym, ap, length, ◌++◌, arith, List, map, refl, subst}
+use Rattle.std.proofs.Common.{◌≡◌, ℕ, ◌+◌, ◌^◌, ◌<◌, ◌∙◌, sym, ap, length, ◌++◌, arith, List, map, refl, subst, true, get_or}
 use Rattle.std.proofs.Common.{slice_index_or}
 use Rattle.std.proofs.lemmas.Result.{err_from_is_err_and}
 use Rattle.std.proofs.lemmas.List.{get_or_default, length-map, length-set, length-append}
-use Rattle.sts_code.specs.declared.limits.TheConstants.{MAX_BIRTHS}
+use Rattle.sts_code.specs.declared.limits.TheConstants.{MAX_BIRTHS, MAX_ENTRIES}
 use Rattle.sts_model.specs.Environment.{own_bindings}
-use Rattle.sts_model.specs.World.{World, no_task}
+use Rattle.sts_model.specs.Living.{lives}
+use Rattle.sts_model.specs.World.{World, no_task, task_at}
 use Rattle.sts_model.specs.declared.record.Scope.{Scope}
+use Rattle.sts_model.specs.declared.record.Task.{Task}
 use Rattle.sts_world.specs.Chains.{bindings_of}
 use Rattle.sts_world.specs.Scopes.{front_of, shown}
 use Rattle.sts_world.proofs.Scoping.{shown_grown, within_grown, within_push, opened}
@@ -41,3 +43,33 @@ returns-clause-ok c =
     let born : c.len-s.result ≡ length c.self.inside.scopes.items = omega (arith, c.len-s.ensures, c.self.inside.scopes.ok) in
     rw (← c.self.view_is, c.in_ok-push.ensures.items, c.new.ensures, c.leave_open.ensures, third)
     (opened c.self.inside.tasks.items c.self.inside.chains c.environment.new.chains c.self.inside.scopes.items c.args.t c.len-s.result c.args.slot c.args.joiner c.args.timed c.in_ok-front.front c.front_of-rest.result c.self.invariant.2 c.environment.ensures.grows born rest (rw second at list))
+
+pub index-requires : goal.index-requires
+index-requires c = let born : c.args.t < length c.self.inside.tasks.items = subst (λ (w : World). c.args.t < length w.tasks) (sym c.self.view_is) c.requires.born in omega (arith, born)
+
+pub index-requires-2 : goal.index-requires-2
+index-requires-2 c = let born : c.args.t < length c.self.inside.tasks.items = subst (λ (w : World). c.args.t < length w.tasks) (sym c.self.view_is) c.requires.born in omega (arith, born)
+
+pub index_mut-requires : goal.index_mut-requires
+index_mut-requires c = let born : c.args.t < length c.self.inside.tasks.items = subst (λ (w : World). c.args.t < length w.tasks) (sym c.self.view_is) c.requires.born in omega (arith, born)
+
+own : (tasks : List Task) (t : ℕ) (here : Task) → t < length tasks → here ≡ get_or tasks t here → here ≡ slice_index_or tasks t no_task
+own tasks t here born is = is ∙ get_or_default tasks t here no_task born
+
+pub leave_open-requires-clause-lives : goal.leave_open-requires-clause-lives
+leave_open-requires-clause-lives c =
+    let born = subst (λ (w : World). c.args.t < length w.tasks) (sym c.self.view_is) c.requires.born in
+    let is = own c.self.inside.tasks.items c.args.t c.index_mut.result.now born c.index_mut.ensures.value in
+    ap lives is ∙ subst (λ (w : World). lives (task_at w c.args.t) ≡ true) (sym c.self.view_is) c.requires.lives
+
+pub leave_open-requires-clause-more : goal.leave_open-requires-clause-more
+leave_open-requires-clause-more c =
+    let born = subst (λ (w : World). c.args.t < length w.tasks) (sym c.self.view_is) c.requires.born in
+    let is = own c.self.inside.tasks.items c.args.t c.index_mut.result.now born c.index_mut.ensures.value in
+    subst (λ (k : Task). k.frame.pc + 1 < 2 ^ 32) (sym is) (subst (λ (w : World). (task_at w c.args.t).frame.pc + 1 < 2 ^ 32) (sym c.self.view_is) c.requires.more)
+
+pub leave_open-requires-clause-entries : goal.leave_open-requires-clause-entries
+leave_open-requires-clause-entries c =
+    let born = subst (λ (w : World). c.args.t < length w.tasks) (sym c.self.view_is) c.requires.born in
+    let is = own c.self.inside.tasks.items c.args.t c.index_mut.result.now born c.index_mut.ensures.value in
+    subst (λ (k : Task). length k.frame.entries < MAX_ENTRIES) (sym is) (subst (λ (w : World). length (task_at w c.args.t).frame.entries < MAX_ENTRIES) (sym c.self.view_is) c.requires.entries)

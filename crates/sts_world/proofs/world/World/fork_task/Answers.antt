@@ -74,3 +74,15 @@ returns-clause-ok c = c.in_default.ensures.ok ∙ ap (λ (v : World). fork_task 
 
 pub fork_task-requires-clause-lives : goal.fork_task-requires-clause-lives
 fork_task-requires-clause-lives c = ap (λ (v : World). lives (task_at v c.args.t)) c.self.view_is ∙ c.requires.lives
+
+pub fork_task-requires-clause-born : goal.fork_task-requires-clause-born
+fork_task-requires-clause-born c = rw c.self.view_is c.requires.born
+
+pub fork_task-requires-clause-more : goal.fork_task-requires-clause-more
+fork_task-requires-clause-more c = rw c.self.view_is c.requires.more
+
+pub fork_task-requires-clause-room : goal.fork_task-requires-clause-room
+fork_task-requires-clause-room c = rw c.self.view_is c.requires.room
+
+pub fork_task-requires-clause-enough : goal.fork_task-requires-clause-enough
+fork_task-requires-clause-enough c = rw c.self.view_is c.requires.enough

@@ -13,3 +13,18 @@ invariant_of-self-3 c =
           (kept_scope_born w c.open_scope.new.self _ _ _ _ c.args.t (task_at w c.args.t).frame c.args.slot c.args.joiner c.args.timed c.in_ok-open_scope.ensures.ok c.self.invariant.0),
       ends_open w c.open_scope.new.self _ c.args.t (task_at w c.args.t).frame c.args.slot c.args.joiner c.args.timed c.in_ok-open_scope.ensures.ok c.self.invariant.1,
     )
+
+pub open_scope-requires-clause-born : goal.open_scope-requires-clause-born
+open_scope-requires-clause-born c = rw c.self.view_is c.requires.born
+
+pub open_scope-requires-clause-lives : goal.open_scope-requires-clause-lives
+open_scope-requires-clause-lives c = rw c.self.view_is c.requires.lives
+
+pub open_scope-requires-clause-more : goal.open_scope-requires-clause-more
+open_scope-requires-clause-more c = rw c.self.view_is c.requires.more
+
+pub open_scope-requires-clause-room : goal.open_scope-requires-clause-room
+open_scope-requires-clause-room c = rw c.self.view_is c.requires.room
+
+pub open_scope-requires-clause-entries : goal.open_scope-requires-clause-entries
+open_scope-requires-clause-entries c = rw c.self.view_is c.requires.entries
