@@ -11,7 +11,7 @@ ghost use Rattle.sts_model.specs.Local as locals;
 use crate::entries::{binds_after, ends_with_binding, is_full, is_innermost};
 use crate::picks::always;
 use crate::scopes::{is_readable, joins_wrongly, may_close};
-use ends_table::bindings::bindings;
+use ends_table::bindings::{bindings, value_of};
 use ends_table::places::{held_at, known, owned};
 use ends_table::stop::Stop;
 use laws_calls::table::{Call, Held, Own};
@@ -54,16 +54,6 @@ fn is_free(own: &Own, handle: Option<u8>) -> bool
         None => true,
         Some(slot) => is_empty(held_at(own, slot)),
     }
-}
-
-/// The value of the first binding of a key.
-fn value_of(bindings: &[Bound], key: u8) -> Option<i64>
-    ensures { result ≡ scoped.read bindings.now key }
-{
-    bindings
-        .iter()
-        .find(|bound| bound.key == key)
-        .map(|bound| bound.value)
 }
 
 /// Is the key not bound?

@@ -5,7 +5,7 @@
 //! and a run to another end may go on from the mark.
 
 use crate::basis::Basis;
-use crate::played::{Played, PlayedScope, Start};
+use crate::played::{Forked, Played, PlayedScope, Start};
 use std::alloc::{AllocError, Global};
 
 /// The steps of the root up to a cancel of its only open scope.
@@ -17,10 +17,8 @@ pub struct Mark {
     opened: usize,
     /// The birth number of the scope.
     birth: u32,
-    /// The birth numbers of its subtasks.
-    births: Vec<u32>,
-    /// Which of them ended heard.
-    played: Vec<bool>,
+    /// Its subtasks. Those that were played ended heard.
+    forks: Vec<Forked>,
     /// The way of each subtask that ends heard.
     ways: Vec<Option<u32>>,
 }
@@ -36,47 +34,43 @@ fn does_same(played: bool, before: Option<u32>, now: Option<u32>) -> bool {
 }
 
 impl Mark {
-    /// The root before a cancel of its only open scope.
-    pub fn of(alloc: Global, top: &Played) -> Result<Option<Mark>, AllocError> {
-        let Some(scope) = top.scopes.first() else {
-            return Ok(None);
-        };
+    /// The root before a cancel of this scope, which is its only open one.
+    fn at(alloc: Global, top: &Played, scope: &PlayedScope) -> Result<Mark, AllocError> {
         let mut path = Vec::from_slice(alloc, top.path.as_slice())?;
         path.truncate(top.at.saturating_add(1));
-        Ok(Some(Mark {
+        let forks = Vec::from_slice(alloc, scope.forks.as_slice())?;
+        let ways = Vec::from_slice(alloc, scope.ways.as_slice())?;
+        Ok(Mark {
             path,
             opened: scope.opened,
             birth: scope.birth,
-            births: Vec::from_slice(alloc, scope.births.as_slice())?,
-            played: Vec::from_slice(alloc, scope.played.as_slice())?,
-            ways: Vec::from_slice(alloc, scope.ways.as_slice())?,
-        }))
+            forks,
+            ways,
+        })
+    }
+
+    /// The root before a cancel of its only open scope.
+    pub fn of(alloc: Global, top: &Played) -> Result<Option<Mark>, AllocError> {
+        match top.scopes.first() {
+            Some(scope) => Ok(Some(Mark::at(alloc, top, scope)?)),
+            None => Ok(None),
+        }
     }
 
     /// Do the subtasks of a scope what those that were forked did before the mark?
     fn fits(&self, scope: &PlayedScope) -> bool {
-        self.played.iter().enumerate().all(|(place, played)| {
+        self.forks.iter().enumerate().all(|(place, fork)| {
             let before = self.ways.get(place).copied().unwrap_or(None);
             let now = scope.ways.get(place).copied().unwrap_or(None);
-            does_same(*played, before, now)
+            does_same(fork.is_played, before, now)
         })
     }
 
-    /// The scope that the root opens on one of its ways, as it is at the mark, if it is the same up to
+    /// Gives a scope the subtasks that were forked before the mark. Returns whether it can go on from
     /// there.
-    fn scope(
-        &self,
-        alloc: Global,
-        basis: &Basis<'_>,
-        top: &Played,
-    ) -> Result<Option<PlayedScope>, AllocError> {
-        let Some(opened) = top.opening(alloc, basis, basis.root, self.birth, true)? else {
-            return Ok(None);
-        };
-        let mut scope = opened;
-        scope.births = Vec::from_slice(alloc, self.births.as_slice())?;
-        scope.played = Vec::from_slice(alloc, self.played.as_slice())?;
-        Ok(Some(scope))
+    fn refill(&self, scope: &mut PlayedScope, at: usize) -> Result<bool, AllocError> {
+        scope.forks.extend_from_slice(self.forks.as_slice())?;
+        Ok(scope.is_cancelled_at(at) && self.fits(scope))
     }
 
     /// Lets the root go on from the mark on its way, if it can. Returns whether it does.
@@ -90,13 +84,15 @@ impl Mark {
             return Ok(false);
         }
         top.at = self.opened;
-        let Some(scope) = self.scope(alloc, basis, top)? else {
+        if !top.open(alloc, basis, basis.root, self.birth, true)? {
             return Ok(false);
-        };
-        top.at = self.path.len().saturating_sub(1);
-        let fits = scope.is_cancelled_at(top.at) && self.fits(&scope);
-        top.scopes.push(scope)?;
-        Ok(fits)
+        }
+        let at = self.path.len().saturating_sub(1);
+        top.at = at;
+        match top.scopes.last_mut() {
+            Some(scope) => self.refill(scope, at),
+            None => Ok(false),
+        }
     }
 
     /// The root at the mark, on one of its ways, if it can go on from there.

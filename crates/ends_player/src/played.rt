@@ -5,7 +5,6 @@ use crate::basis::Basis;
 use crate::early::{Early, early_cancel, way_at};
 use ends_known::call::{Way, number};
 use ends_known::joiners::is_trigger;
-use ends_known::own::Own;
 use ends_known::part::part_at;
 use ends_known::pick::pick;
 use ends_known::seen::{Knowledge, Seen};
@@ -14,6 +13,15 @@ use std::alloc::{AllocError, Global};
 use sts_code::Joiner;
 use sts_model::End;
 
+/// A subtask that was forked.
+#[derive(Clone, Copy)]
+pub struct Forked {
+    /// Its birth number.
+    pub birth: u32,
+    /// Was it played?
+    pub is_played: bool,
+}
+
 /// A scope of a task that is being played.
 #[derive(Drop)]
 pub struct PlayedScope {
@@ -21,10 +29,7 @@ pub struct PlayedScope {
     pub birth: u32,
     /// How many steps its owner took before it opened the scope.
     pub opened: usize,
-    /// The birth numbers of its subtasks.
-    pub births: Vec<u32>,
-    /// Which of them were played.
-    pub played: Vec<bool>,
+    pub forks: Vec<Forked>,
     /// The way of each subtask that ends before a cancel.
     pub ways: Vec<Option<u32>>,
     /// The subtask that fails first, if that matters.
@@ -41,7 +46,7 @@ pub struct PlayedScope {
 
 /// A scope that the next step opens, as its owner knows it before its close. It has its place among
 /// the open ones, the number of steps before its close, and how many interrupts its owner took by then.
-#[derive(Drop)]
+#[derive(Clone, Copy)]
 struct Opened<'t> {
     place: u32,
     close: usize,
@@ -58,6 +63,43 @@ pub struct Start {
     pub birth: u32,
 }
 
+/// Tasks that are to be played. It remembers whether there was memory for each.
+#[derive(Drop)]
+pub struct Starts {
+    starts: Vec<Start>,
+    pub lacks_memory: bool,
+}
+
+impl Starts {
+    /// No tasks.
+    fn new(alloc: Global) -> Starts {
+        Starts {
+            starts: Vec::new(alloc),
+            lacks_memory: false,
+        }
+    }
+
+    /// Adds a task.
+    fn push(&mut self, start: Start) {
+        if self.starts.push(start).is_err() {
+            self.lacks_memory = true;
+        }
+    }
+
+    /// Takes the last task.
+    pub fn pop(&mut self) -> Option<Start> {
+        self.starts.pop()
+    }
+
+    fn reverse(&mut self) {
+        self.starts.reverse();
+    }
+
+    pub fn is_empty(&self) -> bool {
+        self.starts.is_empty()
+    }
+}
+
 /// A task that is being played.
 #[derive(Drop)]
 pub struct Played {
@@ -70,7 +112,7 @@ pub struct Played {
     pub at: usize,
     pub scopes: Vec<PlayedScope>,
     /// The subtasks that have to be played before the next step, the first one last.
-    pub waiting: Vec<Start>,
+    pub waiting: Starts,
     /// Is it known which those are?
     pub is_ready: bool,
     /// The subtask that the run is about, if it is one of this task.
@@ -132,7 +174,7 @@ impl Played {
             path: path_to(alloc, explored.nodes.as_slice(), place)?,
             at: 0,
             scopes: Vec::new(alloc),
-            waiting: Vec::new(alloc),
+            waiting: Starts::new(alloc),
             is_ready: false,
             aim,
         })
@@ -204,17 +246,28 @@ impl Played {
         None
     }
 
+    /// The scope that the next step opens at a place. A step closes it after this number of steps.
+    fn opened_at<'t>(
+        &self,
+        explored: &'t Explored,
+        place: u32,
+        close: usize,
+    ) -> Option<Opened<'t>> {
+        let last = self.node(explored, close)?;
+        let scope = last.own.scope(place)?;
+        Some(Opened {
+            place,
+            close,
+            scope,
+            used: last.own.used,
+        })
+    }
+
     /// The scope that the next step opens, as its owner knows it before its close.
     fn opened<'t>(&self, explored: &'t Explored) -> Option<Opened<'t>> {
         let place = number(self.before(explored)?.own.scopes.len());
         let close = self.closing_or_last(explored, place)?;
-        let last = self.node(explored, close)?;
-        Some(Opened {
-            place,
-            close,
-            scope: last.own.scope(place)?,
-            used: last.own.used,
-        })
+        self.opened_at(explored, place, close)
     }
 
     /// The scope that the next step opens. It has this birth number. Its cancel comes as early as it can,
@@ -242,8 +295,7 @@ impl Played {
         Ok(Some(PlayedScope {
             birth,
             opened: self.at,
-            births: Vec::new(alloc),
-            played: Vec::new(alloc),
+            forks: Vec::new(alloc),
             ways,
             first: self.first_failed(explored, opened.place, opened.close),
             aim,
@@ -274,16 +326,17 @@ impl Played {
     /// Notes the subtask that the next step forks in the scope at a place.
     pub fn fork(&mut self, place: u32, birth: u32) -> Result<(), AllocError> {
         if let Some(scope) = self.scopes.get_mut(place as usize) {
-            scope.births.push(birth)?;
-            scope.played.push(false)?;
+            scope.forks.push(Forked {
+                birth,
+                is_played: false,
+            })?;
         }
         Ok(())
     }
 
     /// The birth number of a subtask, by the place of its scope and its place there.
     pub fn born_in(&self, scope: u32, part: u32) -> Option<u32> {
-        let scope = self.scopes.get(scope as usize)?;
-        scope.births.get(part as usize).copied()
+        self.scopes.get(scope as usize)?.birth_of(part)
     }
 }
 
@@ -309,30 +362,26 @@ impl Played {
             .position(|scope| scope.is_cancelled_at(self.at))
     }
 
+    /// The scope at a place, as its owner knows it after this number of steps.
+    fn seen<'t>(&self, explored: &'t Explored, steps: usize, place: usize) -> Option<&'t Seen> {
+        self.node(explored, steps)?.own.scope(number(place))
+    }
+
     /// Notes what comes up to the cancel of the scope at a place: the subtasks that end heard, and an
     /// expiry, if the scope expires.
-    pub fn cancel(
-        &mut self,
-        table: &Table,
-        explored: &Explored,
-        place: usize,
-    ) -> Result<(), AllocError> {
+    pub fn cancel(&mut self, table: &Table, explored: &Explored, place: usize) {
         let Some(early) = self.scopes.get(place).and_then(|scope| scope.early) else {
-            return Ok(());
+            return;
         };
-        let Some(node) = self.node(explored, early.look) else {
-            return Ok(());
-        };
-        let Some(seen) = node.own.scope(number(place)) else {
-            return Ok(());
+        let Some(seen) = self.seen(explored, early.look, place) else {
+            return;
         };
         if let Some(scope) = self.scopes.get_mut(place) {
             scope.early = None;
             scope.is_due = early.expires;
-            scope.push_all(table, seen, &mut self.waiting)?;
+            scope.push_all(table, seen, &mut self.waiting);
         }
         self.waiting.reverse();
-        Ok(())
     }
 
     /// Notes the subtasks that end before a look at the scope at a place. The look shows the scope as it
@@ -344,27 +393,23 @@ impl Played {
         after: &Seen,
         place: u32,
         child: Option<u32>,
-    ) -> Result<(), AllocError> {
+    ) {
         if let Some(scope) = self.scopes.get_mut(place as usize) {
-            scope.push_starts(table, before, after, child, &mut self.waiting)?;
+            scope.push_starts(table, before, after, child, &mut self.waiting);
         }
         self.waiting.reverse();
-        Ok(())
     }
 
     /// Notes the subtask that the run is about, if it ends heard and wasn't played before its scope is
     /// closed by the next step.
-    pub fn close(&mut self, explored: &Explored) -> Result<(), AllocError> {
+    pub fn close(&mut self, explored: &Explored) {
         let Some(node) = self.before(explored) else {
-            return Ok(());
+            return;
         };
-        let Some(seen) = node.own.scopes.last() else {
-            return Ok(());
+        let (Some(seen), Some(scope)) = (node.own.scopes.last(), self.scopes.last_mut()) else {
+            return;
         };
-        match self.scopes.last_mut() {
-            Some(scope) => scope.push_aim(seen, &mut self.waiting),
-            None => Ok(()),
-        }
+        scope.push_aim(seen, &mut self.waiting);
     }
 
     /// The scope that expires before the next step, though its owner sees it later.
@@ -384,7 +429,7 @@ impl PlayedScope {
     /// Does its cancel come after this number of steps of its owner?
     pub fn is_cancelled_at(&self, steps: usize) -> bool {
         match self.early {
-            Some(early) => early.is_due(steps, self.births.len()),
+            Some(early) => early.is_due(steps, self.forks.len()),
             None => false,
         }
     }
@@ -396,46 +441,49 @@ impl PlayedScope {
 
     /// Adds the birth numbers of the subtasks that were forked and that nobody hears.
     pub fn push_unheard(&self, found: &mut Vec<u32>) -> Result<(), AllocError> {
-        for (child, birth) in self.births.as_slice().iter().enumerate() {
+        for (child, fork) in self.forks.as_slice().iter().enumerate() {
             if self.way(number(child)).is_none() {
-                found.push(*birth)?;
+                found.push(fork.birth)?;
             }
         }
         Ok(())
     }
 
+    /// The birth number of a subtask.
+    fn birth_of(&self, child: u32) -> Option<u32> {
+        self.forks.get(child as usize).map(|fork| fork.birth)
+    }
+
     /// Notes that a subtask is played. Returns whether it wasn't before.
     fn note(&mut self, child: u32) -> bool {
-        match self.played.get_mut(child as usize) {
-            Some(played) if !*played => {
-                *played = true;
+        match self.forks.get_mut(child as usize) {
+            Some(fork) if !fork.is_played => {
+                fork.is_played = true;
                 true
             }
             _ => false,
         }
     }
 
+    /// A subtask on its way, if its end is heard.
+    fn start_of(&self, scope: &Seen, child: u32) -> Option<Start> {
+        let part = part_at(scope.runs.as_slice(), child)?;
+        let way = self.way(child)?;
+        let birth = self.birth_of(child)?;
+        Some(Start {
+            call: part.call,
+            way,
+            birth,
+        })
+    }
+
     /// Adds a subtask to those that are to be played, if its end is heard and it wasn't played yet.
-    fn push(
-        &mut self,
-        scope: &Seen,
-        child: u32,
-        starts: &mut Vec<Start>,
-    ) -> Result<(), AllocError> {
-        let Some(part) = part_at(scope.runs.as_slice(), child) else {
-            return Ok(());
-        };
-        let Some(way) = self.way(child) else {
-            return Ok(());
-        };
-        let call = part.call;
-        let Some(birth) = self.births.get(child as usize).copied() else {
-            return Ok(());
-        };
-        if self.note(child) {
-            starts.push(Start { call, way, birth })?;
+    fn push(&mut self, scope: &Seen, child: u32, starts: &mut Starts) {
+        if let Some(start) = self.start_of(scope, child) {
+            if self.note(child) {
+                starts.push(start);
+            }
         }
-        Ok(())
     }
 
     /// Does the end of a subtask count towards a cancel?
@@ -450,54 +498,42 @@ impl PlayedScope {
     }
 
     /// Adds the subtasks whose ends count towards a cancel, or the others.
-    fn push_those(
-        &mut self,
-        table: &Table,
-        scope: &Seen,
-        triggers: bool,
-        starts: &mut Vec<Start>,
-    ) -> Result<(), AllocError> {
-        for child in 0..number(self.births.len()) {
+    fn push_those(&mut self, table: &Table, scope: &Seen, triggers: bool, starts: &mut Starts) {
+        for child in 0..number(self.forks.len()) {
             if self.is_trigger(table, scope, child) == triggers {
-                self.push(scope, child, starts)?;
+                self.push(scope, child, starts);
             }
         }
-        Ok(())
     }
 
     /// Adds the one that fails first, if that matters.
-    fn push_first(&mut self, scope: &Seen, starts: &mut Vec<Start>) -> Result<(), AllocError> {
-        match self.first {
-            Some(first) => self.push(scope, first, starts),
-            None => Ok(()),
+    fn push_first(&mut self, scope: &Seen, starts: &mut Starts) {
+        if let Some(first) = self.first {
+            self.push(scope, first, starts);
         }
     }
 
     /// Adds the subtasks that end heard before the owner sees that the scope is cancelled or heard.
-    fn push_all(
-        &mut self,
-        table: &Table,
-        scope: &Seen,
-        starts: &mut Vec<Start>,
-    ) -> Result<(), AllocError> {
-        self.push_first(scope, starts)?;
-        self.push_those(table, scope, false, starts)?;
-        self.push_those(table, scope, true, starts)
+    fn push_all(&mut self, table: &Table, scope: &Seen, starts: &mut Starts) {
+        self.push_first(scope, starts);
+        self.push_those(table, scope, false, starts);
+        self.push_those(table, scope, true, starts);
     }
 
     /// Adds the subtask that the run is about, if it ends heard and wasn't played.
-    fn push_aim(&mut self, scope: &Seen, starts: &mut Vec<Start>) -> Result<(), AllocError> {
-        match self.aim {
-            Some(aim) if matches!(aim.role, Role::Heard(_)) => self.push(scope, aim.part, starts),
-            _ => Ok(()),
+    fn push_aim(&mut self, scope: &Seen, starts: &mut Starts) {
+        if let Some(aim) = self.aim {
+            if matches!(aim.role, Role::Heard(_)) {
+                self.push(scope, aim.part, starts);
+            }
         }
     }
 
     /// The subtask that was forked last and what the run makes of it, if the run is about it.
     pub fn aimed(&self) -> Option<(u32, Role)> {
         let aim = self.aim?;
-        if number(self.births.len()) == aim.part.saturating_add(1) {
-            Some((self.births.last().copied()?, aim.role))
+        if number(self.forks.len()) == aim.part.saturating_add(1) {
+            Some((self.birth_of(aim.part)?, aim.role))
         } else {
             None
         }
@@ -515,18 +551,12 @@ impl PlayedScope {
     }
 
     /// Adds the subtasks that end before the owner sees that this one has.
-    fn push_child(
-        &mut self,
-        table: &Table,
-        scope: &Seen,
-        child: u32,
-        starts: &mut Vec<Start>,
-    ) -> Result<(), AllocError> {
+    fn push_child(&mut self, table: &Table, scope: &Seen, child: u32, starts: &mut Starts) {
         let is_any = matches!(scope.facts.joiner, Joiner::AnySucceeds);
         if is_any && !scope.facts.has_failure && self.fails(table, scope, child) {
-            self.push_first(scope, starts)?;
+            self.push_first(scope, starts);
         }
-        self.push(scope, child, starts)
+        self.push(scope, child, starts);
     }
 
     /// Adds the subtasks that end before a look of their owner, the first one first. The look shows
@@ -537,10 +567,10 @@ impl PlayedScope {
         before: &Seen,
         after: &Seen,
         child: Option<u32>,
-        starts: &mut Vec<Start>,
-    ) -> Result<(), AllocError> {
+        starts: &mut Starts,
+    ) {
         if before.facts.knowledge != Knowledge::Unseen {
-            return Ok(());
+            return;
         }
         if after.facts.knowledge != Knowledge::Unseen {
             return self.push_all(table, before, starts);
@@ -549,7 +579,7 @@ impl PlayedScope {
             Some(child) if hears(before, after, child) => {
                 self.push_child(table, before, child, starts)
             }
-            _ => Ok(()),
+            _ => {}
         }
     }
 }
@@ -562,13 +592,5 @@ fn hears(before: &Seen, after: &Seen, child: u32) -> bool {
     ) {
         (Some(before), Some(after)) => before.is_open && !after.is_open,
         _ => false,
-    }
-}
-
-/// The scope that a slot is about, as the task knows it before and after a step, and its place.
-pub fn scope_at<'t>(before: &'t Own, after: &'t Own, place: u32) -> Option<(&'t Seen, &'t Seen)> {
-    match (before.scope(place), after.scope(place)) {
-        (Some(before), Some(after)) => Some((before, after)),
-        _ => None,
     }
 }

@@ -9,9 +9,10 @@
 use crate::aim::{FirstSteps, Leg, Role};
 use crate::basis::Basis;
 use crate::mark::Mark;
-use crate::played::{Played, Start, scope_at};
+use crate::played::{Played, Start};
 use ends_known::outside::Outside;
 use ends_known::own::{Held, is_at_once};
+use ends_known::seen::Seen;
 use ends_known::table::{Explored, Label, Table};
 use std::alloc::{AllocError, Global};
 use sts_code::{Instr, Program};
@@ -60,6 +61,8 @@ pub struct Player<'a> {
     tasks: Vec<u32>,
     /// The events that come before the next turn, the first one last.
     coming: Vec<Event>,
+    /// Was there no memory for one of them?
+    lacks_memory: bool,
     /// Is the run not as it was planned?
     is_wrong: bool,
     /// Does each cancel come as early as it can?
@@ -112,16 +115,6 @@ fn waits_for(program: &Program, world: &World, t: u32) -> Option<u32> {
         Stand::AtJoin(s) | Stand::AtClose(s) => Some(s),
         Stand::Free => None,
     }
-}
-
-/// Adds the subtasks of a scope that live.
-fn push_living(world: &World, s: u32, found: &mut Vec<u32>) -> Result<(), AllocError> {
-    for t in world.subtasks(s) {
-        if world.records().lives(*t) {
-            found.push(*t)?;
-        }
-    }
-    Ok(())
 }
 
 /// What a player does about a task of a scope that is being closed.
@@ -181,10 +174,21 @@ fn look(top: &Played, explored: &Explored, instr: Instr) -> Option<(u32, Option<
     looked_at(top.before(explored)?.own.slot(slot))
 }
 
+/// The scope at a place, as the task knows it before and after the next step.
+fn seen_around<'t>(
+    top: &Played,
+    explored: &'t Explored,
+    place: u32,
+) -> Option<(&'t Seen, &'t Seen)> {
+    let before = top.before(explored)?.own.scope(place)?;
+    let after = top.after(explored)?.own.scope(place)?;
+    Some((before, after))
+}
+
 /// The scope that expires just before an instruction, if one does.
 fn expiring(top: &Played, explored: &Explored, instr: Instr) -> Option<u32> {
     let (place, _) = look(top, explored, instr)?;
-    let (before, after) = scope_at(&top.before(explored)?.own, &top.after(explored)?.own, place)?;
+    let (before, after) = seen_around(top, explored, place)?;
     let scope = top.scopes.get(place as usize)?;
     if scope.is_late || before.facts.expired || !after.facts.expired {
         return None;
@@ -226,24 +230,15 @@ fn note(
 }
 
 /// Notes the subtasks that have to be played before an instruction.
-fn prepare(
-    table: &Table,
-    top: &mut Played,
-    explored: &Explored,
-    instr: Instr,
-) -> Result<(), AllocError> {
+fn prepare(table: &Table, top: &mut Played, explored: &Explored, instr: Instr) {
     if matches!(instr, Instr::Close(_)) {
         return top.close(explored);
     }
     let Some((place, child)) = look(top, explored, instr) else {
-        return Ok(());
+        return;
     };
-    let (Some(before), Some(after)) = (top.before(explored), top.after(explored)) else {
-        return Ok(());
-    };
-    match scope_at(&before.own, &after.own, place) {
-        Some((before, after)) => top.look(table, before, after, place, child),
-        None => Ok(()),
+    if let Some((before, after)) = seen_around(top, explored, place) {
+        top.look(table, before, after, place, child);
     }
 }
 
@@ -273,6 +268,7 @@ impl<'a> Player<'a> {
             wait: None,
             tasks: Vec::new(alloc),
             coming: Vec::new(alloc),
+            lacks_memory: false,
             is_wrong: false,
             hurries: false,
             may_run_ahead: false,
@@ -366,19 +362,24 @@ impl<'a> Player<'a> {
         self.push(played)
     }
 
+    /// The task of a leg, before its first step.
+    fn played_on(&self, alloc: Global, leg: Leg, birth: u32) -> Result<Option<Played>, AllocError> {
+        let Some(explored) = self.basis.explored(leg.call) else {
+            return Ok(None);
+        };
+        let aim = Some(leg.aim);
+        let played = Played::towards(alloc, explored, leg.call, birth, leg.place, aim)?;
+        Ok(Some(played))
+    }
+
     /// Begins to play the task of the next leg, by its birth number.
     fn enter(&mut self, alloc: Global, birth: Option<u32>) -> Result<(), AllocError> {
         let (Some(leg), Some(birth)) = (self.legs.pop(), birth) else {
             self.is_wrong = true;
             return Ok(());
         };
-        let Some(explored) = self.basis.explored(leg.call) else {
-            self.is_wrong = true;
-            return Ok(());
-        };
-        let aim = Some(leg.aim);
-        let played = Played::towards(alloc, explored, leg.call, birth, leg.place, aim)?;
-        self.push(Some(played))
+        let played = self.played_on(alloc, leg, birth)?;
+        self.push(played)
     }
 
     /// Notes the task that the run is about. If its end isn't heard, it takes its first steps.
@@ -432,24 +433,25 @@ impl<'a> Player<'a> {
         None
     }
 
+    /// Lets an event come before those that come so far.
+    fn come(&mut self, event: Event) {
+        if self.coming.push(event).is_err() {
+            self.lacks_memory = true;
+        }
+    }
+
     /// Lets the outside events come that an instruction needs.
-    fn come_outside(
-        &mut self,
-        top: &Played,
-        explored: &Explored,
-        instr: Instr,
-    ) -> Result<(), AllocError> {
+    fn come_outside(&mut self, top: &Played, explored: &Explored, instr: Instr) {
         let pays = match top.after(explored) {
             Some(node) => matches!(node.label, Label::Pays),
             None => false,
         };
         if pays {
-            self.coming.push(Event::Interrupt(top.birth))?;
+            self.come(Event::Interrupt(top.birth));
         }
         if let Some(s) = expiring(top, explored, instr) {
-            self.coming.push(Event::Expire(s))?;
+            self.come(Event::Expire(s));
         }
-        Ok(())
     }
 
     /// Lets a task take a step of its way, after the outside events that this step needs.
@@ -461,8 +463,8 @@ impl<'a> Player<'a> {
         explored: &Explored,
         instr: Instr,
     ) -> Result<Next, AllocError> {
-        self.coming.push(Event::Step(top.birth))?;
-        self.come_outside(top, explored, instr)?;
+        self.come(Event::Step(top.birth));
+        self.come_outside(top, explored, instr);
         let basis = self.basis;
         if !note(alloc, &basis, world, top, explored, instr, self.hurries)? {
             self.is_wrong = true;
@@ -471,21 +473,23 @@ impl<'a> Player<'a> {
     }
 
     /// Lets the subtasks of the root's only scope run ahead that nobody hears.
-    fn begin_ahead(&mut self, top: &Played) -> Result<Next, AllocError> {
+    fn begin_ahead(&mut self, top: &Played) -> Next {
         self.may_run_ahead = false;
         self.tasks.truncate(0);
         if let Some(scope) = top.scopes.first() {
-            scope.push_unheard(&mut self.tasks)?;
+            if scope.push_unheard(&mut self.tasks).is_err() {
+                self.lacks_memory = true;
+            }
         }
-        Ok(Next::RunsAhead)
+        Next::RunsAhead
     }
 
     /// Goes on with tasks that run ahead. A task stops before its last step, and where it waits.
-    fn go_ahead(&mut self, world: &World) -> Result<(), AllocError> {
+    fn go_ahead(&mut self, world: &World) {
         let Some(t) = self.tasks.last().copied() else {
             self.is_at_mark = true;
             self.wait = None;
-            return Ok(());
+            return;
         };
         let ends = matches!(
             instr_of(self.basis.program, world, t),
@@ -495,49 +499,42 @@ impl<'a> Player<'a> {
             Turn::Steps if !ends => self.step(world, t),
             _ => {
                 let _ = self.tasks.pop();
-                Ok(())
             }
         }
     }
 
     /// Lets a task step that nobody hears, or a scope expire that it has just opened.
-    fn step(&mut self, world: &World, t: u32) -> Result<(), AllocError> {
+    fn step(&mut self, world: &World, t: u32) {
         let event = match idle_scope(self.basis.outside, world, t) {
             Some(s) => Event::Expire(s),
             None => Event::Step(t),
         };
-        self.coming.push(event)?;
-        Ok(())
+        self.come(event);
     }
 
     /// Lets a task take its last step, or goes on from there to the subtask that the run is about.
-    fn end(&mut self, top: &Played) -> Result<Next, AllocError> {
+    fn end(&mut self, top: &Played) -> Next {
         if let Some(aim) = top.aim {
-            return Ok(Next::GoesDeeper(top.born_in(aim.scope, aim.part)));
+            return Next::GoesDeeper(top.born_in(aim.scope, aim.part));
         }
-        self.coming.push(Event::Step(top.birth))?;
-        Ok(Next::IsOver)
+        self.come(Event::Step(top.birth));
+        Next::IsOver
     }
 
     /// Lets come what has to come before the next instruction of a task.
-    fn go_up_to(
-        &mut self,
-        top: &mut Played,
-        explored: &Explored,
-        instr: Instr,
-    ) -> Result<Next, AllocError> {
+    fn go_up_to(&mut self, top: &mut Played, explored: &Explored, instr: Instr) -> Next {
         if let Some(place) = top.due() {
             if self.may_run_ahead && self.played.is_empty() && top.scopes.len() == 1 {
                 return self.begin_ahead(top);
             }
-            top.cancel(self.basis.table, explored, place)?;
+            top.cancel(self.basis.table, explored, place);
         } else if let Some(s) = top.expiring() {
-            self.coming.push(Event::Expire(s))?;
+            self.come(Event::Expire(s));
         } else {
-            prepare(self.basis.table, top, explored, instr)?;
+            prepare(self.basis.table, top, explored, instr);
             top.is_ready = true;
         }
-        Ok(Next::Stays)
+        Next::Stays
     }
 
     /// Goes on with a task. Returns what follows.
@@ -557,11 +554,11 @@ impl<'a> Player<'a> {
             return Ok(Next::IsOver);
         };
         if top.is_at_end() {
-            self.end(top)
+            Ok(self.end(top))
         } else if top.is_ready {
             self.act(alloc, world, top, explored, instr)
         } else {
-            self.go_up_to(top, explored, instr)
+            Ok(self.go_up_to(top, explored, instr))
         }
     }
 
@@ -595,50 +592,69 @@ impl<'a> Player<'a> {
             return Ok(());
         };
         let mut top = played;
-        let next = self.go_on(alloc, world, &mut top)?;
+        let next = self.go_on(alloc, world, &mut top);
+        self.lacks_memory = self.lacks_memory || top.waiting.lacks_memory;
         self.played.push(top)?;
-        self.follow(alloc, next)
+        self.follow(alloc, next?)
+    }
+
+    /// Adds a task to those that have to end before a close.
+    fn push_task(&mut self, t: u32) {
+        if self.tasks.push(t).is_err() {
+            self.lacks_memory = true;
+        }
+    }
+
+    /// Adds the subtasks of a scope that live.
+    fn push_living(&mut self, world: &World, s: u32) {
+        for t in world.subtasks(s) {
+            if world.records().lives(*t) {
+                self.push_task(*t);
+            }
+        }
     }
 
     /// Lets the last of the tasks step that have to end before a close, or those that it waits for.
-    fn step_one(&mut self, world: &World, t: u32) -> Result<(), AllocError> {
+    fn step_one(&mut self, world: &World, t: u32) {
         match turn_of(self.basis.program, world, t) {
             Turn::Steps => self.step(world, t),
             Turn::IsOver => {
                 let _ = self.tasks.pop();
-                Ok(())
             }
             Turn::Waits(inner) => {
                 let before = self.tasks.len();
-                push_living(world, inner, &mut self.tasks)?;
+                self.push_living(world, inner);
                 self.is_wrong = self.is_wrong || self.tasks.len() == before;
-                Ok(())
             }
         }
     }
 
+    /// Finds out which tasks have to end before a `close`.
+    fn begin_close(&mut self, world: &World, scope: u32) {
+        self.tasks.truncate(0);
+        self.push_living(world, scope);
+        self.wait = Some(Wait::Close {
+            scope,
+            is_known: true,
+        });
+    }
+
     /// Goes on with a `close`, up to its last step.
-    fn close(&mut self, world: &World, scope: u32, is_known: bool) -> Result<(), AllocError> {
+    fn close(&mut self, world: &World, scope: u32, is_known: bool) {
         if matches!(world.records().phase(scope), Phase::Closed) {
             self.wait = None;
-            return Ok(());
+            return;
         }
         if !is_known {
-            self.tasks.truncate(0);
-            push_living(world, scope, &mut self.tasks)?;
-            self.wait = Some(Wait::Close {
-                scope,
-                is_known: true,
-            });
+            self.begin_close(world, scope);
         }
         if let Some(t) = self.tasks.last().copied() {
             return self.step_one(world, t);
         }
         self.wait = None;
-        if let Some(owner) = self.played.last() {
-            self.coming.push(Event::Step(owner.birth))?;
+        if let Some(owner) = self.played.last().map(|owner| owner.birth) {
+            self.come(Event::Step(owner));
         }
-        Ok(())
     }
 
     /// The task whose instruction comes next, if nothing else comes before it.
@@ -677,14 +693,15 @@ impl<'a> Player<'a> {
     /// Goes on, up to the next event at most.
     fn turn(&mut self, alloc: Global, world: &World) -> Result<(), AllocError> {
         if let Some(event) = self.at_once(world) {
-            self.coming.push(event)?;
+            self.come(event);
             return Ok(());
         }
         match self.wait {
-            None => self.play(alloc, world),
+            None => return self.play(alloc, world),
             Some(Wait::Ahead) => self.go_ahead(world),
             Some(Wait::Close { scope, is_known }) => self.close(world, scope, is_known),
         }
+        Ok(())
     }
 
     /// The next event, if the run isn't over or at a mark, and goes as it was planned. The events before
@@ -698,6 +715,9 @@ impl<'a> Player<'a> {
             return Ok(None);
         };
         for _ in 0..u64::MAX {
+            if self.lacks_memory {
+                return Err(AllocError);
+            }
             if self.is_wrong || self.is_at_mark {
                 break;
             }

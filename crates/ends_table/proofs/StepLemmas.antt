@@ -34,7 +34,7 @@ use Rattle.laws_calls.specs.Steps.{tally_step, total_step}
 use Rattle.laws_calls.specs.Steps.{is_cancelled, may_decide, may_be_late}
 use Rattle.laws_calls.specs.Steps.{with_seen, after_cancel, after_expiry}
 use Rattle.ends_table.specs.Answered.{TalliesLead, TotalsLead}
-use Rattle.ends_table.specs.Led.{AllLead, LooksLead, AttemptLeads, JoinsLead, CasesLead, ReadsLead}
+use Rattle.ends_table.specs.Led.{AllLead, LooksLead, AttemptLeads, JoinsLead, CasesLead, ReadsLead, read_of}
 
 module _ (p : Program) (outside : Outside) (c : Call) (states : List Own) (own : Own) where
   -- ---- what a slot holds
@@ -207,15 +207,19 @@ module _ (p : Program) (outside : Outside) (c : Call) (states : List Own) (own :
   cases_lead x good bad place seen i part o h next (missed_step place2 seen2 j part2 q may) =
       (knows (λ a s k y. CasesLead states own a s k y good bad) x place place2 seen seen2 i j part part2 o q h).unended may
 
-  pub get_leads : (x place : ℕ) (seen : Seen) (i : ℕ) (part : Part) → Knows own x place seen i part → ReadsLead states own place seen i part true → AllLead p outside c states own (Get x)
+  get_leads : (x place : ℕ) (seen : Seen) (i : ℕ) (part : Part) → Knows own x place seen i part → ReadsLead states own place seen i part true → AllLead p outside c states own (Get x)
   get_leads x place seen i part o h next (local_step e) = cc
   get_leads x place seen i part o h next (get_step place2 seen2 j part2 v q way) =
       knows (λ a s k y. ReadsLead states own a s k y true) x place place2 seen seen2 i j part part2 o q h (Success v) way refl
 
-  pub except_leads : (x place : ℕ) (seen : Seen) (i : ℕ) (part : Part) → Knows own x place seen i part → ReadsLead states own place seen i part false → AllLead p outside c states own (Except x)
+  except_leads : (x place : ℕ) (seen : Seen) (i : ℕ) (part : Part) → Knows own x place seen i part → ReadsLead states own place seen i part false → AllLead p outside c states own (Except x)
   except_leads x place seen i part o h next (local_step e) = cc
   except_leads x place seen i part o h next (except_step place2 seen2 j part2 v q way) =
       knows (λ a s k y. ReadsLead states own a s k y false) x place place2 seen seen2 i j part part2 o q h (Failed v) way refl
+
+  pub reads_lead : (succeeds : Bool) (x place : ℕ) (seen : Seen) (i : ℕ) (part : Part) → Knows own x place seen i part → ReadsLead states own place seen i part succeeds → AllLead p outside c states own (read_of succeeds x)
+  reads_lead true x place seen i part o h = get_leads x place seen i part o h
+  reads_lead false x place seen i part o h = except_leads x place seen i part o h
 
   -- ---- answers
 

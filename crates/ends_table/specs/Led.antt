@@ -5,7 +5,7 @@ use Rattle.std.specs.Prelude.{Some, All, ◌&&◌}
 use Rattle.std.specs.List.{list_any}
 use Rattle.sts_code.specs.Program.{Program}
 use Rattle.sts_code.specs.declared.instr.Instr.{Instr}
-use Rattle.sts_code.specs.declared.instr.Instr.TheVariants.{Fork}
+use Rattle.sts_code.specs.declared.instr.Instr.TheVariants.{Fork, Get, Except}
 use Rattle.sts_model.specs.declared.event.End.{End}
 use Rattle.sts_model.specs.declared.event.End.TheVariants.{Success, Failed}
 use Rattle.sts_model.specs.Joining.{is_success, is_failure, result_of}
@@ -60,6 +60,11 @@ value_in (Failed c) = c
 abbrev pub noted : Bool → Seen → Seen
 noted true x = x
 noted false x = saw_failure x
+
+-- a `get`, or an `except`
+abbrev pub read_of : Bool → ℕ → Instr
+read_of true x = Get x
+read_of false x = Except x
 
 -- ---- instructions
 

@@ -71,7 +71,7 @@ impl Births {
     /// The births that are left to each state. The error says that there are too many, perhaps
     /// without end.
     pub fn left(&self, alloc: Global) -> Result<Vec<u32>, Stop> {
-        let mut left = zeros(alloc, self.steps.len())?;
+        let mut left = Vec::from_elem(alloc, 0, self.steps.len())?;
         for _ in 0..ROUNDS {
             if !self.raise(left.as_mut_slice()) {
                 return Ok(left);
@@ -82,14 +82,6 @@ impl Births {
         }
         Err(Stop::Unknown)
     }
-}
-
-fn zeros(alloc: Global, count: usize) -> Result<Vec<u32>, AllocError> {
-    let mut zeros = Vec::new(alloc);
-    for _ in 0..count {
-        zeros.push(0)?;
-    }
-    Ok(zeros)
 }
 
 /// The births that the steps need.

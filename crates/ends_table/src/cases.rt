@@ -8,8 +8,7 @@ ghost use Rattle.sts_model.specs.Local as locals;
 use crate::around::Around;
 use crate::frames::next_place;
 use crate::missing::Missing;
-use crate::parts::{is_of_kind, missed, told, with_end};
-use crate::places::with_part;
+use crate::parts::{is_of_kind, told, with_end, with_missed};
 use crate::stop::Stop;
 use laws_calls::table::{Part, Seen};
 use std::alloc::Global;
@@ -85,8 +84,7 @@ impl<'a> Around<'a> {
             return Ok(());
         }
         let to = next_place(&self.own.frame)?;
-        let part = missed(alloc, seen.knowledge, seen.has_failure, part)?;
-        let after = with_part(alloc, seen, i, part)?;
+        let after = with_missed(alloc, seen, i, part)?;
         self.goes(alloc, place, after, to)
     }
 

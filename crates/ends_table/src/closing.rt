@@ -220,20 +220,33 @@ impl Open {
     /// The row, with its states in order.
     fn row(self, alloc: Global) -> Result<Row, Stop> {
         let left = self.births.left(alloc)?;
-        let births = left.first().copied().unwrap_or(0);
-        let mut found = counted(alloc, self.states, left.as_slice())?;
-        sort(&mut found)?;
-        let mut states = Items::new(alloc);
-        for own in found {
-            states.push(own)?;
-        }
-        Ok(Row {
-            call: self.call,
-            births,
-            states,
-            ways: Shared::new(alloc, self.ways)?,
-        })
+        Ok(row_of(alloc, self.call, self.states, self.ways, left.as_slice())?)
     }
+}
+
+/// The row of a call, with its states in order. These births are left to each of them.
+fn row_of(
+    alloc: Global,
+    call: Call,
+    states: Vec<Own>,
+    ways: Items<Way>,
+    left: &[u32],
+) -> Result<Row, AllocError> {
+    let states = in_order(alloc, states, left)?;
+    let ways = Shared::new(alloc, ways)?;
+    Ok(Row {
+        call,
+        births: left.first().copied().unwrap_or(0),
+        states,
+        ways,
+    })
+}
+
+/// The states in order, each with the births that are left to it.
+fn in_order(alloc: Global, states: Vec<Own>, left: &[u32]) -> Result<Items<Own>, AllocError> {
+    let mut found = counted(alloc, states, left)?;
+    sort(&mut found)?;
+    listed(alloc, found)
 }
 
 /// The states, each with the births that are left to it.
@@ -247,6 +260,15 @@ fn counted(alloc: Global, states: Vec<Own>, left: &[u32]) -> Result<Vec<Own>, Al
         place = place.saturating_add(1);
     }
     Ok(found)
+}
+
+/// The states as a list that grows.
+fn listed(alloc: Global, states: Vec<Own>) -> Result<Items<Own>, AllocError> {
+    let mut list = Items::new(alloc);
+    for own in states {
+        list.push(own)?;
+    }
+    Ok(list)
 }
 
 /// What a look at the innermost open row found.

@@ -1,21 +1,13 @@
 //! Numbers that equal states share, and most others don't. The states of a row are in rising order
 //! of them, so that one is found by halving. They are only hints, with no contract.
 
+use ends_search::hash::{mixed, mixed_values};
 use laws_calls::table::{Held, Own, Seen};
 use std::alloc::AllocError;
 use sts_model::{Bound, Entry, Frame};
-use sts_repeats::repeats::mixed;
 
 /// The hash of no numbers.
 const SEED: u64 = 0xcbf2_9ce4_8422_2325;
-
-fn with_values(hash: u64, values: &[i64]) -> u64 {
-    let mut hash = mixed(hash, values.len() as u64);
-    for value in values {
-        hash = mixed(hash, value.cast_unsigned());
-    }
-    hash
-}
 
 fn with_entry(hash: u64, entry: Entry) -> u64 {
     match entry {
@@ -28,8 +20,8 @@ fn with_entry(hash: u64, entry: Entry) -> u64 {
 
 fn with_frame(hash: u64, frame: &Frame) -> u64 {
     let mut hash = mixed(hash, u64::from(frame.pc));
-    hash = with_values(hash, frame.operands.as_slice());
-    hash = with_values(hash, &frame.locals);
+    hash = mixed_values(hash, frame.operands.as_slice());
+    hash = mixed_values(hash, &frame.locals);
     for entry in frame.entries.as_slice() {
         hash = with_entry(hash, entry.get());
     }

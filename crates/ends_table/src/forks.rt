@@ -8,11 +8,10 @@ ghost use Rattle.sts_code.specs.Program.{routine};
 ghost use Rattle.sts_code.specs.declared.instr.Instr.TheVariants as instrs;
 
 use crate::around::Around;
-use crate::beginning::first_state;
 use crate::frames::stepped;
 use crate::places::{number, owned, set_held, with_parts, with_scope};
 use crate::reached::leads_after;
-use crate::rows::row_of;
+use crate::rows::row_for;
 use crate::stop::Stop;
 use ends_picks::joiners::is_cancelled;
 use laws_calls::shared::Shared;
@@ -113,8 +112,7 @@ impl<'a> Around<'a> {
             (def.call_of self.now.program.now self.now.own.now seen.now function)) }
     {
         let call = call_of(alloc, self.program, self.own, seen, function)?;
-        let first = first_state(alloc, &call, Held::Lent, 0)?;
-        match row_of(self.table, &call, &first) {
+        match row_for(alloc, self.table, &call)? {
             Some(row) => Ok(row),
             None => Err(Stop::Call(call)),
         }

@@ -193,7 +193,7 @@ pub fn told(
 }
 
 /// The part had not ended when the owner looked.
-pub fn missed(
+fn missed(
     alloc: Global,
     knowledge: Knowledge,
     has_failure: bool,
@@ -211,4 +211,14 @@ pub fn missed(
         }
     }
     Ok(after)
+}
+
+/// The scope after its owner looked at a part that had not ended.
+pub fn with_missed(alloc: Global, seen: &Seen, i: u32, part: &Part) -> Result<Seen, AllocError>
+    requires { i < length seen.now.parts }
+    ensures { IfOk result (λ x. x ≡ def.parts_with seen.now i
+        (def.missed seen.now.knowledge seen.now.has_failure part.now)) }
+{
+    let part = missed(alloc, seen.knowledge, seen.has_failure, part)?;
+    with_part(alloc, seen, i, part)
 }

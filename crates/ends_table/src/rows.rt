@@ -1,20 +1,22 @@
 //! Rows of a table, and the ways that they have.
 
-ghost use Rattle.std.specs.Prelude.{◌≡◌, true, IfSome, OnOk, Some};
+ghost use Rattle.std.specs.Prelude.{◌≡◌, true, IfOk, IfSome, OnOk, Some};
 ghost use Rattle.laws_calls.specs.declared.table.Held.TheVariants.{Lent};
 ghost use Rattle.laws_calls.specs.Steps as def;
 ghost use Rattle.laws_calls.specs.Tasks as tasks;
 ghost use Rattle.sts_model.specs.declared.event.End.{End};
 
+use crate::beginning::first_state;
 use crate::reached::is_among_with;
 use crate::stop::Stop;
-use laws_calls::table::{Call, Own, Row, Way};
+use laws_calls::table::{Call, Held, Own, Row, Way};
+use std::alloc::Global;
 use sts_code::Instr;
 use sts_model::{End, Frame};
 use sts_same::same::Same;
 
 /// The row of a call, which has the call's first state.
-pub fn row_of<'a>(table: &'a [Row], call: &Call, first: &Own) -> Option<&'a Row>
+fn row_of<'a>(table: &'a [Row], call: &Call, first: &Own) -> Option<&'a Row>
     requires { first.now ≡ tasks.begin Lent call.now 0 }
     ensures { IfSome result (λ row. def.IsRowOf table.now row.now call.now) }
 {
@@ -24,6 +26,15 @@ pub fn row_of<'a>(table: &'a [Row], call: &Call, first: &Own) -> Option<&'a Row>
         }
     }
     None
+}
+
+/// The row of the call of a subtask.
+pub fn row_for<'a>(alloc: Global, table: &'a [Row], call: &Call) -> Result<Option<&'a Row>, Stop>
+    ensures { IfOk result (λ found. IfSome found (λ row.
+        def.IsRowOf table.now row.now call.now)) }
+{
+    let first = first_state(alloc, call, Held::Lent, 0)?;
+    Ok(row_of(table, call, &first))
 }
 
 /// Does the way come to this end?

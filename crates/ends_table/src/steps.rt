@@ -3,6 +3,7 @@
 ghost use Rattle.std.specs.Prelude.{◌≡◌, [], IfOk, OnOk, slice_set, true};
 ghost use Rattle.ends_table.specs.Led as led;
 ghost use Rattle.laws_calls.specs.Outside.{may_flag};
+ghost use Rattle.laws_calls.specs.Steps as def;
 ghost use Rattle.laws_calls.specs.Tasks as tasks;
 ghost use Rattle.laws_calls.specs.declared.table.Held.TheVariants as held;
 ghost use Rattle.sts_code.specs.declared.instr.Instr.TheVariants as instrs;
@@ -20,6 +21,7 @@ use laws_calls::table::{Held, Own, Seen};
 use std::alloc::Global;
 use sts_code::{Instr, Joiner, Kind};
 use sts_frames::is_local;
+use sts_model::Frame;
 
 /// The state after a handle was forgotten.
 fn forgotten(alloc: Global, own: &Own, handle: u8) -> Result<Own, Stop>
@@ -40,41 +42,6 @@ impl<'a> Around<'a> {
         ensures { OnOk result (led.LeadsOn self.now instr) }
     {
         let frame = after_local(&self.own.frame, self.program, instr)?;
-        self.leads_by(alloc, frame)
-    }
-
-    fn read(&self, alloc: Global, key: u8) -> Result<(), Stop>
-        ensures { OnOk result (led.LeadsOn self.now (instrs.Read key)) }
-    {
-        let frame = after_read(alloc, self.call, self.own, key)?;
-        self.leads_by(alloc, frame)
-    }
-
-    fn is_bound(&self, alloc: Global, key: u8) -> Result<(), Stop>
-        ensures { OnOk result (led.LeadsOn self.now (instrs.Bound key)) }
-    {
-        let frame = after_bound(alloc, self.call, self.own, key)?;
-        self.leads_by(alloc, frame)
-    }
-
-    fn or_else(&self, alloc: Global, key: u8) -> Result<(), Stop>
-        ensures { OnOk result (led.LeadsOn self.now (instrs.OrElse key)) }
-    {
-        let frame = after_or_else(alloc, self.call, self.own, key)?;
-        self.leads_by(alloc, frame)
-    }
-
-    fn bind(&self, alloc: Global, key: u8) -> Result<(), Stop>
-        ensures { OnOk result (led.LeadsOn self.now (instrs.Bind key)) }
-    {
-        let frame = bound(&self.own.frame, key)?;
-        self.leads_by(alloc, frame)
-    }
-
-    fn unbind(&self, alloc: Global) -> Result<(), Stop>
-        ensures { OnOk result (led.LeadsOn self.now instrs.Unbind) }
-    {
-        let frame = left(&self.own.frame)?;
         self.leads_by(alloc, frame)
     }
 
@@ -163,18 +130,12 @@ impl<'a> Around<'a> {
         self.cases(alloc, place, seen, i, part, success, failed)
     }
 
-    fn get(&self, alloc: Global, handle: u8) -> Result<(), Stop>
-        ensures { OnOk result (led.LeadsOn self.now (instrs.Get handle)) }
+    /// A `get`, or an `except`.
+    fn read(&self, alloc: Global, handle: u8, succeeds: bool) -> Result<(), Stop>
+        ensures { OnOk result (led.LeadsOn self.now (led.read_of succeeds handle)) }
     {
         let (place, seen, i, part) = known(self.own, handle)?;
-        self.reads(alloc, place, seen, i, part, true)
-    }
-
-    fn except(&self, alloc: Global, handle: u8) -> Result<(), Stop>
-        ensures { OnOk result (led.LeadsOn self.now (instrs.Except handle)) }
-    {
-        let (place, seen, i, part) = known(self.own, handle)?;
-        self.reads(alloc, place, seen, i, part, false)
+        self.reads(alloc, place, seen, i, part, succeeds)
     }
 
     fn tally(&self, alloc: Global, slot: u8, kind: Kind) -> Result<(), Stop>
@@ -191,18 +152,27 @@ impl<'a> Around<'a> {
         self.totals(alloc, place, seen)
     }
 
+    /// The frame after an instruction that reads or changes the scoped values.
+    fn after_scoped(&self, alloc: Global, instr: Instr) -> Result<Frame, Stop>
+        ensures { IfOk result (λ f. def.Leads self.now.states.now (def.to self.now.own.now f)
+            → led.LeadsOn self.now instr) }
+    {
+        match instr {
+            Instr::Read(key) => after_read(alloc, self.call, self.own, key),
+            Instr::Bound(key) => after_bound(alloc, self.call, self.own, key),
+            Instr::OrElse(key) => after_or_else(alloc, self.call, self.own, key),
+            Instr::Bind(key) => bound(&self.own.frame, key),
+            Instr::Unbind => left(&self.own.frame),
+            _ => Err(Stop::Unknown),
+        }
+    }
+
     /// An instruction that reads or changes the scoped values.
     fn scoped(&self, alloc: Global, instr: Instr) -> Result<(), Stop>
         ensures { OnOk result (led.LeadsOn self.now instr) }
     {
-        match instr {
-            Instr::Read(key) => self.read(alloc, key),
-            Instr::Bound(key) => self.is_bound(alloc, key),
-            Instr::OrElse(key) => self.or_else(alloc, key),
-            Instr::Bind(key) => self.bind(alloc, key),
-            Instr::Unbind => self.unbind(alloc),
-            _ => Err(Stop::Unknown),
-        }
+        let frame = self.after_scoped(alloc, instr)?;
+        self.leads_by(alloc, frame)
     }
 
     /// An instruction about subtasks.
@@ -215,8 +185,8 @@ impl<'a> Around<'a> {
                 success,
                 failed,
             } => self.case(alloc, handle, success, failed),
-            Instr::Get(handle) => self.get(alloc, handle),
-            Instr::Except(handle) => self.except(alloc, handle),
+            Instr::Get(handle) => self.read(alloc, handle, true),
+            Instr::Except(handle) => self.read(alloc, handle, false),
             Instr::Forget(handle) => self.forget(alloc, handle),
             Instr::Tally(slot, kind) => self.tally(alloc, slot, kind),
             Instr::Total(slot) => self.total(alloc, slot),
@@ -248,24 +218,10 @@ impl<'a> Around<'a> {
             Instr::Close(slot) => self.close(alloc, slot),
             Instr::Cancelled(slot) => self.cancelled(alloc, slot),
             Instr::Interrupted => self.interrupted(alloc),
-            Instr::Ret => self.ret(),
-            Instr::Fail => self.fail(),
+            Instr::Ret => Ok(()),
+            Instr::Fail => Ok(()),
             _ => self.asked(alloc, instr),
         }
-    }
-
-    /// A `ret` leads to no state.
-    fn ret(&self) -> Result<(), Stop>
-        ensures { OnOk result (led.LeadsOn self.now instrs.Ret) }
-    {
-        Ok(())
-    }
-
-    /// A `fail` leads to no state.
-    fn fail(&self) -> Result<(), Stop>
-        ensures { OnOk result (led.LeadsOn self.now instrs.Fail) }
-    {
-        Ok(())
     }
 
     /// Does each step by the instruction lead to one of the states, or to one that isn't possible?

@@ -1,6 +1,10 @@
 use Rattle.ends_table.proofs.MissingLemmas.{on_ok}
+use Rattle.ends_table.proofs.PlaceLemmas.{get_less}
 use Rattle.ends_table.proofs.StepLemmas.{cases_lead}
 use Rattle.ends_table.proofs.around.Around.case.Goals as goal
+
+pub cases-requires : goal.cases-requires
+cases-requires c = get_less _ _ _ c.in_ok-place.ensures.known
 
 pub returns : goal.returns
 returns c =

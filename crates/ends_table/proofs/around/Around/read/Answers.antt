@@ -1,10 +1,12 @@
 use Rattle.ends_table.proofs.MissingLemmas.{on_ok}
-use Rattle.std.proofs.Common.{subst}
-use Rattle.laws_calls.specs.Steps.{Leads, to}
-use Rattle.ends_table.proofs.StepLemmas.{read_leads}
+use Rattle.ends_table.proofs.PlaceLemmas.{get_less}
+use Rattle.ends_table.proofs.StepLemmas.{reads_lead}
 use Rattle.ends_table.proofs.around.Around.read.Goals as goal
+
+pub reads-requires : goal.reads-requires
+reads-requires c = get_less _ _ _ c.in_ok-place.ensures.known
 
 pub returns : goal.returns
 returns c =
     let a = c.args.self.now in
-    on_ok c.leads_by.result c.leads_by.ensures (λ led. read_leads a.program.now a.outside a.call.now a.states.now a.own.now c.args.key (subst (λ f. Leads a.states.now (to a.own.now f)) c.in_ok-frame.ensures led))
+    on_ok c.reads.result c.reads.ensures (λ led. reads_lead a.program.now a.outside a.call.now a.states.now a.own.now c.args.succeeds c.args.handle _ _ _ _ c.in_ok-place.ensures led)
