@@ -1,6 +1,7 @@
 pub mod Deed
 pub mod Line
 pub mod Outcome
+pub mod Parts
 pub mod Story
 pub mod Telling
 pub mod Words
