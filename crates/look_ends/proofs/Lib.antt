@@ -1,2 +1,3 @@
 mod CallsLemmas
 mod ListingLemmas
+mod Parts

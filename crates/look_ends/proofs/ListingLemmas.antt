@@ -1,31 +1,49 @@
 -- A listing of a search says what was searched.
-use Rattle.std.proofs.Common.{◌≡◌, ℕ, List, Bool, true, Option, Result, Ok, Err, subst, ◌∙◌}
+use Rattle.std.proofs.Common.{◌≡◌, ℕ, List, Bool, true, Option, Result, Ok, Err, ap, sym, subst, ◌∙◌}
+use Rattle.std.specs.Prelude.{IfOk}
+use Rattle.std.proofs.lemmas.Result.{IfOk-weaker}
 use Rattle.ends_plain.specs.Ends.{AreAll}
 use Rattle.ends_plain.specs.Listed.{AreEnds, ends_of}
 use Rattle.ends_plain.specs.declared.config.Found.{Found}
 use Rattle.ends_plain.specs.declared.config.Setting.{Setting}
+use Rattle.sts_asm.specs.Text.{judged}
+use Rattle.sts_asm.specs.declared.fault.AsmError.{AsmError}
 use Rattle.sts_code.specs.Program.{Program}
+use Rattle.sts_output.specs.Output.{Output}
+use Rattle.look_options.specs.declared.ends.EndsOptions.{EndsOptions}
 use Rattle.look_refusal.specs.Stops.{Gives, IsTextFault}
 use Rattle.look_refusal.specs.declared.explanation.ExplainError.{ExplainError}
 use Rattle.look_refusal.proofs.StopLemmas.{says_less}
 use Rattle.look_ends.specs.Form.{EndsForm, IsFaultIn}
-use Rattle.look_ends.specs.Listing.{IsSearch, IsVerdict, Listing, lines_form, searched_listing}
+use Rattle.look_ends.specs.Listing.{IsSearch, IsVerdict, Listing, ListsBy, ListsIn, alone, lines_form, searched_listing, setting}
 
 -- what was searched is what was asked for
-pub search_of : (form : EndsForm) (g e x : Setting) (text : List ℕ) (number : Option ℕ) (is_refused : Bool) (found : List Found) (states : ℕ) (whole : Bool) (by_calls : Option ℕ) (r : Listing)
-    → x ≡ e → e ≡ g → AreEnds e found → (whole ≡ true → AreAll e.program e.expiries e.interrupts (ends_of found)) → IsVerdict g.program is_refused
+pub search_of : (form : EndsForm) (g x : Setting) (text : List ℕ) (number : Option ℕ) (is_refused : Bool) (found : List Found) (states : ℕ) (whole : Bool) (by_calls : Option ℕ) (r : Listing)
+    → x ≡ g → AreEnds g found → (whole ≡ true → AreAll g.program g.expiries g.interrupts (ends_of found)) → IsVerdict g.program is_refused
     → r ≡ searched_listing form text x is_refused number found states whole by_calls → IsSearch form text g number r
-search_of form g e x text number is_refused found states whole by_calls r seen same sound complete verdict printed = record {
+search_of form g x text number is_refused found states whole by_calls r seen sound complete verdict printed = record {
   found = found;
   states = states;
   whole = whole;
   by_calls = by_calls;
   is_refused = is_refused;
-  sound = subst (λ (y : Setting). AreEnds y found) same sound;
-  complete = subst (λ (y : Setting). whole ≡ true → AreAll y.program y.expiries y.interrupts (ends_of found)) same complete;
+  sound = sound;
+  complete = complete;
   verdict = verdict;
-  printed = subst (λ (y : Setting). r ≡ searched_listing form text y is_refused number found states whole by_calls) (seen ∙ same) printed;
+  printed = subst (λ (y : Setting). r ≡ searched_listing form text y is_refused number found states whole by_calls) seen printed;
 }
+
+-- the listing of the program of a text
+pub program_lists : {E : Type 0} (form : EndsForm) (text : List ℕ) (wanted : EndsOptions) (number : Option ℕ) (p : Program) (r : Result Listing E)
+    → judged text ≡ Ok p → IfOk r (ListsBy form wanted.manner text (setting p wanted) number) → IfOk r (ListsIn form (judged text) text wanted number)
+program_lists form text wanted number p r is h =
+    IfOk-weaker r (ListsBy form wanted.manner text (setting p wanted) number) (ListsIn form (judged text) text wanted number)
+    (λ l k. subst (λ (j : Result Program AsmError). ListsIn form j text wanted number l) (sym is) k) h
+
+-- the output for a fault of a text, alone, is its listing
+pub fault_lists : (form : EndsForm) (text : List ℕ) (wanted : EndsOptions) (number : Option ℕ) (o : Output) (l : Listing) → l ≡ alone o → IsFaultIn form text o → ListsIn form (judged text) text wanted number l
+fault_lists form text wanted number o l is h =
+    subst (λ (j : Result Program AsmError). ListsIn form j text wanted number l) (sym h.fault) (is ∙ ap alone h.printed)
 
 -- the output for a fault is that of the form in lines
 pub faults_in_lines : (text : List ℕ) (r : Result Program ExplainError) (P : Program → Type 0) → Gives r P (IsTextFault text) → Gives r P (IsFaultIn lines_form text)

@@ -1,27 +1,15 @@
 -- The lines of the ends of calls, with the names of a text (this project's own).
-use Rattle.std.specs.Prelude.{ℕ, ◌+◌, ◌==◌, ℤ, List, [], ◌∷◌, ◌++◌, Bool}
-use Rattle.std.specs.Prelude.{if◌then◌else◌, codes, drop, length, pos, slice_index_or, Option, Some, None}
+use Rattle.std.specs.Prelude.{ℕ, ◌+◌, List, [], ◌∷◌, ◌++◌, Bool}
+use Rattle.std.specs.Prelude.{if◌then◌else◌, codes, length, Option, Some, None}
 use Rattle.std.specs.Fmt.{decimal}
-use Rattle.std.specs.List.{flat_map}
 use Rattle.sts_code.specs.Program.{Program}
 use Rattle.sts_model.specs.declared.event.Event.{Event}
 use Rattle.look_calls.specs.declared.found.CallEnd.{CallEnd}
-use Rattle.look_names.specs.Words.{function_words, value_words}
+use Rattle.look_names.specs.Words.{arguments_words, function_words}
 use Rattle.look_ends.specs.Lines.{found_at, head_words, no_number_line}
-use Rattle.look_ends.specs.States.{end_line}
+use Rattle.look_run.specs.States.{end_line}
 
 -- ---- an end of a call
-
--- `(10, 7)`
-unfoldable pub listed_words : List ℕ → ℤ → List ℤ → List ℕ
-listed_words text first others =
-    codes "(" ++ value_words text first
-    ++ flat_map (λ x. codes ", " ++ value_words text x) others ++ codes ")"
-
--- the arguments in brackets, if there are any
-abbrev pub arguments_words : List ℕ → List ℤ → List ℕ
-arguments_words text args =
-    if length args == 0 then [] else listed_words text (slice_index_or args 0 (pos 0)) (drop 1 args)
 
 -- `charge(10)`
 abbrev pub call_words : List ℕ → Program → CallEnd → List ℕ

@@ -2,4 +2,3 @@ pub mod Calls
 pub mod Form
 pub mod Lines
 pub mod Listing
-pub mod States

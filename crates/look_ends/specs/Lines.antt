@@ -9,7 +9,7 @@ use Rattle.sts_plain.specs.declared.misstep.PlainState.{PlainState}
 use Rattle.sts_plain.specs.declared.misstep.PlainState.TheVariants as plain
 use Rattle.ends_plain.specs.declared.config.Found.{Found}
 use Rattle.ends_plain.specs.declared.config.Setting.{Setting}
-use Rattle.look_ends.specs.States.{state_line}
+use Rattle.look_run.specs.States.{state_line}
 
 -- ---- an end
 

@@ -35,6 +35,11 @@ pub record Listing : Type 0 where
 abbrev pub alone : Output → Listing
 alone o = record { output = o; trace = [] }
 
+-- these bytes, this status and this trace
+abbrev pub listing_of : List ℕ → ℕ → List Event → Listing
+listing_of bytes status events =
+    record { output = record { bytes = bytes; status = status }; trace = events }
+
 abbrev pub events_of : Option Found → List Event
 events_of None = []
 events_of (Some f) = f.trace
@@ -72,35 +77,23 @@ lines_form = record {
 -- what is shown of a search, in any form
 abbrev pub searched_listing : EndsForm → List ℕ → Setting → Bool → Option ℕ → List Found → ℕ → Bool
     → Option ℕ → Listing
-searched_listing form text g is_refused number found states whole by_calls = record {
-  output = record {
-    bytes = form.of_search text g is_refused number found states whole by_calls;
-    status = status_of whole number found;
-  };
-  trace = trace_of number found;
-}
+searched_listing form text g is_refused number found states whole by_calls =
+    listing_of (form.of_search text g is_refused number found states whole by_calls)
+    (status_of whole number found) (trace_of number found)
 
 -- what is shown of random schedules
 abbrev pub sampled_listing : EndsForm → List ℕ → Program → ℕ → ℕ → Option ℕ → List Found → List ℕ
     → ℕ → Listing
-sampled_listing form text p schedules seed number found times unfinished = record {
-  output = record {
-    bytes = form.of_sample text p schedules seed number found times unfinished;
-    status = 5;
-  };
-  trace = trace_of number found;
-}
+sampled_listing form text p schedules seed number found times unfinished =
+    listing_of (form.of_sample text p schedules seed number found times unfinished) 5
+    (trace_of number found)
 
 -- what is shown of the ends of calls
 abbrev pub calls_listing : EndsForm → List ℕ → Program → Bool → Option ℕ → List CallEnd → ℕ → Bool
     → Listing
-calls_listing form text p is_refused number found states is_cut_off = record {
-  output = record {
-    bytes = form.of_calls text p is_refused number found states is_cut_off;
-    status = 5;
-  };
-  trace = trace_of_call number found;
-}
+calls_listing form text p is_refused number found states is_cut_off =
+    listing_of (form.of_calls text p is_refused number found states is_cut_off) 5
+    (trace_of_call number found)
 
 -- ---- of a program
 

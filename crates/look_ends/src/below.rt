@@ -4,10 +4,9 @@ ghost use Rattle.std.specs.Fmt.{decimal};
 ghost use Rattle.std.specs.Prelude.{◌≡◌, ◌++◌, OnOk, codes, option_map};
 ghost use Rattle.look_ends.specs.Lines as def;
 
-use crate::lines::say_count;
 use ends_plain::config::{Found, Setting};
-use look_text::say;
-use std::alloc::{AllocError, Global};
+use look_text::{Said, say, say_number};
+use std::alloc::Global;
 use sts_plain::PlainState;
 
 fn is_fault(end: PlainState) -> bool
@@ -23,16 +22,16 @@ fn has_fault(found: &[Found]) -> bool
 }
 
 /// `with at most N interrupts`
-fn say_at_most(alloc: Global, out: &mut Vec<u8>, most: u32) -> Result<(), AllocError>
+fn say_at_most(alloc: Global, out: &mut Vec<u8>, most: u32) -> Said
     ensures { OnOk result (out.new.items ≡ out.old.items
         ++ (codes "with at most " ++ decimal most ++ codes " interrupts")) }
 {
-    let words = format!(in alloc; "with at most {most} interrupts")?;
-    say(out, words.as_str())
+    say_number(alloc, out, "with at most ", most as u128)?;
+    say(out, " interrupts")
 }
 
 /// Appends how many interrupts the runs had that were searched.
-fn say_interrupts(alloc: Global, out: &mut Vec<u8>, most: u32) -> Result<(), AllocError>
+fn say_interrupts(alloc: Global, out: &mut Vec<u8>, most: u32) -> Said
     ensures { OnOk result (out.new.items ≡ out.old.items ++ def.interrupt_words most) }
 {
     if most == 0 {
@@ -45,7 +44,7 @@ fn say_interrupts(alloc: Global, out: &mut Vec<u8>, most: u32) -> Result<(), All
 }
 
 /// Appends that the runs had no expiries, if none may come.
-fn say_expiries(out: &mut Vec<u8>, may_expire: bool) -> Result<(), AllocError>
+fn say_expiries(out: &mut Vec<u8>, may_expire: bool) -> Said
     ensures { OnOk result (out.new.items ≡ out.old.items ++ def.expiry_words may_expire) }
 {
     if may_expire {
@@ -55,7 +54,7 @@ fn say_expiries(out: &mut Vec<u8>, may_expire: bool) -> Result<(), AllocError>
 }
 
 /// `refused, but no run without interrupts faults`
-fn say_no_fault(alloc: Global, out: &mut Vec<u8>, setting: &Setting) -> Result<(), AllocError>
+fn say_no_fault(alloc: Global, out: &mut Vec<u8>, setting: &Setting) -> Said
     ensures { OnOk result (out.new.items ≡ out.old.items
         ++ def.no_fault_words setting.now.expiries setting.now.interrupts) }
 {
@@ -74,7 +73,7 @@ pub(crate) fn say_refused(
     is_refused: bool,
     whole: bool,
     found: &[Found],
-) -> Result<(), AllocError>
+) -> Said
     ensures { OnOk result (out.new.items ≡ out.old.items
         ++ def.refused_line setting.now is_refused whole found.now) }
 {
@@ -86,74 +85,50 @@ pub(crate) fn say_refused(
 }
 
 /// How many states were found, and whether these are all.
-pub(crate) fn say_states(
-    alloc: Global,
-    out: &mut Vec<u8>,
-    whole: bool,
-    states: usize,
-) -> Result<(), AllocError>
+pub(crate) fn say_states(alloc: Global, out: &mut Vec<u8>, whole: bool, states: usize) -> Said
     ensures { OnOk result (out.new.items ≡ out.old.items ++ def.states_line whole states) }
 {
     if whole {
-        let line = format!(in alloc; "{states} states, all schedules\n")?;
-        say(out, line.as_str())
+        say_number(alloc, out, "", states as u128)?;
+        say(out, " states, all schedules\n")
     } else {
-        let line = format!(in alloc; "stopped at {states} states, not all schedules\n")?;
-        say(out, line.as_str())
+        say_number(alloc, out, "stopped at ", states as u128)?;
+        say(out, " states, not all schedules\n")
     }
 }
 
 /// How many states a search by calls has, if it found no other end.
-pub(crate) fn say_by_calls(
-    alloc: Global,
-    out: &mut Vec<u8>,
-    by_calls: Option<usize>,
-) -> Result<(), AllocError>
+pub(crate) fn say_by_calls(alloc: Global, out: &mut Vec<u8>, by_calls: Option<usize>) -> Said
     ensures { OnOk result (out.new.items ≡ out.old.items ++ def.by_calls_line by_calls) }
 {
     let Some(states) = by_calls else {
         return Ok(());
     };
-    let line = format!(in alloc;
-        "a search by calls of {states} states found no other end; that there is none is not proved\n"
-    )?;
-    say(out, line.as_str())
+    say_number(alloc, out, "a search by calls of ", states as u128)?;
+    say(
+        out,
+        " states found no other end; that there is none is not proved\n",
+    )
 }
 
 /// How many schedules came to no end, if any.
-pub(crate) fn say_unfinished(
-    alloc: Global,
-    out: &mut Vec<u8>,
-    unfinished: u64,
-) -> Result<(), AllocError>
+pub(crate) fn say_unfinished(alloc: Global, out: &mut Vec<u8>, unfinished: u64) -> Said
     ensures { OnOk result (out.new.items ≡ out.old.items ++ def.unfinished_line unfinished) }
 {
     if unfinished == 0 {
         return Ok(());
     }
-    let line = format!(in alloc; "{unfinished} schedules were cut off\n")?;
-    say(out, line.as_str())
-}
-
-/// ` random schedules by seed S, not all schedules`
-fn say_seed(alloc: Global, out: &mut Vec<u8>, seed: u32) -> Result<(), AllocError>
-    ensures { OnOk result (out.new.items ≡ out.old.items ++ def.seed_words seed) }
-{
-    let line = format!(in alloc; " random schedules by seed {seed}, not all schedules\n")?;
-    say(out, line.as_str())
+    say_number(alloc, out, "", unfinished as u128)?;
+    say(out, " schedules were cut off\n")
 }
 
 /// How many schedules there were, and by which seed.
-pub(crate) fn say_schedules(
-    alloc: Global,
-    out: &mut Vec<u8>,
-    schedules: u32,
-    seed: u32,
-) -> Result<(), AllocError>
+pub(crate) fn say_schedules(alloc: Global, out: &mut Vec<u8>, schedules: u32, seed: u32) -> Said
     ensures { OnOk result (out.new.items ≡ out.old.items ++ def.schedules_line schedules seed) }
 {
-    say_count(alloc, out, schedules)?;
-    say_seed(alloc, out, seed)
+    say_number(alloc, out, "", schedules as u128)?;
+    say_number(alloc, out, " random schedules by seed ", seed as u128)?;
+    say(out, ", not all schedules\n")
 }
 
 /// The end of this number, the first one having number 1.
@@ -190,7 +165,7 @@ pub(crate) fn say_no_number<T>(
     out: &mut Vec<u8>,
     number: Option<u32>,
     found: &[T],
-) -> Result<(), AllocError>
+) -> Said
     ensures { OnOk result (out.new.items ≡ out.old.items ++ def.no_number_line number found.now) }
 {
     let Some(k) = number else {
@@ -199,6 +174,6 @@ pub(crate) fn say_no_number<T>(
     if is_number(found, k) {
         return Ok(());
     }
-    let line = format!(in alloc; "no end has number {k}\n")?;
-    say(out, line.as_str())
+    say_number(alloc, out, "no end has number ", k as u128)?;
+    say(out, "\n")
 }

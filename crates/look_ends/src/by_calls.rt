@@ -1,6 +1,6 @@
 //! The ends that a search by calls finds before a search over all schedules.
 
-ghost use Rattle.std.specs.Prelude.{◌≡◌, true, false, IfOk};
+ghost use Rattle.std.specs.Prelude.{◌≡◌, true, false, IfOk, OnOk};
 ghost use Rattle.ends_whole.specs.Whole.{AreAllOf, AreWhole};
 ghost use Rattle.ends_plain.specs.Listed.{AreEnds, IsEndOf};
 ghost use Rattle.ends_plain.specs.declared.config.Setting.{Setting};
@@ -95,8 +95,35 @@ fn has_time<P: Progress>(limits: Limits, progress: &mut P) -> bool {
     }
 }
 
-/// The ends that a search by calls finds. It begins again with more states until it has found them
-/// all, has no more room or no more time.
+/// Searches by calls again with more states, until the search has found all its ends, has no more
+/// room or no more time.
+fn try_again<P: Progress>(
+    alloc: Global,
+    setting: &Setting,
+    first: Room,
+    limits: Limits,
+    progress: &mut P,
+    calls: &mut EndsByCalls,
+) -> Result<(), AllocError>
+    requires sound { AreEnds setting.now calls.old.found.items }
+    requires complete { AreWhole calls.old.whole setting.now calls.old.found.items }
+    ensures sound { OnOk result (AreEnds setting.now calls.new.found.items) }
+    ensures complete { OnOk result (AreWhole calls.new.whole setting.now calls.new.found.items) }
+{
+    let most = most_of(limits) as usize;
+    let mut room = first;
+    for _ in 0..u64::MAX {
+        let is_cut_off = calls.states > room.states;
+        if !is_cut_off || room.states >= most || !has_time(limits, progress) {
+            break;
+        }
+        room.states = room.states.saturating_mul(MORE).min(most);
+        *calls = ends_by_calls(alloc, setting, room, most)?;
+    }
+    Ok(())
+}
+
+/// The ends that a search by calls finds. It may begin again with more states.
 fn tried<P: Progress>(
     alloc: Global,
     setting: &Setting,
@@ -108,19 +135,12 @@ fn tried<P: Progress>(
     ensures complete { IfOk result (λ r. AreWhole r.whole setting.now r.found.items) }
 {
     let most = most_of(limits) as usize;
-    let mut room = Room {
+    let room = Room {
         states: most.min(FIRST_TRY),
         longest,
     };
     let mut calls = ends_by_calls(alloc, setting, room, most)?;
-    for _ in 0..u64::MAX {
-        let is_cut_off = calls.states > room.states;
-        if !is_cut_off || room.states >= most || !has_time(limits, progress) {
-            break;
-        }
-        room.states = room.states.saturating_mul(MORE).min(most);
-        calls = ends_by_calls(alloc, setting, room, most)?;
-    }
+    try_again(alloc, setting, room, limits, progress, &mut calls)?;
     Ok(calls)
 }
 
@@ -175,40 +195,37 @@ fn is_listed(found: &[Found], end: PlainState) -> bool {
     found.iter().any(|one| one.end == end)
 }
 
-/// The ends with one more, unless it is there.
-fn with_end(found: Vec<Found>, one: Found) -> Result<Vec<Found>, AllocError>
-    ensures { (g : Setting) → AreEnds g found.items → IsEndOf g one
-        → IfOk result (λ all. AreEnds g all.items) }
+/// Adds an end to the others, unless it is there.
+fn add_end(found: &mut Vec<Found>, one: Found) -> Result<(), AllocError>
+    ensures { (g : Setting) → AreEnds g found.old.items → IsEndOf g one
+        → OnOk result (AreEnds g found.new.items) }
 {
     if is_listed(found.as_slice(), one.end) {
-        return Ok(found);
+        return Ok(());
     }
-    let mut found = found;
     found.push(one)?;
-    Ok(found)
+    Ok(())
 }
 
-/// The ends of two lists, those of the first one in front.
-fn merged(
+/// Adds the ends of a second list to those of a first one, and empties the second one.
+fn add_ends(
     setting: &Setting,
-    first: Vec<Found>,
-    second: Vec<Found>,
-) -> Result<Vec<Found>, AllocError>
-    requires first { AreEnds setting.now first.items }
-    requires second { AreEnds setting.now second.items }
-    ensures { IfOk result (λ all. AreEnds setting.now all.items) }
+    found: &mut Vec<Found>,
+    more: &mut Vec<Found>,
+) -> Result<(), AllocError>
+    requires first { AreEnds setting.now found.old.items }
+    requires second { AreEnds setting.now more.old.items }
+    ensures { OnOk result (AreEnds setting.now found.new.items) }
 {
     let _ = setting;
-    let mut found = first;
-    let mut rest = second;
-    rest.reverse();
-    for _ in 0..rest.len() {
-        let Some(one) = rest.pop() else {
+    more.reverse();
+    for _ in 0..more.len() {
+        let Some(one) = more.pop() else {
             break;
         };
-        found = with_end(found, one)?;
+        add_end(found, one)?;
     }
-    Ok(found)
+    Ok(())
 }
 
 /// The ends of a search by calls, and those of a search over all schedules that stopped.
@@ -219,10 +236,10 @@ fn joined(setting: &Setting, calls: EndsByCalls, ends: EndsFound) -> Result<Answ
     ensures part { IfOk result (λ a. a.whole ≡ false) }
 {
     let count = calls.found.len();
-    let (states, is_closed) = (calls.states, calls.is_closed);
-    let found = merged(setting, calls.found, ends.found)?;
-    let by_calls = if is_closed && found.len() == count {
-        Some(states)
+    let (mut found, mut more) = (calls.found, ends.found);
+    add_ends(setting, &mut found, &mut more)?;
+    let by_calls = if calls.is_closed && found.len() == count {
+        Some(calls.states)
     } else {
         None
     };

@@ -8,11 +8,10 @@ ghost use Rattle.look_ends.specs.Listing as def;
 use crate::below::found_at;
 use crate::by_calls::MOST_STATES;
 use crate::form::EndsForm;
-use crate::listing::{Listing, STATUS_PART};
+use crate::listing::{Listing, STATUS_PART, listing_of};
 use ends_plain::config::Setting;
 use look_calls::{CallEnd, CallsFound, call_ends, no_calls};
 use look_names::Names;
-use look_refusal::Explanation;
 use std::alloc::{AllocError, Global};
 use sts_model::Event;
 
@@ -71,14 +70,10 @@ fn shown<F: EndsForm>(
         setting.now.program is_refused number calls.now.found.items calls.now.states
         calls.now.is_cut_off) }
 {
-    let bytes = form.of_calls(alloc, names, &setting.program, is_refused, number, calls)?;
-    Ok(Listing {
-        output: Explanation {
-            bytes,
-            status: STATUS_PART,
-        },
-        trace: trace_of_call(alloc, number, calls.found.as_slice())?,
-    })
+    let program = &setting.program;
+    let bytes = form.of_calls(alloc, names, program, is_refused, number, calls);
+    let trace = trace_of_call(alloc, number, calls.found.as_slice());
+    listing_of(bytes, STATUS_PART, trace)
 }
 
 /// The listing of what each call of a program can come to.

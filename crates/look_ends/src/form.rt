@@ -1,9 +1,11 @@
 //! The forms in which the ends of a text are shown.
 
-ghost use Rattle.std.specs.Prelude.{◌≡◌, IfOk, Ok};
+ghost use Rattle.std.specs.Prelude.{◌≡◌, ◌++◌, IfOk, OnOk, Ok};
 ghost use Rattle.sts_asm.specs.Text.{judged};
 ghost use Rattle.look_refusal.specs.Stops.{Gives};
+ghost use Rattle.look_ends.specs.Calls.{calls_lines};
 ghost use Rattle.look_ends.specs.Form.{IsFaultIn};
+ghost use Rattle.look_ends.specs.Listing as def;
 
 use crate::below::{
     say_by_calls, say_no_number, say_refused, say_schedules, say_states, say_unfinished,
@@ -11,12 +13,13 @@ use crate::below::{
 use crate::by_calls::Answer;
 use crate::calls::{say_below, say_calls};
 use crate::lines::{say_all, say_shares};
-use crate::states::Told;
 use ends_plain::config::Setting;
 use ends_plain::sample::Sample;
 use look_calls::CallsFound;
 use look_names::Names;
 use look_refusal::{ExplainError, program_of};
+use look_run::Told;
+use look_text::Said;
 use std::alloc::{AllocError, Global};
 use sts_code::Program;
 
@@ -75,6 +78,69 @@ pub trait EndsForm {
             (IsFaultIn (shows self.now) text.now) };
 }
 
+/// Appends the lines of a search.
+fn say_search(
+    alloc: Global,
+    out: &mut Vec<u8>,
+    names: &Names<'_>,
+    setting: &Setting,
+    is_refused: bool,
+    number: Option<u32>,
+    ends: &Answer,
+) -> Said
+    ensures { OnOk result (out.new.items ≡ out.old.items
+        ++ def.search_lines names.now setting.now is_refused number ends.now.found.items
+        ends.now.states ends.now.whole ends.now.by_calls) }
+{
+    let program = &setting.program;
+    let found = ends.found.as_slice();
+    say_all(alloc, out, Told { program, names }, found)?;
+    say_refused(alloc, out, setting, is_refused, ends.whole, found)?;
+    say_by_calls(alloc, out, ends.by_calls)?;
+    say_states(alloc, out, ends.whole, ends.states)?;
+    say_no_number(alloc, out, number, found)
+}
+
+/// Appends the lines of random schedules.
+fn say_sample(
+    alloc: Global,
+    out: &mut Vec<u8>,
+    told: Told<'_, '_>,
+    schedules: u32,
+    seed: u32,
+    number: Option<u32>,
+    sample: &Sample,
+) -> Said
+    ensures { OnOk result (out.new.items ≡ out.old.items
+        ++ def.sample_lines told.entry.names.now told.entry.program.now schedules seed number
+        sample.now.found.items sample.now.times.items sample.now.unfinished) }
+{
+    let (found, times) = (sample.found.as_slice(), sample.times.as_slice());
+    say_shares(alloc, out, told, found, times, schedules)?;
+    say_unfinished(alloc, out, sample.unfinished)?;
+    say_schedules(alloc, out, schedules, seed)?;
+    say_no_number(alloc, out, number, found)
+}
+
+/// Appends the lines of the ends of calls.
+fn say_found_calls(
+    alloc: Global,
+    out: &mut Vec<u8>,
+    told: Told<'_, '_>,
+    is_refused: bool,
+    number: Option<u32>,
+    calls: &CallsFound,
+) -> Said
+    ensures { OnOk result (out.new.items ≡ out.old.items
+        ++ calls_lines told.entry.names.now told.entry.program.now is_refused number
+        calls.now.found.items calls.now.states calls.now.is_cut_off) }
+{
+    let found = calls.found.as_slice();
+    say_calls(alloc, out, told, found)?;
+    say_below(alloc, out, is_refused, calls.states, calls.is_cut_off)?;
+    say_no_number(alloc, out, number, found)
+}
+
 /// Lines for people.
 #[derive(Drop)]
 pub struct EndLines;
@@ -93,18 +159,9 @@ impl EndsForm for EndLines {
         number: Option<u32>,
         ends: &Answer,
     ) -> Result<Vec<u8>, AllocError> {
-        let told = Told {
-            program: &setting.program,
-            names,
-        };
-        let found = ends.found.as_slice();
-        let mut bytes = Vec::new(alloc);
-        say_all(alloc, &mut bytes, told, found)?;
-        say_refused(alloc, &mut bytes, setting, is_refused, ends.whole, found)?;
-        say_by_calls(alloc, &mut bytes, ends.by_calls)?;
-        say_states(alloc, &mut bytes, ends.whole, ends.states)?;
-        say_no_number(alloc, &mut bytes, number, found)?;
-        Ok(bytes)
+        let mut out = Vec::new(alloc);
+        say_search(alloc, &mut out, names, setting, is_refused, number, ends)?;
+        Ok(out)
     }
 
     fn of_sample(
@@ -117,15 +174,10 @@ impl EndsForm for EndLines {
         number: Option<u32>,
         sample: &Sample,
     ) -> Result<Vec<u8>, AllocError> {
+        let mut out = Vec::new(alloc);
         let told = Told { program, names };
-        let found = sample.found.as_slice();
-        let mut bytes = Vec::new(alloc);
-        let times = sample.times.as_slice();
-        say_shares(alloc, &mut bytes, told, found, times, schedules)?;
-        say_unfinished(alloc, &mut bytes, sample.unfinished)?;
-        say_schedules(alloc, &mut bytes, schedules, seed)?;
-        say_no_number(alloc, &mut bytes, number, found)?;
-        Ok(bytes)
+        say_sample(alloc, &mut out, told, schedules, seed, number, sample)?;
+        Ok(out)
     }
 
     fn of_calls(
@@ -137,19 +189,10 @@ impl EndsForm for EndLines {
         number: Option<u32>,
         calls: &CallsFound,
     ) -> Result<Vec<u8>, AllocError> {
+        let mut out = Vec::new(alloc);
         let told = Told { program, names };
-        let found = calls.found.as_slice();
-        let mut bytes = Vec::new(alloc);
-        say_calls(alloc, &mut bytes, told, found)?;
-        say_below(
-            alloc,
-            &mut bytes,
-            is_refused,
-            calls.states,
-            calls.is_cut_off,
-        )?;
-        say_no_number(alloc, &mut bytes, number, found)?;
-        Ok(bytes)
+        say_found_calls(alloc, &mut out, told, is_refused, number, calls)?;
+        Ok(out)
     }
 
     fn program_of(&self, alloc: Global, text: &[u8]) -> Result<Program, ExplainError> {

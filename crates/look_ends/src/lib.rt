@@ -10,7 +10,6 @@ mod form;
 mod lines;
 mod listing;
 mod progress;
-mod states;
 mod verdict;
 mod writing;
 

@@ -1,76 +1,59 @@
 //! The lines of ends.
 
-ghost use Rattle.std.specs.Prelude.{◌≡◌, ◌++◌, ◌+◌, ◌<◌, ◌^◌, OnOk};
-ghost use Rattle.std.specs.Fmt.{decimal};
+ghost use Rattle.std.specs.Prelude.{◌≡◌, ◌++◌, OnOk};
 ghost use Rattle.look_ends.specs.Lines as def;
 
-use crate::states::{Told, say_state};
 use ends_plain::config::Found;
-use look_text::say;
-use std::alloc::{AllocError, Global};
-
-/// Appends a number.
-pub(crate) fn say_number(alloc: Global, out: &mut Vec<u8>, n: u64) -> Result<(), AllocError>
-    ensures { OnOk result (out.new.items ≡ out.old.items ++ decimal n) }
-{
-    let digits = format!(in alloc; "{n}")?;
-    say(out, digits.as_str())
-}
-
-/// Appends a number of 32 bits.
-pub(crate) fn say_count(alloc: Global, out: &mut Vec<u8>, n: u32) -> Result<(), AllocError>
-    ensures { OnOk result (out.new.items ≡ out.old.items ++ decimal n) }
-{
-    let digits = format!(in alloc; "{n}")?;
-    say(out, digits.as_str())
-}
+use look_run::Told;
+use look_text::{Said, say, say_number};
+use std::alloc::Global;
 
 /// `K after N events`
-pub(crate) fn say_head(
-    alloc: Global,
-    out: &mut Vec<u8>,
-    place: usize,
-    events: usize,
-) -> Result<(), AllocError>
-    requires { place + 1 < 2 ^ 64 }
+pub(crate) fn say_head(alloc: Global, out: &mut Vec<u8>, place: usize, events: usize) -> Said
     ensures { OnOk result (out.new.items ≡ out.old.items ++ def.head_words place events) }
 {
-    say_number(alloc, out, place as u64 + 1)?;
-    say(out, " after ")?;
-    say_number(alloc, out, events as u64)?;
+    say_number(alloc, out, "", place as u128 + 1)?;
+    say_number(alloc, out, " after ", events as u128)?;
     say(out, " events")
 }
 
-/// The lines of the ends, numbered from 1: `K after N events: END`.
+/// `K after N events: END`
+pub(crate) fn say_found(
+    alloc: Global,
+    out: &mut Vec<u8>,
+    told: Told<'_, '_>,
+    place: usize,
+    one: &Found,
+) -> Said
+    ensures { OnOk result (out.new.items ≡ out.old.items
+        ++ def.found_line told.entry.names.now told.entry.program.now place one.now) }
+{
+    say_head(alloc, out, place, one.trace.len())?;
+    say(out, ": ")?;
+    told.say_state(alloc, out, one.end)
+}
+
+/// The lines of the ends, numbered from 1.
 ///
 /// # Errors
 ///
 /// Memory was refused; a part of them may then be in `out`.
-pub(crate) fn say_all(
-    alloc: Global,
-    out: &mut Vec<u8>,
-    told: Told<'_, '_>,
-    found: &[Found],
-) -> Result<(), AllocError>
+pub(crate) fn say_all(alloc: Global, out: &mut Vec<u8>, told: Told<'_, '_>, found: &[Found]) -> Said
     ensures { OnOk result (out.new.items ≡ out.old.items
         ++ def.found_lines told.entry.names.now told.entry.program.now found.now 0) }
 {
     for k in 0..found.len() {
-        say_head(alloc, out, k, found[k].trace.len())?;
-        say(out, ": ")?;
-        say_state(alloc, out, told, found[k].end)?;
+        say_found(alloc, out, told, k, &found[k])?;
     }
     Ok(())
 }
 
 /// `, in T of S schedules: `
-fn say_share(alloc: Global, out: &mut Vec<u8>, times: u64, schedules: u32) -> Result<(), AllocError>
+fn say_share(alloc: Global, out: &mut Vec<u8>, times: u64, schedules: u32) -> Said
     ensures { OnOk result (out.new.items ≡ out.old.items ++ def.share_words times schedules) }
 {
-    say(out, ", in ")?;
-    say_number(alloc, out, times)?;
-    say(out, " of ")?;
-    say_count(alloc, out, schedules)?;
+    say_number(alloc, out, ", in ", times as u128)?;
+    say_number(alloc, out, " of ", schedules as u128)?;
     say(out, " schedules: ")
 }
 
@@ -83,15 +66,14 @@ fn say_sampled(
     one: &Found,
     times: u64,
     schedules: u32,
-) -> Result<(), AllocError>
-    requires { place + 1 < 2 ^ 64 }
+) -> Said
     ensures { OnOk result (out.new.items ≡ out.old.items
         ++ def.sampled_line told.entry.names.now told.entry.program.now place one.now times
         schedules) }
 {
     say_head(alloc, out, place, one.trace.len())?;
     say_share(alloc, out, times, schedules)?;
-    say_state(alloc, out, told, one.end)
+    told.say_state(alloc, out, one.end)
 }
 
 /// How often the end at a place came.
@@ -116,7 +98,7 @@ pub(crate) fn say_shares(
     found: &[Found],
     times: &[u64],
     schedules: u32,
-) -> Result<(), AllocError>
+) -> Said
     ensures { OnOk result (out.new.items ≡ out.old.items
         ++ def.sampled_lines told.entry.names.now told.entry.program.now found.now times.now
         schedules 0) }

@@ -1,21 +1,24 @@
 //! What is printed of the ends of a text.
 
-ghost use Rattle.std.specs.Prelude.{◌≡◌, false, IfOk, option_map};
+ghost use Rattle.std.specs.Prelude.{◌≡◌, ℕ, List, true, false, IfOk, option_map};
+ghost use Rattle.ends_plain.specs.Listed.{AreEnds};
+ghost use Rattle.ends_whole.specs.Whole.{AreAllOf};
 ghost use Rattle.laws_runs.specs.Runs.{NeverFaults};
 ghost use Rattle.sts_asm.specs.Text.{judged};
-ghost use Rattle.look_refusal.specs.Stops.{Gives};
+ghost use Rattle.sts_model.specs.declared.event.Event.{Event as AnyEvent};
 ghost use Rattle.look_ends.specs.Listing as def;
 
 use crate::below::{found_at, has_number};
 use crate::by_calls::{Answer, answered, by_calls, room_after};
 use crate::calling::of_calls;
-use crate::exploring::{explored, report};
+use crate::exploring::explored;
 use crate::form::{EndLines, EndsForm};
 use crate::progress::Progress;
-use crate::states::Told;
 use crate::verdict::{Judged, verdict};
 use ends_plain::config::{Found, Setting};
+use ends_plain::exploration::Exploration;
 use ends_plain::sample::{Sample, Sampling, sample_ends};
+use ends_whole::EndsByCalls;
 use look_names::Names;
 use look_options::{EndsOptions, Limits, Manner};
 use look_refusal::{ExplainError, Explanation};
@@ -65,6 +68,35 @@ fn trace_of(alloc: Global, number: Option<u32>, found: &[Found]) -> Result<Vec<E
     }
 }
 
+/// These bytes, this status and this trace, if there was memory for them.
+pub(crate) fn listing_of(
+    bytes: Result<Vec<u8>, AllocError>,
+    status: u8,
+    trace: Result<Vec<Event>, AllocError>,
+) -> Result<Listing, AllocError>
+    ensures { (b : List ℕ) → (es : List AnyEvent) → IfOk bytes (λ v. v.items ≡ b)
+        → IfOk trace (λ v. v.items ≡ es) → IfOk result (λ l. l ≡ def.listing_of b status es) }
+{
+    Ok(Listing {
+        output: Explanation {
+            bytes: bytes?,
+            status,
+        },
+        trace: trace?,
+    })
+}
+
+/// The status of a search.
+fn status_of(number: Option<u32>, ends: &Answer) -> u8
+    ensures { result ≡ def.status_of ends.now.whole number ends.now.found.items }
+{
+    if ends.whole && has_number(number, ends.found.as_slice()) {
+        0
+    } else {
+        STATUS_PART
+    }
+}
+
 /// What is shown of a search.
 fn searched<F: EndsForm>(
     alloc: Global,
@@ -79,49 +111,50 @@ fn searched<F: EndsForm>(
         is_refused number ends.now.found.items ends.now.states ends.now.whole
         ends.now.by_calls) }
 {
-    let bytes = form.of_search(alloc, names, setting, is_refused, number, ends)?;
-    let found = ends.found.as_slice();
-    let status = if ends.whole && has_number(number, found) {
-        0
-    } else {
-        STATUS_PART
-    };
-    Ok(Listing {
-        output: Explanation { bytes, status },
-        trace: trace_of(alloc, number, found)?,
-    })
+    let bytes = form.of_search(alloc, names, setting, is_refused, number, ends);
+    let trace = trace_of(alloc, number, ends.found.as_slice());
+    listing_of(bytes, status_of(number, ends), trace)
 }
 
 /// What is shown of random schedules.
 fn sampled<F: EndsForm>(
     alloc: Global,
     form: &F,
-    told: Told<'_, '_>,
+    names: &Names<'_>,
+    program: &Program,
     schedules: u32,
     seed: u32,
     number: Option<u32>,
     sample: &Sample,
 ) -> Result<Listing, AllocError>
-    ensures { IfOk result (λ l. l ≡ def.sampled_listing (F.shows form.now) told.entry.names.now
-        told.entry.program.now schedules seed number sample.now.found.items sample.now.times.items
+    ensures { IfOk result (λ l. l ≡ def.sampled_listing (F.shows form.now) names.now program.now
+        schedules seed number sample.now.found.items sample.now.times.items
         sample.now.unfinished) }
 {
-    let bytes = form.of_sample(
-        alloc,
-        told.names,
-        told.program,
-        schedules,
-        seed,
-        number,
-        sample,
-    )?;
-    Ok(Listing {
-        output: Explanation {
-            bytes,
-            status: STATUS_PART,
-        },
-        trace: trace_of(alloc, number, sample.found.as_slice())?,
-    })
+    let bytes = form.of_sample(alloc, names, program, schedules, seed, number, sample);
+    let trace = trace_of(alloc, number, sample.found.as_slice());
+    listing_of(bytes, STATUS_PART, trace)
+}
+
+/// What is shown of the ends of a search by calls, and of those of a search over all schedules.
+fn of_both<F: EndsForm>(
+    alloc: Global,
+    form: &F,
+    names: &Names<'_>,
+    calls: EndsByCalls,
+    exploration: &Exploration,
+    is_refused: bool,
+    number: Option<u32>,
+) -> Result<Listing, AllocError>
+    requires verdict { def.IsVerdict exploration.now.program is_refused }
+    requires calls { AreEnds exploration.now calls.found.items }
+    requires called { calls.whole ≡ true → AreAllOf exploration.now calls.found.items }
+    ensures { IfOk result (def.IsSearch (F.shows form.now) names.now exploration.now number) }
+{
+    let ends = exploration.ends(alloc)?;
+    let setting = exploration.setting();
+    let all = answered(setting, calls, ends)?;
+    searched(alloc, form, names, setting, is_refused, number, &all)
 }
 
 /// The listing of all ends of a program. Each is reported when it is found.
@@ -140,26 +173,10 @@ fn of_all<F: EndsForm, P: Progress>(
     ensures { IfOk result (def.IsSearch (F.shows form.now) names.now setting number) }
 {
     let calls = by_calls(alloc, &setting, is_refused, limits, progress)?;
-    let told = Told {
-        program: &setting.program,
-        names,
-    };
-    let mut reported = Vec::new(alloc);
-    report(alloc, told, calls.found.as_slice(), &mut reported, progress)?;
     let room = room_after(limits, is_refused, &calls);
-    let exploration = explored(
-        alloc,
-        names,
-        setting,
-        room,
-        limits.seconds,
-        reported,
-        progress,
-    )?;
-    let ends = exploration.ends(alloc)?;
-    let asked = exploration.setting();
-    let all = answered(asked, calls, ends)?;
-    searched(alloc, form, names, asked, is_refused, number, &all)
+    let known = calls.found.as_slice();
+    let exploration = explored(alloc, names, setting, room, limits.seconds, known, progress)?;
+    of_both(alloc, form, names, calls, &exploration, is_refused, number)
 }
 
 /// The listing of the ends of random schedules of a program.
@@ -181,11 +198,10 @@ fn of_sample<F: EndsForm>(
         longest: LONGEST,
     };
     let sample = sample_ends(alloc, setting, sampling)?;
-    let told = Told {
-        program: &setting.program,
-        names,
-    };
-    sampled(alloc, form, told, schedules, seed, number, &sample)
+    let program = &setting.program;
+    sampled(
+        alloc, form, names, program, schedules, seed, number, &sample,
+    )
 }
 
 /// The listing of a program, whose text has these names.
@@ -233,24 +249,21 @@ fn alone(alloc: Global, output: Explanation) -> Listing
     }
 }
 
-/// The listing of a text, unless the text has a fault.
+/// The listing of the program of a text.
 fn of_text<F: EndsForm, P: Progress>(
     alloc: Global,
     form: &F,
+    program: Program,
     wanted: EndsOptions,
     number: Option<u32>,
     text: &[u8],
     progress: &mut P,
-) -> Result<Listing, ExplainError>
-    ensures { Gives result
-        (λ l. def.ListsIn (F.shows form.now) (judged text.now) text.now wanted number l)
-        (λ o. def.ListsIn (F.shows form.now) (judged text.now) text.now wanted number
-        (def.alone o)) }
+) -> Result<Listing, AllocError>
+    ensures { IfOk result (def.ListsBy (F.shows form.now) wanted.manner text.now
+        (def.setting program wanted) number) }
 {
-    let program = form.program_of(alloc, text)?;
     let names = Names::read(alloc, text)?;
-    let listing = of_program(alloc, form, &names, program, wanted, number, progress)?;
-    Ok(listing)
+    of_program(alloc, form, &names, program, wanted, number, progress)
 }
 
 /// Finds the ends of a text, and returns what is shown of them in a form. With a `number`, it keeps
@@ -270,8 +283,8 @@ pub fn listed_in<F: EndsForm, P: Progress>(
     ensures { IfOk result
         (def.ListsIn (F.shows form.now) (judged text.now) text.now wanted number) }
 {
-    match of_text(alloc, form, wanted, number, text, progress) {
-        Ok(listing) => Ok(listing),
+    match form.program_of(alloc, text) {
+        Ok(program) => of_text(alloc, form, program, wanted, number, text, progress),
         Err(ExplainError::Shown(output)) => Ok(alone(alloc, output)),
         Err(ExplainError::Memory) => Err(AllocError),
     }

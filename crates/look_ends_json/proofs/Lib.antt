@@ -1,2 +1,3 @@
 mod CallFloats
 mod EndFloats
+mod Lines

@@ -1,14 +1,12 @@
 -- The ends of calls as lines of JSON (this project's own; docs/IMPLEMENTERS.md has the schema).
-use Rattle.std.specs.Prelude.{ℕ, ◌+◌, List, [], ◌∷◌, ◌++◌, Bool, false, if◌then◌else◌, length}
-use Rattle.std.specs.Prelude.{Option, None, codes}
+use Rattle.std.specs.Prelude.{ℕ, ◌+◌, List, [], ◌∷◌, ◌++◌, Bool, false, length, Option, codes}
 use Rattle.serde_json.specs.Data.{Data, array, boolean, string}
 use Rattle.serde_json.specs.View.{items_of}
 use Rattle.sts_code.specs.Program.{Program, routine}
 use Rattle.look_calls.specs.declared.found.CallEnd.{CallEnd}
 use Rattle.look_cases.specs.Answer.{version}
 use Rattle.look_cases.specs.Json.{count, count_or_null, object_of}
-use Rattle.look_ends.specs.Lines.{has_number}
-use Rattle.look_ends_json.specs.Outcome.{ended}
+use Rattle.look_ends_json.specs.Outcome.{ended, missing}
 use Rattle.look_names.specs.Names.{function_name}
 use Rattle.look_views.specs.Named.{named}
 use Rattle.look_views.specs.Task.{integers}
@@ -36,10 +34,6 @@ call_lines text p [] place = []
 call_lines text p (c ∷ cs) place =
     line (call_end text p place c) ++ call_lines text p cs (place + 1)
 
--- the number that is asked for, if no end has it
-abbrev pub missing_call : Option ℕ → List CallEnd → Option ℕ
-missing_call number found = if has_number number found then None else number
-
 -- the last line
 abbrev pub calls : Bool → ℕ → Bool → Option ℕ → Data
 calls is_refused states is_cut_off no_end = object_of (
@@ -53,4 +47,4 @@ calls is_refused states is_cut_off no_end = object_of (
 abbrev pub calls_lines : List ℕ → Program → Bool → Option ℕ → List CallEnd → ℕ → Bool → List ℕ
 calls_lines text p is_refused number found states is_cut_off =
     call_lines text p found 0
-    ++ line (calls is_refused states is_cut_off (missing_call number found))
+    ++ line (calls is_refused states is_cut_off (missing number found))

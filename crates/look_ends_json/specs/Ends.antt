@@ -1,6 +1,5 @@
 -- The ends of a text as lines of JSON (this project's own; docs/IMPLEMENTERS.md has the schema).
-use Rattle.std.specs.Prelude.{ℕ, ◌+◌, List, [], ◌∷◌, ◌++◌, Bool, false, if◌then◌else◌, length}
-use Rattle.std.specs.Prelude.{Option, Some, None, codes}
+use Rattle.std.specs.Prelude.{ℕ, ◌+◌, List, [], ◌∷◌, ◌++◌, Bool, false, length, Option, codes}
 use Rattle.serde_json.specs.Data.{Data, boolean, string}
 use Rattle.sts_code.specs.Program.{Program, routine}
 use Rattle.sts_model.specs.declared.event.Fault.{Fault}
@@ -14,9 +13,9 @@ use Rattle.look_cases.specs.Json.{count, count_or_null, object_of}
 use Rattle.look_views.specs.Named.{line_at, placed}
 use Rattle.look_views.specs.Views.{faulty, line, text_line}
 use Rattle.look_ends.specs.Form.{EndsForm}
-use Rattle.look_ends.specs.Lines.{has_number, times_at}
+use Rattle.look_ends.specs.Lines.{times_at}
 use Rattle.look_ends_json.specs.Calls.{calls_lines}
-use Rattle.look_ends_json.specs.Outcome.{ended}
+use Rattle.look_ends_json.specs.Outcome.{ended, missing}
 
 -- ---- how a run ended
 
@@ -67,10 +66,6 @@ sampled_lines text p (f ∷ fs) times place =
     ++ sampled_lines text p fs times (place + 1)
 
 -- ---- the last line
-
--- the number that is asked for, if no end has it
-abbrev pub missing : Option ℕ → List Found → Option ℕ
-missing number found = if has_number number found then None else number
 
 abbrev pub search : Bool → ℕ → Bool → Option ℕ → Option ℕ → Data
 search is_refused states whole by_calls no_end = object_of (

@@ -5,13 +5,14 @@ ghost use Rattle.std.specs.String.{string_bytes};
 ghost use Rattle.serde_json.specs.View.{view};
 ghost use Rattle.look_views.specs.Views.{line};
 ghost use Rattle.look_ends_json.specs.Calls as def;
+ghost use Rattle.look_ends_json.specs.Outcome.{missing};
 
-use crate::outcome::{ended, number_or_null};
+use crate::outcome::{ended, missing, push_made};
 use look_calls::{CallEnd, CallsFound};
-use look_ends::has_number;
+use look_cases::{Scalar, object_of, widened, with_list, with_member};
 use look_names::Names;
-use look_views::{VERSION, integers, push_line, with_name};
-use serde_json::{Value, json};
+use look_views::{VERSION, integers, with_name};
+use serde_json::Value;
 use std::alloc::{AllocError, Global};
 use sts_code::{Program, name_of};
 
@@ -26,17 +27,19 @@ fn call(
     requires { place + 1 < 2 ^ 64 }
     ensures { IfOk result (λ v. view v ≡ def.call names.now program.now place call.now) }
 {
-    let arguments = integers(alloc, call.arguments.as_slice())?;
-    let task = ended(alloc, names, call.end)?;
-    json!(in alloc; {
-        "after": call.trace.len(),
-        "arguments": arguments,
-        "end": place + 1,
-        "function": name_of(program, call.function),
-        "heard": call.is_heard,
-        "task": task,
-        "version": VERSION
-    })
+    let value = object_of(
+        alloc,
+        &[
+            ("after", Scalar::Count(call.trace.len() as u64)),
+            ("end", Scalar::Count((place + 1) as u64)),
+            ("function", Scalar::Text(name_of(program, call.function))),
+            ("heard", Scalar::Flag(call.is_heard)),
+            ("version", Scalar::Count(VERSION)),
+        ],
+    );
+    let arguments = integers(alloc, call.arguments.as_slice());
+    let value = with_list(alloc, value, "arguments", arguments);
+    with_member(alloc, value, "task", ended(alloc, names, call.end))
 }
 
 fn call_end(
@@ -65,12 +68,11 @@ fn say_call_end(
     ensures { OnOk result (string_bytes out.new ≡ string_bytes out.old
         ++ line (def.call_end names.now program.now place one.now)) }
 {
-    let end = call_end(alloc, names, program, place, one)?;
-    push_line(alloc, out, &end)
+    push_made(alloc, out, call_end(alloc, names, program, place, one))
 }
 
 /// Appends the lines of these ends.
-pub(crate) fn say_call_ends(
+fn say_call_ends(
     alloc: Global,
     out: &mut String,
     names: &Names<'_>,
@@ -86,17 +88,6 @@ pub(crate) fn say_call_ends(
     Ok(())
 }
 
-/// The number that is asked for, if no end has it.
-fn missing_call(number: Option<u32>, found: &[CallEnd]) -> Option<u32>
-    ensures { result ≡ def.missing_call number found.now }
-{
-    if has_number(number, found) {
-        None
-    } else {
-        number
-    }
-}
-
 fn calls(
     alloc: Global,
     is_refused: bool,
@@ -104,31 +95,36 @@ fn calls(
     calls: &CallsFound,
 ) -> Result<Value, AllocError>
     ensures { IfOk result (λ v. view v ≡ def.calls is_refused calls.now.states
-        calls.now.is_cut_off (def.missing_call number calls.now.found.items)) }
+        calls.now.is_cut_off (missing number calls.now.found.items)) }
 {
-    let no_end = number_or_null(missing_call(number, calls.found.as_slice()));
-    json!(in alloc; {
-        "all_ends": false,
-        "no_end": no_end,
-        "refused": is_refused,
-        "states": calls.states,
-        "stopped": calls.is_cut_off,
-        "version": VERSION
-    })
+    let no_end = missing(number, calls.found.as_slice());
+    object_of(
+        alloc,
+        &[
+            ("all_ends", Scalar::Flag(false)),
+            ("no_end", Scalar::MaybeCount(widened(no_end))),
+            ("refused", Scalar::Flag(is_refused)),
+            ("states", Scalar::Count(calls.states as u64)),
+            ("stopped", Scalar::Flag(calls.is_cut_off)),
+            ("version", Scalar::Count(VERSION)),
+        ],
+    )
 }
 
-/// Appends the last line.
+/// Appends the lines of the ends of calls.
 pub(crate) fn say_calls(
     alloc: Global,
     out: &mut String,
+    names: &Names<'_>,
+    program: &Program,
     is_refused: bool,
     number: Option<u32>,
     found: &CallsFound,
 ) -> Result<(), AllocError>
     ensures { OnOk result (string_bytes out.new ≡ string_bytes out.old
-        ++ line (def.calls is_refused found.now.states found.now.is_cut_off
-        (def.missing_call number found.now.found.items))) }
+        ++ def.calls_lines names.now program.now is_refused number found.now.found.items
+        found.now.states found.now.is_cut_off) }
 {
-    let last = calls(alloc, is_refused, number, found)?;
-    push_line(alloc, out, &last)
+    say_call_ends(alloc, out, names, program, found.found.as_slice())?;
+    push_made(alloc, out, calls(alloc, is_refused, number, found))
 }

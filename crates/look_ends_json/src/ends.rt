@@ -6,20 +6,21 @@ ghost use Rattle.serde_json.specs.View.{view};
 ghost use Rattle.sts_code.specs.Program.{Program as AnyProgram};
 ghost use Rattle.sts_asm.specs.Fault.{FailsAt};
 ghost use Rattle.sts_asm.specs.declared.fault.AsmError.{AsmError};
-ghost use Rattle.look_cases.specs.Json as value;
 ghost use Rattle.look_views.specs.Views.{faulty, line, text_line};
 ghost use Rattle.look_ends_json.specs.Ends as def;
+ghost use Rattle.look_ends_json.specs.Outcome.{missing};
 
-use crate::calls::{say_call_ends, say_calls};
-use crate::outcome::{ended, number_or_null};
+use crate::calls::say_calls;
+use crate::outcome::{ended, missing, push_made};
 use ends_plain::config::{Found, Setting};
 use ends_plain::sample::Sample;
 use look_calls::CallsFound;
-use look_ends::{Answer, EndsForm, has_number, times_at};
+use look_cases::{Scalar, object_of, widened, with_member};
+use look_ends::{Answer, EndsForm, times_at};
 use look_names::Names;
 use look_refusal::{ExplainError, Explanation};
-use look_views::{VERSION, faulty_text, line_at, placed, push_line};
-use serde_json::{Value, json};
+use look_views::{VERSION, faulty_text, line_at, placed};
+use serde_json::Value;
 use std::alloc::{AllocError, Global};
 use sts_asm::{AsmError, assemble};
 use sts_code::{Program, name_of};
@@ -27,13 +28,13 @@ use sts_model::Fault;
 use sts_output::printed::fault_word;
 use sts_plain::PlainState;
 
-/// A count that there may be, or null.
-fn count_or_null(number: Option<usize>) -> Value
-    ensures { view result ≡ value.count_or_null number }
+/// The same count, if there is one.
+fn count_of(number: Option<usize>) -> Option<u64>
+    ensures { result ≡ number }
 {
     match number {
-        Some(number) => Value::from(number),
-        None => Value::Null,
+        Some(number) => Some(number as u64),
+        None => None,
     }
 }
 
@@ -49,15 +50,18 @@ fn faulted(
     ensures { IfOk result (λ v. view v
         ≡ def.faulted names.now program.now kind task function pc) }
 {
-    let line = number_or_null(line_at(names, function, pc));
-    json!(in alloc; {
-        "fault": fault_word(kind),
-        "function": name_of(program, function),
-        "line": line,
-        "outcome": "fault",
-        "place": pc,
-        "task": task
-    })
+    let line = line_at(names, function, pc);
+    object_of(
+        alloc,
+        &[
+            ("fault", Scalar::Text(fault_word(kind))),
+            ("function", Scalar::Text(name_of(program, function))),
+            ("line", Scalar::MaybeCount(widened(line))),
+            ("outcome", Scalar::Text("fault")),
+            ("place", Scalar::Count(pc as u64)),
+            ("task", Scalar::Count(task as u64)),
+        ],
+    )
 }
 
 /// The state of a run at its end; a fault with the names of its function and its line.
@@ -70,7 +74,7 @@ fn run(
     ensures { IfOk result (λ v. view v ≡ def.run names.now program.now state) }
 {
     match state {
-        PlainState::Running => json!(in alloc; {"outcome": "running"}),
+        PlainState::Running => object_of(alloc, &[("outcome", Scalar::Text("running"))]),
         PlainState::Ended(end) => ended(alloc, names, end),
         PlainState::Fault {
             kind,
@@ -94,13 +98,15 @@ fn found_end(
     requires { place + 1 < 2 ^ 64 }
     ensures { IfOk result (λ v. view v ≡ def.found_end names.now program.now place found.now) }
 {
-    let run = run(alloc, names, program, found.end)?;
-    json!(in alloc; {
-        "after": found.trace.len(),
-        "end": place + 1,
-        "run": run,
-        "version": VERSION
-    })
+    let value = object_of(
+        alloc,
+        &[
+            ("after", Scalar::Count(found.trace.len() as u64)),
+            ("end", Scalar::Count((place + 1) as u64)),
+            ("version", Scalar::Count(VERSION)),
+        ],
+    );
+    with_member(alloc, value, "run", run(alloc, names, program, found.end))
 }
 
 fn say_found_end(
@@ -115,8 +121,7 @@ fn say_found_end(
     ensures { OnOk result (string_bytes out.new ≡ string_bytes out.old
         ++ line (def.found_end names.now program.now place found.now)) }
 {
-    let end = found_end(alloc, names, program, place, found)?;
-    push_line(alloc, out, &end)
+    push_made(alloc, out, found_end(alloc, names, program, place, found))
 }
 
 /// Appends the lines of these ends.
@@ -148,14 +153,16 @@ fn sampled_end(
     ensures { IfOk result (λ v. view v
         ≡ def.sampled_end names.now program.now place found.now times) }
 {
-    let run = run(alloc, names, program, found.end)?;
-    json!(in alloc; {
-        "after": found.trace.len(),
-        "end": place + 1,
-        "run": run,
-        "times": times,
-        "version": VERSION
-    })
+    let value = object_of(
+        alloc,
+        &[
+            ("after", Scalar::Count(found.trace.len() as u64)),
+            ("end", Scalar::Count((place + 1) as u64)),
+            ("times", Scalar::Count(times)),
+            ("version", Scalar::Count(VERSION)),
+        ],
+    );
+    with_member(alloc, value, "run", run(alloc, names, program, found.end))
 }
 
 fn say_sampled_end(
@@ -171,8 +178,8 @@ fn say_sampled_end(
     ensures { OnOk result (string_bytes out.new ≡ string_bytes out.old
         ++ line (def.sampled_end names.now program.now place found.now times)) }
 {
-    let end = sampled_end(alloc, names, program, place, found, times)?;
-    push_line(alloc, out, &end)
+    let end = sampled_end(alloc, names, program, place, found, times);
+    push_made(alloc, out, end)
 }
 
 /// Appends the lines of these ends, with how often each came.
@@ -193,17 +200,6 @@ fn say_sampled(
     Ok(())
 }
 
-/// The number that is asked for, if no end has it.
-fn missing(number: Option<u32>, found: &[Found]) -> Option<u32>
-    ensures { result ≡ def.missing number found.now }
-{
-    if has_number(number, found) {
-        None
-    } else {
-        number
-    }
-}
-
 fn search(
     alloc: Global,
     is_refused: bool,
@@ -211,17 +207,20 @@ fn search(
     ends: &Answer,
 ) -> Result<Value, AllocError>
     ensures { IfOk result (λ v. view v ≡ def.search is_refused ends.now.states ends.now.whole
-        ends.now.by_calls (def.missing number ends.now.found.items)) }
+        ends.now.by_calls (missing number ends.now.found.items)) }
 {
-    let no_end = number_or_null(missing(number, ends.found.as_slice()));
-    json!(in alloc; {
-        "all_schedules": ends.whole,
-        "by_calls": count_or_null(ends.by_calls),
-        "no_end": no_end,
-        "refused": is_refused,
-        "states": ends.states,
-        "version": VERSION
-    })
+    let no_end = missing(number, ends.found.as_slice());
+    object_of(
+        alloc,
+        &[
+            ("all_schedules", Scalar::Flag(ends.whole)),
+            ("by_calls", Scalar::MaybeCount(count_of(ends.by_calls))),
+            ("no_end", Scalar::MaybeCount(widened(no_end))),
+            ("refused", Scalar::Flag(is_refused)),
+            ("states", Scalar::Count(ends.states as u64)),
+            ("version", Scalar::Count(VERSION)),
+        ],
+    )
 }
 
 fn sample(
@@ -232,50 +231,58 @@ fn sample(
     found: &Sample,
 ) -> Result<Value, AllocError>
     ensures { IfOk result (λ v. view v ≡ def.sample schedules seed found.now.unfinished
-        (def.missing number found.now.found.items)) }
+        (missing number found.now.found.items)) }
 {
-    let no_end = number_or_null(missing(number, found.found.as_slice()));
-    json!(in alloc; {
-        "all_schedules": false,
-        "cut_off": found.unfinished,
-        "no_end": no_end,
-        "schedules": schedules,
-        "seed": seed,
-        "version": VERSION
-    })
+    let no_end = missing(number, found.found.as_slice());
+    object_of(
+        alloc,
+        &[
+            ("all_schedules", Scalar::Flag(false)),
+            ("cut_off", Scalar::Count(found.unfinished)),
+            ("no_end", Scalar::MaybeCount(widened(no_end))),
+            ("schedules", Scalar::Count(schedules as u64)),
+            ("seed", Scalar::Count(seed as u64)),
+            ("version", Scalar::Count(VERSION)),
+        ],
+    )
 }
 
-/// Appends the last line of a search.
+/// Appends the lines of a search.
 fn say_search(
     alloc: Global,
     out: &mut String,
+    names: &Names<'_>,
+    setting: &Setting,
     is_refused: bool,
     number: Option<u32>,
     ends: &Answer,
 ) -> Result<(), AllocError>
     ensures { OnOk result (string_bytes out.new ≡ string_bytes out.old
-        ++ line (def.search is_refused ends.now.states ends.now.whole ends.now.by_calls
-        (def.missing number ends.now.found.items))) }
+        ++ def.search_lines names.now setting.now is_refused number ends.now.found.items
+        ends.now.states ends.now.whole ends.now.by_calls) }
 {
-    let last = search(alloc, is_refused, number, ends)?;
-    push_line(alloc, out, &last)
+    say_found(alloc, out, names, &setting.program, ends.found.as_slice())?;
+    push_made(alloc, out, search(alloc, is_refused, number, ends))
 }
 
-/// Appends the last line of random schedules.
+/// Appends the lines of random schedules.
 fn say_sample(
     alloc: Global,
     out: &mut String,
+    names: &Names<'_>,
+    program: &Program,
     schedules: u32,
     seed: u32,
     number: Option<u32>,
     found: &Sample,
 ) -> Result<(), AllocError>
     ensures { OnOk result (string_bytes out.new ≡ string_bytes out.old
-        ++ line (def.sample schedules seed found.now.unfinished
-        (def.missing number found.now.found.items))) }
+        ++ def.sample_lines names.now program.now schedules seed number found.now.found.items
+        found.now.times.items found.now.unfinished) }
 {
-    let last = sample(alloc, schedules, seed, number, found)?;
-    push_line(alloc, out, &last)
+    let times = found.times.as_slice();
+    say_sampled(alloc, out, names, program, found.found.as_slice(), times)?;
+    push_made(alloc, out, sample(alloc, schedules, seed, number, found))
 }
 
 /// The line of a fault of a text. Running out of memory is no fault of it.
@@ -309,9 +316,7 @@ impl EndsForm for JsonEnds {
         ends: &Answer,
     ) -> Result<Vec<u8>, AllocError> {
         let mut out = String::new(alloc);
-        let found = ends.found.as_slice();
-        say_found(alloc, &mut out, names, &setting.program, found)?;
-        say_search(alloc, &mut out, is_refused, number, ends)?;
+        say_search(alloc, &mut out, names, setting, is_refused, number, ends)?;
         Ok(out.into_bytes())
     }
 
@@ -326,9 +331,9 @@ impl EndsForm for JsonEnds {
         sample: &Sample,
     ) -> Result<Vec<u8>, AllocError> {
         let mut out = String::new(alloc);
-        let (found, times) = (sample.found.as_slice(), sample.times.as_slice());
-        say_sampled(alloc, &mut out, names, program, found, times)?;
-        say_sample(alloc, &mut out, schedules, seed, number, sample)?;
+        say_sample(
+            alloc, &mut out, names, program, schedules, seed, number, sample,
+        )?;
         Ok(out.into_bytes())
     }
 
@@ -342,8 +347,7 @@ impl EndsForm for JsonEnds {
         calls: &CallsFound,
     ) -> Result<Vec<u8>, AllocError> {
         let mut out = String::new(alloc);
-        say_call_ends(alloc, &mut out, names, program, calls.found.as_slice())?;
-        say_calls(alloc, &mut out, is_refused, number, calls)?;
+        say_calls(alloc, &mut out, names, program, is_refused, number, calls)?;
         Ok(out.into_bytes())
     }
 

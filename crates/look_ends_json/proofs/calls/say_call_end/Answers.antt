@@ -1,6 +1,5 @@
 use Rattle.look_ends_json.proofs.CallFloats.{call_end_plain}
-use Rattle.look_views.proofs.LineLemmas.{line_written}
 use Rattle.look_ends_json.proofs.calls.say_call_end.Goals as goal
 
 pub returns : goal.returns
-returns c = line_written c.push_line.result _ _ _ _ c.in_ok-end.ensures (call_end_plain c.args.names.now c.args.program.now c.args.place c.args.one.now) c.push_line.ensures
+returns c = c.push_made.ensures _ c.call_end.ensures (call_end_plain c.args.names.now c.args.program.now c.args.place c.args.one.now)

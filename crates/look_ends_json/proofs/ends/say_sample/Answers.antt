@@ -1,9 +1,11 @@
-use Rattle.look_ends_json.specs.Ends.{missing}
 use Rattle.look_ends_json.proofs.EndFloats.{sample_plain}
-use Rattle.look_views.proofs.LineLemmas.{line_written}
+use Rattle.look_ends_json.proofs.Lines.{lines_then}
+use Rattle.look_ends_json.specs.Outcome.{missing}
 use Rattle.look_ends_json.proofs.ends.say_sample.Goals as goal
 
 pub returns : goal.returns
 returns c =
-    let found = c.args.found.now in
-    line_written c.push_line.result _ _ _ _ c.in_ok-last.ensures (sample_plain c.args.schedules c.args.seed found.unfinished (missing c.args.number found.found.items)) c.push_line.ensures
+    let sample = c.args.found.now in
+    let found = rw (c.as_slice.ensures.value, c.as_slice-times.ensures.value) at c.in_ok-say_sampled.ensures in
+    let plain = sample_plain c.args.schedules c.args.seed sample.unfinished (missing c.args.number sample.found.items) in
+    lines_then c.push_made.result _ _ _ _ _ found (c.push_made.ensures _ c.sample.ensures plain)

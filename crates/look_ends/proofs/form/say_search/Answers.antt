@@ -1,0 +1,23 @@
+use Rattle.std.proofs.Common.{ℕ, List, ◌++◌}
+use Rattle.std.proofs.lemmas.Result.{on_ok_weaker}
+use Rattle.look_text.proofs.LineLemmas.{said_on}
+use Rattle.look_ends.specs.Lines as def
+use Rattle.look_ends.proofs.form.say_search.Goals as goal
+
+pub returns : goal.returns
+returns c =
+    let ends = c.args.ends.now in
+    let found = ends.found.items in
+    let refused : List ℕ = def.refused_line c.args.setting.now c.args.is_refused ends.whole found in
+    let called : List ℕ = def.by_calls_line ends.by_calls in
+    let states : List ℕ = def.states_line ends.whole ends.states in
+    let none : List ℕ = def.no_number_line c.args.number found in
+    let one = rw c.as_slice-found.ensures.value at c.in_ok-say_all.ensures in
+    let two = rw c.as_slice-found.ensures.value at c.in_ok-say_refused.ensures in
+    let last = rw c.as_slice-found.ensures.value at c.say_no_number.ensures in
+    on_ok_weaker c.say_no_number.result
+    (λ h. said_on _ _ (refused ++ (called ++ (states ++ none))) _ _ one
+    (said_on _ refused (called ++ (states ++ none)) _ _ two
+    (said_on _ called (states ++ none) _ _ c.in_ok-say_by_calls.ensures
+    (said_on _ states none _ _ c.in_ok-say_states.ensures h))))
+    last
