@@ -347,8 +347,7 @@ def calls():
         whole, *others = [budgets(name) + lines(f"{end} / steps {it} / status {status}, entries {it + 2}") for it in steps]
         given = b"\n" + program + b"%\n%\n" + lines(DUES)
         yield Call(f"play_run: {name}", Case(f"play_run: {name}", BY_WORKERS, None, given, whole, 0, others), ["words", "take", "room", "play_run"])
-    for name, lead, said in (("tree", "tree", "room 1 65537"), ("line", "line", "run text 3 journal"), ("help", "line", "help"), ("mistake", "line", "a mistake")):
-        yield Call(name, Case(name, ["calls"], None, f"{name}\n".encode(), lines(said), 0), ["words", "take", lead])
+    yield Call("tree", Case("tree", ["calls"], None, b"tree\n", lines("room 1 65537"), 0), ["words", "take", "tree"])
 
 
 def compiler():

@@ -9,18 +9,17 @@ ghost use Rattle.sts_rules.specs.Refusal.{IsAccepted};
 use crate::budgets::budgets_of;
 use crate::failure::{Failure, in_assembling, in_reading, in_taking, status, within, written};
 use crate::row::Row;
+use crate::telling::{tell, tell_after, tell_budgets, tell_end, tell_refused, tell_state};
 use crate::whole::Run;
 use std::alloc::Global;
-use std::io;
 use sts_asm::assemble;
 use sts_budget::Budgets;
-use sts_cli::{Line, LineError, line};
 use sts_code::{Function, Instr, Program};
 use sts_list::{list, spell};
 use sts_machine::{Machine, replay, run_alone};
-use sts_model::{End, Event};
+use sts_model::Event;
 use sts_output::take;
-use sts_plain::{Plain, PlainState};
+use sts_plain::Plain;
 use sts_pool::Book;
 use sts_trace::{read_outside, read_trace};
 use sts_tree::Tree;
@@ -42,47 +41,20 @@ fn in_verifying(answer: Result<Verified, VerifyError>) -> Result<Verified, Failu
     }
 }
 
-fn tell_end(rt: &HostRuntime, end: Option<End>) -> Result<(), Failure> {
-    written(match end {
-        None => println!(rt; "running"),
-        Some(End::Success(value)) => println!(rt; "success {value}"),
-        Some(End::Failed(code)) => println!(rt; "failed {code}"),
-    })
-}
-
-fn tell_state(rt: &HostRuntime, state: PlainState) -> Result<(), Failure> {
-    match state {
-        PlainState::Running => tell_end(rt, None),
-        PlainState::Ended(end) => tell_end(rt, Some(end)),
-        PlainState::Fault {
-            kind,
-            task,
-            function,
-            pc,
-        } => written(println!(rt; "fault {kind:?} task {task} in function {function} at {pc}")),
-    }
-}
-
-/// Says how a run has ended, if it has, and in how many steps.
-fn tell_after(rt: &HostRuntime, end: Option<End>, steps: u64) -> Result<(), Failure> {
-    tell_end(rt, end)?;
-    written(println!(rt; "steps {steps}"))
-}
-
 fn taken(rt: &HostRuntime, alloc: Global, row: &Row<'_>) -> Result<(), Failure> {
     let mut reader = row.text;
     let bytes = in_taking(take(alloc, &mut reader, u64::MAX))?;
-    written(println!(rt; "bytes {}", bytes.len()))
+    tell(rt, "bytes", bytes.len())
 }
 
 fn traced(rt: &HostRuntime, alloc: Global, row: &Row<'_>) -> Result<(), Failure> {
     let events = events(alloc, row)?;
-    written(println!(rt; "events {}", events.len()))
+    tell(rt, "events", events.len())
 }
 
 fn told_outside(rt: &HostRuntime, alloc: Global, row: &Row<'_>) -> Result<(), Failure> {
     let dues = in_reading("read_outside", read_outside(alloc, row.outside))?;
-    written(println!(rt; "dues {}", dues.len()))
+    tell(rt, "dues", dues.len())
 }
 
 fn tell_sizes(rt: &HostRuntime, program: &Program) -> Result<(), Failure> {
@@ -125,13 +97,17 @@ fn spell_each(alloc: Global, program: &Program, lines: &mut String) -> Result<()
 /// Says the words of each instruction, once all of them are spelled.
 fn spelled(rt: &HostRuntime, alloc: Global, program: &Program) -> Result<(), Failure> {
     let mut lines = within("room", String::with_capacity(alloc, ROOM))?;
-    spell_each(alloc, program, &mut lines)?;
-    written(print!(rt; "{lines}"))
+    match spell_each(alloc, program, &mut lines) {
+        Ok(()) => written(print!(rt; "{lines}")),
+        Err(failure) => Err(failure),
+    }
 }
 
 fn started(rt: &HostRuntime, alloc: Global, program: &Program) -> Result<(), Failure> {
     let plain = within("start", Plain::start(alloc, program))?;
-    tell_state(rt, plain.state())
+    let state = plain.state();
+    drop(plain);
+    tell_state(rt, state)
 }
 
 /// Applies an event, and once more if there was no memory.
@@ -160,7 +136,7 @@ fn apply_each(
         applied_again(rt, alloc, plain, *event)?;
     }
     tell_state(rt, plain.state())?;
-    written(println!(rt; "steps {}", plain.steps()))
+    tell(rt, "steps", plain.steps())
 }
 
 /// Applies events to the beginning of a program.
@@ -224,12 +200,6 @@ fn are_same(one: &Program, other: &Program) -> bool {
             .all(|(one, other)| are_same_functions(one, other))
 }
 
-/// Says whether a call that found no memory left a value unchanged.
-fn tell_refused(rt: &HostRuntime, is_same: bool) -> Result<(), Failure> {
-    let after = if is_same { "unchanged" } else { "changed" };
-    written(println!(rt; "refused, {after}"))
-}
-
 /// Verifies a program, and once more if it comes back since memory ran out.
 fn verified_again(
     rt: &HostRuntime,
@@ -244,15 +214,6 @@ fn verified_again(
         }
         answer => in_verifying(answer),
     }
-}
-
-/// Says the budgets of a function.
-fn tell_budgets(rt: &HostRuntime, function: &Function, most: Budgets) -> Result<(), Failure> {
-    let name = function.name.as_str();
-    written(println!(rt;
-        "{name} {} {} {} {}",
-        most.steps, most.tasks, most.scopes, most.binds
-    ))
 }
 
 /// Says the budgets of each function of an accepted program.
@@ -275,7 +236,18 @@ fn verdict_of(
 
 fn verdict(rt: &HostRuntime, alloc: Global, row: &Row<'_>) -> Result<(), Failure> {
     let same = program(alloc, row)?;
-    verdict_of(rt, alloc, program(alloc, row)?, &same)
+    match program(alloc, row) {
+        Ok(other) => verdict_of(rt, alloc, other, &same),
+        Err(failure) => Err(failure),
+    }
+}
+
+/// Says the budgets of each function.
+fn tell_each(rt: &HostRuntime, functions: &[Function], budgets: &[Budgets]) -> Result<(), Failure> {
+    for (function, most) in functions.iter().zip(budgets) {
+        tell_budgets(rt, function, *most)?;
+    }
+    Ok(())
 }
 
 /// Says the budgets of each function, as `budget` finds them.
@@ -283,10 +255,7 @@ fn budgeted(rt: &HostRuntime, alloc: Global, program: &Program) -> Result<(), Fa
     requires { IsAccepted program.now }
 {
     let budgets = budgets_of(alloc, program)?;
-    for (function, most) in program.functions().iter().zip(&budgets) {
-        tell_budgets(rt, function, *most)?;
-    }
-    Ok(())
+    tell_each(rt, program.functions(), budgets.as_slice())
 }
 
 fn replay_events(
@@ -296,7 +265,11 @@ fn replay_events(
     events: &[Event],
 ) -> Result<(), Failure> {
     match replay(alloc, verified, events) {
-        Ok(machine) => tell_after(rt, machine.root_end(), machine.steps()),
+        Ok(machine) => {
+            let (end, steps) = (machine.root_end(), machine.steps());
+            drop(machine);
+            tell_after(rt, end, steps)
+        }
         Err(_) => Err(Failure::Memory("replay")),
     }
 }
@@ -317,7 +290,7 @@ fn ran_alone(rt: &HostRuntime, alloc: Global, verified: &Verified) -> Result<(),
 }
 
 /// Goes on with a run between two marks, and says how its root has ended.
-fn tell_run(rt: &HostRuntime, run: &mut impl Run) -> Result<(), Failure> {
+fn tell_run(rt: &HostRuntime, mut run: impl Run + Drop) -> Result<(), Failure> {
     println!(rt; "from here")?;
     run.go_on();
     println!(rt; "to here")?;
@@ -327,7 +300,7 @@ fn tell_run(rt: &HostRuntime, run: &mut impl Run) -> Result<(), Failure> {
 /// A whole run on a machine that was prepared.
 fn prepared(rt: &HostRuntime, alloc: Global, verified: &Verified) -> Result<(), Failure> {
     match Machine::prepare(alloc, verified) {
-        Ok(mut machine) => tell_run(rt, &mut machine),
+        Ok(machine) => tell_run(rt, machine),
         Err(_) => Err(Failure::Memory("prepare")),
     }
 }
@@ -335,7 +308,7 @@ fn prepared(rt: &HostRuntime, alloc: Global, verified: &Verified) -> Result<(), 
 /// A whole run in a book that was started.
 fn booked(rt: &HostRuntime, alloc: Global, verified: &Verified) -> Result<(), Failure> {
     match Book::start(alloc, verified) {
-        Ok(mut book) => tell_run(rt, &mut book),
+        Ok(book) => tell_run(rt, book),
         Err(_) => Err(Failure::Memory("book")),
     }
 }
@@ -373,32 +346,6 @@ fn with_room(rt: &HostRuntime, alloc: Global) -> Result<(), Failure> {
     written(println!(rt; "room {} {}", tree.task_room(), tree.scope_room()))
 }
 
-/// A command line that is right.
-const RIGHT: &[&str] = &["sts", "run", "text", "--workers", "3", "--trace", "journal"];
-
-/// Says what a command line asks for.
-fn tell_command(rt: &HostRuntime, command: Line<'_>) -> io::Result<()> {
-    match command {
-        Line::Run {
-            file,
-            workers,
-            outside: None,
-            trace: Some(trace),
-        } => println!(rt; "run {file} {workers} {trace}"),
-        _ => println!(rt; "another command"),
-    }
-}
-
-/// Says what a command line asks for, or why it asks for nothing.
-fn asked(rt: &HostRuntime, alloc: Global, words: &[&str]) -> Result<(), Failure> {
-    match line(alloc, words) {
-        Ok(command) => written(tell_command(rt, command)),
-        Err(LineError::Help(_)) => written(println!(rt; "help")),
-        Err(LineError::Usage(_)) => written(println!(rt; "a mistake")),
-        Err(LineError::Memory) => Err(Failure::Memory("line")),
-    }
-}
-
 /// Makes the call of a name on a row, and says what it answers.
 fn answer(rt: &HostRuntime, alloc: Global, call: &str, row: &Row<'_>) -> Result<(), Failure> {
     match call {
@@ -407,9 +354,6 @@ fn answer(rt: &HostRuntime, alloc: Global, call: &str, row: &Row<'_>) -> Result<
         "read_outside" => told_outside(rt, alloc, row),
         "verify" => verdict(rt, alloc, row),
         "tree" => with_room(rt, alloc),
-        "line" => asked(rt, alloc, RIGHT),
-        "help" => asked(rt, alloc, &["sts", "--help"]),
-        "mistake" => asked(rt, alloc, &["sts", "plane"]),
         "assemble" | "list" | "spell" | "start" | "apply" => assembled(rt, alloc, call, row),
         _ => accepted(rt, alloc, call, row),
     }

@@ -94,7 +94,7 @@ fn say<R: Print>(rt: &R, failure: Failure) -> io::Result<()> {
     match failure {
         Failure::Memory(call) => println!(rt; "error memory in {call}"),
         Failure::Threads => println!(rt; "error threads"),
-        Failure::Unfit(why) => println!(rt; "{why}"),
+        Failure::Unfit(why) => rt.println(why),
         Failure::Write => Ok(()),
     }
 }

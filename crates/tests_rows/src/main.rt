@@ -16,6 +16,7 @@ mod notation;
 mod rounds;
 mod row;
 mod table;
+mod telling;
 mod timing;
 mod walking;
 mod whole;
@@ -46,15 +47,16 @@ fn main(rt: HostRuntime) -> ExitCode {
         let _ = println!(&rt; "error memory in words");
         return ExitCode::from(NO_MEMORY);
     };
+    let mut status = 0;
     for part in words.skip(1) {
-        let status = if part.as_str() == "workers" {
+        status = if part.as_str() == "workers" {
             workers::run_row(&rt, rt.alloc())
         } else {
             done(&rt, part.as_str())
         };
         if status != 0 {
-            return ExitCode::from(status);
+            break;
         }
     }
-    ExitCode::from(0)
+    ExitCode::from(status)
 }

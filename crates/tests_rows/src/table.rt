@@ -117,6 +117,18 @@ fn push_short(words: &str, text: &mut Vec<u8>, short: &str) -> Result<(), Failur
     Ok(())
 }
 
+/// Pushes an answer: a status, a blank, and what is printed.
+fn push_answer(
+    words: &str,
+    answer: &mut Vec<u8>,
+    status: &str,
+    short: &str,
+) -> Result<(), Failure> {
+    push(answer, status)?;
+    push(answer, " ")?;
+    push_short(words, answer, short)
+}
+
 /// Pushes the trace that is asked for.
 fn push_trace(words: &str, trace: &mut Vec<u8>, asked: &str) -> Result<(), Failure> {
     match asked.strip_prefix("trace ") {
@@ -200,22 +212,28 @@ impl<'t> Table<'t> {
     /// The trace that is asked for.
     fn run(&mut self, expected: &str) -> Result<bool, Failure> {
         let mut trace = Vec::new(self.rt.alloc());
-        push_trace(self.words.as_str(), &mut trace, self.asked)?;
-        self.run_on(trace.as_slice(), expected)
+        match push_trace(self.words.as_str(), &mut trace, self.asked) {
+            Ok(()) => self.run_on(trace.as_slice(), expected),
+            Err(failure) => Err(failure),
+        }
     }
 
     /// Compares how the bytes of an outside text are read.
     fn read(&mut self, text: &[u8], expected: &str) -> Result<bool, Failure> {
         let mut said = String::new(self.rt.alloc());
-        push_read(self.rt.alloc(), text, &mut said)?;
-        self.compare(said.as_str(), expected)
+        match push_read(self.rt.alloc(), text, &mut said) {
+            Ok(()) => self.compare(said.as_str(), expected),
+            Err(failure) => Err(failure),
+        }
     }
 
     /// An outside text, which is read alone.
     fn outside(&mut self, lines: &str, expected: &str) -> Result<bool, Failure> {
         let mut text = Vec::new(self.rt.alloc());
-        push_short(self.words.as_str(), &mut text, lines)?;
-        self.read(text.as_slice(), expected)
+        match push_short(self.words.as_str(), &mut text, lines) {
+            Ok(()) => self.read(text.as_slice(), expected),
+            Err(failure) => Err(failure),
+        }
     }
 
     /// Asks the question, and compares the answer.
@@ -231,13 +249,18 @@ impl<'t> Table<'t> {
         }
     }
 
+    /// Asks the question whose answer has these bytes.
+    fn question_in_full(&mut self, expected: &[u8]) -> Result<bool, Failure> {
+        self.question(text_of(expected)?)
+    }
+
     /// Asks the question whose answer is a status and what is printed.
     fn answer_in_full(&mut self, status: &str, short: &str) -> Result<bool, Failure> {
         let mut expected = Vec::new(self.rt.alloc());
-        push(&mut expected, status)?;
-        push(&mut expected, " ")?;
-        push_short(self.words.as_str(), &mut expected, short)?;
-        self.question(text_of(expected.as_slice())?)
+        match push_answer(self.words.as_str(), &mut expected, status, short) {
+            Ok(()) => self.question_in_full(expected.as_slice()),
+            Err(failure) => Err(failure),
+        }
     }
 
     /// Asks the question whose answer a line has: the status alone, or with a blank and what is

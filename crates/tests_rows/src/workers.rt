@@ -66,8 +66,10 @@ fn play_row<R: Print + Threads + Wait + Sync>(
 ) -> Result<(), Failure> {
     let (_, row) = Row::of(input)?;
     let mut journal = room(alloc)?;
-    let mut printed = room(alloc)?;
-    play_in(rt, alloc, &row, &mut journal, &mut printed)
+    match room(alloc) {
+        Ok(mut printed) => play_in(rt, alloc, &row, &mut journal, &mut printed),
+        Err(failure) => Err(failure),
+    }
 }
 
 fn played<R: Input + Print + Threads + Wait + Sync>(rt: &R, alloc: Global) -> Result<(), Failure> {
