@@ -12,6 +12,15 @@ use Rattle.look_views.specs.Named.{named}
 use Rattle.look_views.specs.Task.{integers}
 use Rattle.look_views.specs.Views.{line}
 
+-- the end of a call, without its arguments and its end
+abbrev pub call_head : Program → ℕ → CallEnd → Data
+call_head p place c = object_of (
+    (codes "after", count (length c.trace.items)) ∷
+    (codes "end", count (place + 1)) ∷
+    (codes "function", string (routine p c.function).name) ∷
+    (codes "heard", boolean c.is_heard) ∷
+    (codes "version", version) ∷ [])
+
 -- the end of a call at a place, which has the next number, and the length of its trace
 abbrev pub call : List ℕ → Program → ℕ → CallEnd → Data
 call text p place c = object_of (

@@ -16,6 +16,28 @@ use serde_json::Value;
 use std::alloc::{AllocError, Global};
 use sts_code::{Program, name_of};
 
+/// The end of a call, without its arguments, its end and the name of its function.
+fn call_head(
+    alloc: Global,
+    program: &Program,
+    place: usize,
+    call: &CallEnd,
+) -> Result<Value, AllocError>
+    requires { place + 1 < 2 ^ 64 }
+    ensures { IfOk result (λ v. view v ≡ def.call_head program.now place call.now) }
+{
+    object_of(
+        alloc,
+        &[
+            ("after", Scalar::Count(call.trace.len() as u64)),
+            ("end", Scalar::Count((place + 1) as u64)),
+            ("function", Scalar::Text(name_of(program, call.function))),
+            ("heard", Scalar::Flag(call.is_heard)),
+            ("version", Scalar::Count(VERSION)),
+        ],
+    )
+}
+
 /// The end of a call, without the name of its function.
 fn call(
     alloc: Global,
@@ -27,16 +49,7 @@ fn call(
     requires { place + 1 < 2 ^ 64 }
     ensures { IfOk result (λ v. view v ≡ def.call names.now program.now place call.now) }
 {
-    let value = object_of(
-        alloc,
-        &[
-            ("after", Scalar::Count(call.trace.len() as u64)),
-            ("end", Scalar::Count((place + 1) as u64)),
-            ("function", Scalar::Text(name_of(program, call.function))),
-            ("heard", Scalar::Flag(call.is_heard)),
-            ("version", Scalar::Count(VERSION)),
-        ],
-    );
+    let value = call_head(alloc, program, place, call);
     let arguments = integers(alloc, call.arguments.as_slice());
     let value = with_list(alloc, value, "arguments", arguments);
     with_member(alloc, value, "task", ended(alloc, names, call.end))
