@@ -1,6 +1,6 @@
 //! Lines and traces in their short notation.
 
-use crate::failure::{Failure, within};
+use crate::failure::{Failure, within, written};
 use std::io::Write;
 
 /// Pushes bytes of a table.
@@ -99,11 +99,16 @@ fn push_turns(trace: &mut Vec<u8>, steps: &str) -> Result<(), Failure> {
     push_tasks(trace, number(first)?, number(last)?, number(count)?)
 }
 
+/// Pushes the line of an event from outside: its word, and the number of a task or a scope.
+fn push_outside(trace: &mut Vec<u8>, word: &str, number: &str) -> Result<(), Failure> {
+    written(writeln!(trace, "{word} {number}"))
+}
+
 fn push_event(trace: &mut Vec<u8>, word: &str) -> Result<(), Failure> {
     if let Some(task) = word.strip_prefix("i") {
-        Ok(writeln!(trace, "interrupt {task}")?)
+        push_outside(trace, "interrupt", task)
     } else if let Some(scope) = word.strip_prefix("x") {
-        Ok(writeln!(trace, "expire {scope}")?)
+        push_outside(trace, "expire", scope)
     } else {
         push_turns(trace, word)
     }
