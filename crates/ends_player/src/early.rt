@@ -70,34 +70,6 @@ fn expires(knowledge: Knowledge) -> Option<bool> {
     }
 }
 
-/// The scope at a place after this number of steps, and the label of the last one.
-fn seen_after<'t>(
-    top: &Played,
-    explored: &'t Explored,
-    steps: usize,
-    place: u32,
-) -> Option<(Label, &'t Seen)> {
-    let node = top.node(explored, steps)?;
-    let seen = node.own.scope(place)?;
-    Some((node.label, seen))
-}
-
-/// The cancel that comes after this number of steps at least, if the owner sees it by this look.
-fn cancel_before(
-    look: usize,
-    steps: usize,
-    knowledge: Knowledge,
-    ways: &[Option<u32>],
-) -> Option<Early> {
-    let expires = expires(knowledge)?;
-    Some(Early {
-        look,
-        steps,
-        forks: forks_of(ways),
-        expires,
-    })
-}
-
 /// The cancel of the scope that the next step opens at a place, if the owner sees one before it closes
 /// the scope. Its subtasks have these ways.
 pub fn early_cancel(
@@ -111,11 +83,17 @@ pub fn early_cancel(
     let mut steps = first;
     for look in first..close {
         let next = look.saturating_add(1);
-        let (label, after) = seen_after(top, explored, next, place)?;
+        let node = top.node(explored, next)?;
+        let after = node.own.scope(place)?;
         if after.facts.knowledge != Knowledge::Unseen {
-            return cancel_before(look, steps, after.facts.knowledge, ways);
+            return Some(Early {
+                look,
+                steps,
+                forks: forks_of(ways),
+                expires: expires(after.facts.knowledge)?,
+            });
         }
-        if is_before(label, place, after, ways) {
+        if is_before(node.label, place, after, ways) {
             steps = next;
         }
     }

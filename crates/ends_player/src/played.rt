@@ -246,28 +246,17 @@ impl Played {
         None
     }
 
-    /// The scope that the next step opens at a place. A step closes it after this number of steps.
-    fn opened_at<'t>(
-        &self,
-        explored: &'t Explored,
-        place: u32,
-        close: usize,
-    ) -> Option<Opened<'t>> {
-        let last = self.node(explored, close)?;
-        let scope = last.own.scope(place)?;
-        Some(Opened {
-            place,
-            close,
-            scope,
-            used: last.own.used,
-        })
-    }
-
     /// The scope that the next step opens, as its owner knows it before its close.
     fn opened<'t>(&self, explored: &'t Explored) -> Option<Opened<'t>> {
         let place = number(self.before(explored)?.own.scopes.len());
         let close = self.closing_or_last(explored, place)?;
-        self.opened_at(explored, place, close)
+        let last = self.node(explored, close)?;
+        Some(Opened {
+            place,
+            close,
+            scope: last.own.scope(place)?,
+            used: last.own.used,
+        })
     }
 
     /// The scope that the next step opens. It has this birth number. Its cancel comes as early as it can,

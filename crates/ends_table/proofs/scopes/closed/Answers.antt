@@ -8,7 +8,7 @@ use Rattle.laws_calls.specs.declared.table.Own.{Own}
 use Rattle.laws_calls.specs.declared.table.Seen.{Seen}
 use Rattle.ends_table.proofs.scopes.closed.Goals as goal
 
--- the state of which each part is as after a `close`
+-- a state is as after a `close` if each of its parts is
 closed_is : (own : Own) (f : Frame) (xs ys zs : List Seen) (n : ℕ) (slots : List Held) → f ≡ record (steps own.frame 0 []) { entries = drop 1 own.frame.entries } → xs ≡ drop 1 ys → ys ≡ own.scopes → n ≡ length zs → zs ≡ xs → slots ≡ map (clear n) own.held → record own { frame = f; held = slots; scopes = xs } ≡ closed own
 closed_is own f xs ys zs n slots frame outer before place after held =
     let scopes : xs ≡ drop 1 own.scopes = outer ∙ ap (drop 1) before in

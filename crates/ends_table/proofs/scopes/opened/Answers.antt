@@ -12,7 +12,7 @@ use Rattle.laws_calls.specs.declared.table.Own.{Own}
 use Rattle.laws_calls.specs.declared.table.Seen.{Seen}
 use Rattle.ends_table.proofs.scopes.opened.Goals as goal
 
--- the state of which each part is as after an `open`
+-- a state is as after an `open` if each of its parts is
 opened_is : (call : Call) (own : Own) (x : ℕ) (joiner : Joiner) (timed : Bool) (n : ℕ) (f : Frame) (seen : Seen) (xs ys zs : List Seen) (slots : List Held) → n ≡ length ys → ys ≡ own.scopes → f ≡ record (steps own.frame 0 []) { entries = entry.Scope 0 ∷ own.frame.entries } → (seen ∷ own.scopes) ≡ (opened call own 0 joiner timed).scopes → xs ≡ (seen ∷ zs) → zs ≡ own.scopes → slots ≡ slice_set own.held x (held.Own n) → record own { frame = f; held = slots; scopes = xs } ≡ opened call own x joiner timed
 opened_is call own x joiner timed n f seen xs ys zs slots place before frame fresh behind same set =
     let scopes : xs ≡ (opened call own 0 joiner timed).scopes = behind ∙ ap (λ (l : List Seen). seen ∷ l) same ∙ fresh in
