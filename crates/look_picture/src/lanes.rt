@@ -10,7 +10,7 @@ use crate::place::{lane, over_lane};
 use crate::writing::{Room, fitted_text, mark_end, mark_start, text_end, text_start};
 use look_lines::{is_heard, stand_words, under_words};
 use look_names::{Names, say_value};
-use look_tell::{Story, say_called};
+use look_tell::{Story, Told};
 use std::alloc::{AllocError, Global};
 use std::fmt::Write;
 use sts_model::End;
@@ -274,7 +274,7 @@ fn call_name(
         ≡ string_bytes out.old ++ def.call_name names.now story.now t) }
 {
     let mut called = Vec::new(alloc);
-    say_called(alloc, &mut called, names, story, t)?;
+    Told { names, story }.say_called(alloc, &mut called, t)?;
     fitted_text(out, "code", 196, lane(t) + 13, called.as_slice(), CALL_ROOM)
 }
 

@@ -21,22 +21,25 @@ use crate::numbers::event_number;
 use crate::place::{column, columns_width, height, lane, width};
 use crate::present::Present;
 use crate::style::style;
-use crate::title::{FileNames, heading};
+use crate::title::{FileNames, say_title};
 use crate::told::event_words;
-use crate::window::{Drawn, shown_events};
+use crate::window::{Drawn, left_out, shown_events};
 use crate::words::{next_word, step_word};
-use crate::writing::{mark_at, mark_end, mark_start, text_at};
+use crate::writing::{escaped_line, mark_at, mark_end, mark_start, text_at};
 use look_lines::{Applied, Form, Run, Watch, after, view_lines, write_run};
 use look_names::Names;
 use look_options::{DrawOptions, ViewOptions};
+use look_run::say_end;
 use look_tell::Story;
 use std::alloc::{AllocError, Global};
 use std::fmt::Write;
 use std::io;
 use sts_asm::AsmError;
 use sts_code::Program;
-use sts_model::Event;
-use sts_output::{Output, WriteFailed, state_line, state_status, text_fault, trace_fault};
+use sts_model::{End, Event};
+use sts_output::{
+    Output, WriteFailed, state_line, state_status, steps_line, text_fault, trace_fault,
+};
 use sts_plain::PlainState;
 use sts_trace::TraceError;
 
@@ -201,35 +204,6 @@ fn maybe_column(
     Ok(columns + 1)
 }
 
-/// Draws the same as `maybe_column`, with these words.
-fn worded_column(
-    alloc: Global,
-    out: &mut String,
-    names: &Names<'_>,
-    words: String,
-    seen: Seen<'_, '_>,
-    brief: bool,
-    columns: usize,
-    applied: Applied,
-) -> Result<usize, AllocError>
-    requires { columns < 2 ^ 64 - 1 }
-    ensures counted { IfOk result (λ n. n ≡ def.one_more (string_bytes words) columns) }
-    ensures drawn { OnOk result (string_bytes out.new ≡ string_bytes out.old
-        ++ def.maybe_column names.now (string_bytes words) seen.entry.before.now
-        seen.entry.watch.now brief columns applied) }
-{
-    maybe_column(
-        alloc,
-        out,
-        names,
-        words.as_str(),
-        seen,
-        brief,
-        columns,
-        applied,
-    )
-}
-
 /// Skips the first events, applies the others to a machine and to a story in order, and draws a
 /// column for each that has words. Returns the number of columns.
 fn event_columns(
@@ -270,7 +244,16 @@ fn event_columns(
             event: events[i],
             is_counted,
         };
-        let more = worded_column(alloc, out, names, words, seen, brief, columns, applied)?;
+        let more = maybe_column(
+            alloc,
+            out,
+            names,
+            words.as_str(),
+            seen,
+            brief,
+            columns,
+            applied,
+        )?;
         columns = more;
         before.apply(alloc, events[i])?;
         present.keep(before.world().records());
@@ -299,34 +282,6 @@ fn first_column(
     standing(alloc, out, names, seen, column(false, 0), false)
 }
 
-/// Draws the same as `columns_after`, with what the first column can show.
-fn columns_with(
-    alloc: Global,
-    out: &mut String,
-    names: &Names<'_>,
-    brief: bool,
-    before: &mut Watch<'_>,
-    story: &mut Story<'_>,
-    present: &mut Present,
-    skipped: usize,
-    events: &[Event],
-) -> Result<usize, AllocError>
-    requires behind { before.old ≡ watched before.old.program (take skipped events.now) }
-    requires told { story.old ≡ after_events before.old.program (take skipped events.now) }
-    requires listed { present.old ≡ numbers.present before.old.last }
-    requires inside { skipped ≤ length events.now }
-    ensures told { OnOk result (story.new ≡ after_events before.old.program events.now) }
-    ensures counted { IfOk result (λ n. n
-        ≡ def.count names.now brief before.old.program skipped events.now) }
-    ensures drawn { OnOk result (string_bytes out.new ≡ string_bytes out.old
-        ++ def.columns names.now brief before.old.program skipped events.now) }
-{
-    first_column(alloc, out, names, before, present)?;
-    event_columns(
-        alloc, out, names, brief, before, story, present, skipped, events,
-    )
-}
-
 /// Draws the column before the first event that has one, and one after each event that has words,
 /// from a machine and a story after the skipped events. Returns the number of those columns.
 fn columns_after(
@@ -349,7 +304,8 @@ fn columns_after(
         ++ def.columns names.now brief before.old.program skipped events.now) }
 {
     let mut present = Present::of(alloc, before.world().records())?;
-    columns_with(
+    first_column(alloc, out, names, before, &present)?;
+    event_columns(
         alloc,
         out,
         names,
@@ -362,37 +318,133 @@ fn columns_after(
     )
 }
 
-/// Draws the column before the first event and one after each that has words, but skips the first
-/// events: the story has told them. Returns the number of those columns.
-fn columns(
+/// The story of the events, and how many of them have a column.
+#[derive(Drop)]
+struct Drawing<'p> {
+    story: Story<'p>,
+    count: usize,
+}
+
+/// Draws the same as `columns`, from the machine after the skipped events.
+fn drawn_columns<'p>(
     alloc: Global,
     out: &mut String,
     names: &Names<'_>,
     brief: bool,
-    program: &Program,
-    story: &mut Story<'_>,
+    program: &'p Program,
+    before: &mut Watch<'_>,
     skipped: usize,
     events: &[Event],
-) -> Result<usize, AllocError>
-    requires told { story.old ≡ after_events program.now (take skipped events.now) }
+) -> Result<Drawing<'p>, AllocError>
+    requires behind { before.old ≡ watched program.now (take skipped events.now) }
     requires inside { skipped ≤ length events.now }
-    ensures told { OnOk result (story.new ≡ after_events program.now events.now) }
-    ensures counted { IfOk result (λ n. n
+    ensures told { IfOk result (λ r. r.story ≡ after_events program.now events.now) }
+    ensures counted { IfOk result (λ r. r.count
+        ≡ def.count names.now brief program.now skipped events.now) }
+    ensures drawn { OnOk result (string_bytes out.new
+        ≡ string_bytes out.old ++ def.columns names.now brief program.now skipped events.now) }
+{
+    let mut story = Story::after(alloc, program, &events[..skipped])?;
+    let count = columns_after(
+        alloc, out, names, brief, before, &mut story, skipped, events,
+    )?;
+    Ok(Drawing { story, count })
+}
+
+/// Draws the column before the first event and one after each that has words, but skips the first
+/// events.
+fn columns<'p>(
+    alloc: Global,
+    out: &mut String,
+    names: &Names<'_>,
+    brief: bool,
+    program: &'p Program,
+    skipped: usize,
+    events: &[Event],
+) -> Result<Drawing<'p>, AllocError>
+    requires { skipped ≤ length events.now }
+    ensures told { IfOk result (λ r. r.story ≡ after_events program.now events.now) }
+    ensures counted { IfOk result (λ r. r.count
         ≡ def.count names.now brief program.now skipped events.now) }
     ensures drawn { OnOk result (string_bytes out.new
         ≡ string_bytes out.old ++ def.columns names.now brief program.now skipped events.now) }
 {
     let mut before = after(alloc, program, &events[..skipped])?;
-    columns_after(
+    drawn_columns(
         alloc,
         out,
         names,
         brief,
+        program,
         &mut before,
-        story,
         skipped,
         events,
     )
+}
+
+/// The end of a run, with the name of its value or code.
+fn end_line(alloc: Global, out: &mut String, names: &Names<'_>, end: End) -> Result<(), AllocError>
+    ensures { OnOk result (string_bytes out.new
+        ≡ string_bytes out.old ++ def.end_line names.now end) }
+{
+    let mut words = Vec::new(alloc);
+    say_end(alloc, &mut words, names, end)?;
+    escaped_line(out, words.as_slice())
+}
+
+/// The state of the run.
+fn run_line(
+    alloc: Global,
+    out: &mut String,
+    names: &Names<'_>,
+    watch: &Watch<'_>,
+) -> Result<(), AllocError>
+    ensures { OnOk result (string_bytes out.new ≡ string_bytes out.old
+        ++ def.run_line names.now watch.now.program (shown watch.now.state)) }
+{
+    match watch.state() {
+        PlainState::Ended(end) => end_line(alloc, out, names, end),
+        PlainState::Running | PlainState::Fault { .. } => {
+            state_line(out, watch.program(), watch.state())
+        }
+    }
+}
+
+/// The files, the state of the run, the steps that it took, and which events are left out.
+fn say_heading(
+    alloc: Global,
+    out: &mut String,
+    files: Option<FileNames<'_>>,
+    names: &Names<'_>,
+    watch: &Watch<'_>,
+    drawn: Drawn,
+) -> Result<(), AllocError>
+    requires { drawn.last ≤ drawn.all }
+    ensures { OnOk result (string_bytes out.new ≡ string_bytes out.old
+        ++ def.heading files.entry names.now watch.now drawn) }
+{
+    say_title(out, files)?;
+    run_line(alloc, out, names, watch)?;
+    out.push_str(" ")?;
+    steps_line(out, watch.steps())?;
+    left_out(out, drawn)
+}
+
+/// The heading as a string.
+fn heading(
+    alloc: Global,
+    files: Option<FileNames<'_>>,
+    names: &Names<'_>,
+    watch: &Watch<'_>,
+    drawn: Drawn,
+) -> Result<String, AllocError>
+    requires { drawn.last ≤ drawn.all }
+    ensures { IfOk result (λ words. string_bytes words
+        ≡ def.heading files.entry names.now watch.now drawn) }
+{
+    let mut words = String::new(alloc);
+    say_heading(alloc, &mut words, files, names, watch, drawn)?;
+    Ok(words)
 }
 
 /// The classes of a picture. The style draws narrower marks in a brief one.
@@ -453,18 +505,16 @@ fn standing_lines(out: &mut String, watch: &Watch<'_>) -> Result<(), AllocError>
     view_lines(out, watch, wanted)
 }
 
-#[tactic(auto, unfolding(crate::specs::Picture::description_start))]
 fn description_start(out: &mut String) -> Result<(), AllocError>
     ensures { OnOk result (string_bytes out.new ≡ string_bytes out.old ++ def.description_start) }
 {
-    out.push_str("</title>\n<desc>")
+    write!(out, "</title>\n<desc>")
 }
 
-#[tactic(auto, unfolding(crate::specs::Picture::description_end))]
 fn description_end(out: &mut String) -> Result<(), AllocError>
     ensures { OnOk result (string_bytes out.new ≡ string_bytes out.old ++ def.description_end) }
 {
-    out.push_str("</desc>\n")
+    writeln!(out, "</desc>")
 }
 
 /// The description for readers who don't see the picture: after the state of the run, all tasks and
@@ -642,44 +692,6 @@ fn sheet_output(
     })
 }
 
-/// The picture of a run of these events, from a story of those that are skipped.
-fn picture_from(
-    alloc: Global,
-    files: Option<FileNames<'_>>,
-    names: &Names<'_>,
-    brief: bool,
-    program: &Program,
-    story: &mut Story<'_>,
-    drawn: Drawn,
-    events: &[Event],
-) -> Result<Output, AllocError>
-    requires told { story.old ≡ after_events program.now (take drawn.before events.now) }
-    requires skips { drawn.before ≤ length events.now }
-    requires ordered { drawn.last ≤ drawn.all }
-    ensures { IfOk result (λ o. o
-        ≡ def.drawn_output files.entry names.now brief program.now drawn events.now) }
-{
-    let mut text = String::new(alloc);
-    let count = columns(
-        alloc,
-        &mut text,
-        names,
-        brief,
-        program,
-        story,
-        drawn.before,
-        events,
-    )?;
-    let sheet = Sheet {
-        names,
-        story,
-        brief,
-        count,
-        columns: text.as_str(),
-    };
-    sheet_output(alloc, files, drawn, sheet)
-}
-
 /// The picture of a run of these events, and the status of the machine's last state.
 fn picture_of(
     alloc: Global,
@@ -695,10 +707,24 @@ fn picture_of(
     ensures { IfOk result (λ o. o
         ≡ def.drawn_output files.entry names.now brief program.now drawn events.now) }
 {
-    let mut story = Story::after(alloc, program, &events[..drawn.before])?;
-    picture_from(
-        alloc, files, names, brief, program, &mut story, drawn, events,
-    )
+    let mut columns_text = String::new(alloc);
+    let found = columns(
+        alloc,
+        &mut columns_text,
+        names,
+        brief,
+        program,
+        drawn.before,
+        events,
+    )?;
+    let sheet = Sheet {
+        names,
+        story: &found.story,
+        brief,
+        count: found.count,
+        columns: columns_text.as_str(),
+    };
+    sheet_output(alloc, files, drawn, sheet)
 }
 
 /// The picture of a run, of a window of its events or of the last ones, with the lines and the names

@@ -23,7 +23,7 @@ pub(crate) fn mark_start(out: &mut String, mark: Mark, x: u128, y: u64) -> Resul
 pub(crate) fn mark_end(out: &mut String) -> Result<(), AllocError>
     ensures { OnOk result (string_bytes out.new ≡ string_bytes out.old ++ def.mark_end) }
 {
-    out.push_str("</title></path>\n")
+    writeln!(out, "</title></path>")
 }
 
 /// A mark at a point, described by these words.
@@ -54,7 +54,7 @@ pub(crate) fn text_start(out: &mut String, class: &str, x: u128, y: u64) -> Resu
 pub(crate) fn text_end(out: &mut String) -> Result<(), AllocError>
     ensures { OnOk result (string_bytes out.new ≡ string_bytes out.old ++ def.text_end) }
 {
-    out.push_str("</text>\n")
+    writeln!(out, "</text>")
 }
 
 /// These words as a text of a class at a point.
@@ -115,7 +115,7 @@ pub(crate) fn escaped_line(out: &mut String, text: &[u8]) -> Result<(), AllocErr
         ≡ string_bytes out.old ++ def.escaped_line text.now) }
 {
     escape(out, text)?;
-    out.push_str("\n")
+    writeln!(out)
 }
 
 /// Such a text as a string.

@@ -1,7 +1,6 @@
 pub mod Deed
 pub mod Line
 pub mod Outcome
-pub mod Parts
 pub mod Story
 pub mod Telling
 pub mod Words

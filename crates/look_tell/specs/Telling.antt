@@ -50,6 +50,10 @@ end_lines text s (x ∷ xs) t = end_line text s t ++ end_lines text s xs (t + 1)
 
 -- ---- all of it
 
+-- the story after these events
+abbrev pub story_after : TellOptions → Program → List Event → Story
+story_after o p events = fold (next o.strict) (begun p) events
+
 -- the lines of the events, from a story before them to one after them; a strict story ends with the
 -- end of each task
 abbrev pub told_lines : List ℕ → TellOptions → Story → Story → List Event → List ℕ
@@ -57,21 +61,20 @@ told_lines text o before after events =
     lines_from text o 1 before events
     ++ (if o.strict then end_lines text after (world_of after).tasks 0 else [])
 
+abbrev pub story_lines : List ℕ → TellOptions → Program → List Event → List ℕ
+story_lines text o p events = told_lines text o (begun p) (story_after o p events) events
+
 -- 5 for a story that stopped, or else the status of the run's state: 0 if the root succeeded, 1 if
 -- it failed, otherwise 5
 abbrev pub story_status : Story → ℕ
 story_status s = if s.stopped then 5 else state_status (shown s.watched.state)
 
--- the story of these events, from a story before them
-abbrev pub output_from : List ℕ → TellOptions → Story → List Event → Output
-output_from text o before events = record {
-  bytes = told_lines text o before (fold (next o.strict) before events) events;
-  status = story_status (fold (next o.strict) before events);
-}
-
 -- the story of these events up to the last one that is asked for
 abbrev pub story_output : List ℕ → TellOptions → Program → List Event → Output
-story_output text o p events = output_from text o (begun p) (take o.last events)
+story_output text o p events = record {
+  bytes = story_lines text o p (take o.last events);
+  status = story_status (story_after o p (take o.last events));
+}
 
 -- the output for the events that a trace spells, or for its first fault
 abbrev pub traced_output

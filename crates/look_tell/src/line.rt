@@ -7,11 +7,8 @@ ghost use Rattle.look_tell.specs.Line as def;
 ghost use Rattle.look_tell.specs.Story.{next};
 
 use crate::deed::{Deed, next_deed};
-use crate::idle::say_idle;
-use crate::outcome::{say_deed, say_interrupts};
-use crate::parts::{Part, say_parts};
 use crate::story::Story;
-use crate::words::{say_living, say_place_of};
+use crate::words::{Told, say_if, say_numbered};
 use look_names::{Names, Said};
 use look_options::TellOptions;
 use look_text::say;
@@ -54,158 +51,103 @@ fn is_waiting(story: &Story<'_>, t: u32) -> bool
     story.records().lives(t) && !can_step(story.world(), story.program(), t)
 }
 
-/// The subtasks that a task waits for.
-pub(crate) fn say_waits_for(
-    alloc: Global,
-    out: &mut Vec<u8>,
-    names: &Names<'_>,
-    story: &Story<'_>,
-    stand: Stand,
-) -> Said
-    ensures { OnOk result (out.new.items ≡ out.old.items
-        ++ def.waits_for names.now story.now stand) }
-{
-    match stand {
-        Stand::Free => Ok(()),
-        Stand::AtJoin(s) | Stand::AtClose(s) => {
-            say_living(alloc, out, names, story, " waits for ", s)
+impl Told<'_, '_, '_, '_> {
+    /// The subtasks that a task waits for.
+    fn say_waits_for(self, alloc: Global, out: &mut Vec<u8>, stand: Stand) -> Said
+        ensures { OnOk result (out.new.items ≡ out.old.items
+            ++ def.waits_for self.entry.names.now self.entry.story.now stand) }
+    {
+        match stand {
+            Stand::Free => Ok(()),
+            Stand::AtJoin(s) | Stand::AtClose(s) => {
+                self.say_living(alloc, out, " waits for ", s)
+            }
         }
     }
-}
 
-/// Where a task is, after the number of an event.
-pub(crate) fn say_head(
-    alloc: Global,
-    out: &mut Vec<u8>,
-    names: &Names<'_>,
-    story: &Story<'_>,
-    number: usize,
-    t: u32,
-) -> Said
-    ensures { OnOk result (out.new.items ≡ out.old.items
-        ++ def.head_words names.now number story.now t) }
-{
-    say_event_number(alloc, out, number)?;
-    say_place_of(alloc, out, names, story, t)
-}
-
-fn say_wait_line(
-    alloc: Global,
-    out: &mut Vec<u8>,
-    names: &Names<'_>,
-    story: &Story<'_>,
-    number: usize,
-    t: u32,
-) -> Said
-    requires born { t < length story.now.watched.last.tasks }
-    requires lives { living.lives (model.task_at story.now.watched.last t) ≡ true }
-    ensures { OnOk result (out.new.items ≡ out.old.items
-        ++ def.wait_line names.now number story.now t) }
-{
-    let stand = stand_at(story.world(), story.program(), t);
-    say_parts(
-        alloc,
-        out,
-        names,
-        story,
-        &[
-            Part::Head(number, t),
-            Part::WaitsFor(stand),
-            Part::Words("\n"),
-        ],
-    )
-}
-
-/// Says that the task waits now, if it does.
-fn say_wait(
-    alloc: Global,
-    out: &mut Vec<u8>,
-    names: &Names<'_>,
-    story: &Story<'_>,
-    number: usize,
-    t: u32,
-) -> Said
-    ensures { OnOk result (out.new.items ≡ out.old.items
-        ++ def.wait_block names.now number story.now t) }
-{
-    if is_waiting(story, t) {
-        say_wait_line(alloc, out, names, story, number, t)
-    } else {
-        Ok(())
+    /// Where a task is, after the number of an event.
+    fn say_head(self, alloc: Global, out: &mut Vec<u8>, number: usize, t: u32) -> Said
+        ensures { OnOk result (out.new.items ≡ out.old.items
+            ++ def.head_words self.entry.names.now number self.entry.story.now t) }
+    {
+        say_event_number(alloc, out, number)?;
+        self.say_place_of(alloc, out, t)
     }
-}
 
-fn say_interrupt(
-    alloc: Global,
-    out: &mut Vec<u8>,
-    names: &Names<'_>,
-    story: &Story<'_>,
-    number: usize,
-    t: u32,
-) -> Said
-    ensures { OnOk result (out.new.items ≡ out.old.items
-        ++ def.interrupt_line names.now number story.now t) }
-{
-    let again = story.records().flag(t);
-    say_parts(
-        alloc,
-        out,
-        names,
-        story,
-        &[
-            Part::Event(number),
-            Part::Words("interrupt of "),
-            Part::Task(t),
-            Part::If(again, ", which was interrupted before"),
-            Part::Words("\n"),
-        ],
-    )
-}
-
-/// Whether the scope was cancelled before its expiry.
-pub(crate) fn say_expired_words(
-    alloc: Global,
-    out: &mut Vec<u8>,
-    names: &Names<'_>,
-    story: &Story<'_>,
-    s: u32,
-    was_cancelled: bool,
-) -> Said
-    ensures { OnOk result (out.new.items ≡ out.old.items
-        ++ def.expired_words names.now story.now s was_cancelled) }
-{
-    if was_cancelled {
-        return say(out, ", which was cancelled before");
+    fn say_wait_line(self, alloc: Global, out: &mut Vec<u8>, number: usize, t: u32) -> Said
+        requires born { t < length self.story.now.watched.last.tasks }
+        requires lives { living.lives (model.task_at self.story.now.watched.last t) ≡ true }
+        ensures { OnOk result (out.new.items ≡ out.old.items
+            ++ def.wait_line self.entry.names.now number self.entry.story.now t) }
+    {
+        self.say_head(alloc, out, number, t)?;
+        let stand = stand_at(self.story.world(), self.story.program(), t);
+        self.say_waits_for(alloc, out, stand)?;
+        say(out, "\n")
     }
-    say(out, " cancels it")?;
-    say_interrupts(alloc, out, names, story, s)
-}
 
-/// An expiry of a scope that was cancelled before or not.
-fn say_expired(
-    alloc: Global,
-    out: &mut Vec<u8>,
-    names: &Names<'_>,
-    story: &Story<'_>,
-    number: usize,
-    s: u32,
-    was_cancelled: bool,
-) -> Said
-    ensures { OnOk result (out.new.items ≡ out.old.items
-        ++ def.expired_line names.now number story.now s was_cancelled) }
-{
-    say_parts(
-        alloc,
-        out,
-        names,
-        story,
-        &[
-            Part::Event(number),
-            Part::Numbered("expiry of scope ", s),
-            Part::Expired(s, was_cancelled),
-            Part::Words("\n"),
-        ],
-    )
+    /// Says that the task waits now, if it does.
+    fn say_wait(self, alloc: Global, out: &mut Vec<u8>, number: usize, t: u32) -> Said
+        ensures { OnOk result (out.new.items ≡ out.old.items
+            ++ def.wait_block self.entry.names.now number self.entry.story.now t) }
+    {
+        if is_waiting(self.story, t) {
+            self.say_wait_line(alloc, out, number, t)
+        } else {
+            Ok(())
+        }
+    }
+
+    fn say_interrupt(self, alloc: Global, out: &mut Vec<u8>, number: usize, t: u32) -> Said
+        ensures { OnOk result (out.new.items ≡ out.old.items
+            ++ def.interrupt_line self.entry.names.now number self.entry.story.now t) }
+    {
+        say_event_number(alloc, out, number)?;
+        say(out, "interrupt of ")?;
+        self.say_task(alloc, out, t)?;
+        say_if(
+            out,
+            self.story.records().flag(t),
+            ", which was interrupted before",
+        )?;
+        say(out, "\n")
+    }
+
+    /// Whether the scope was cancelled before its expiry.
+    fn say_expired_words(
+        self,
+        alloc: Global,
+        out: &mut Vec<u8>,
+        s: u32,
+        was_cancelled: bool,
+    ) -> Said
+        ensures { OnOk result (out.new.items ≡ out.old.items
+            ++ def.expired_words self.entry.names.now self.entry.story.now s was_cancelled) }
+    {
+        if was_cancelled {
+            return say(out, ", which was cancelled before");
+        }
+        say(out, " cancels it")?;
+        self.say_interrupts(alloc, out, s)
+    }
+
+    /// An expiry of a scope that was cancelled before or not.
+    fn say_expired(
+        self,
+        alloc: Global,
+        out: &mut Vec<u8>,
+        number: usize,
+        s: u32,
+        was_cancelled: bool,
+    ) -> Said
+        ensures { OnOk result (out.new.items ≡ out.old.items
+            ++ def.expired_line self.entry.names.now number self.entry.story.now s was_cancelled) }
+    {
+        say_event_number(alloc, out, number)?;
+        say_numbered(alloc, out, "expiry of scope ", s)?;
+        self.say_expired_words(alloc, out, s, was_cancelled)?;
+        say(out, "\n")
+    }
 }
 
 /// The number of an event, the names of its text, and the events and steps that get lines.
@@ -232,9 +174,9 @@ impl Telling<'_, '_> {
             self.entry.names.now self.entry.number story.old story.new t deed) }
     {
         let names = self.names;
-        say_head(alloc, out, names, story, self.number, t)?;
+        Told { names, story }.say_head(alloc, out, self.number, t)?;
         story.apply(alloc, self.options.strict, Event::Step(t))?;
-        say_deed(alloc, out, names, story, t, deed)?;
+        Told { names, story }.say_deed(alloc, out, t, deed)?;
         say(out, "\n")
     }
 
@@ -270,7 +212,7 @@ impl Telling<'_, '_> {
         let names = self.names;
         let deed = next_deed(story.world(), story.program(), t);
         self.say_told_step(alloc, out, story, t, deed)?;
-        say_wait(alloc, out, names, story, self.number, t)
+        Told { names, story }.say_wait(alloc, out, self.number, t)
     }
 
     fn say_expiry(self, alloc: Global, out: &mut Vec<u8>, story: &mut Story<'_>, s: u32) -> Said
@@ -282,7 +224,7 @@ impl Telling<'_, '_> {
         let names = self.names;
         let was_cancelled = story.records().is_cancelled(s);
         story.apply(alloc, self.options.strict, Event::Expire(s))?;
-        say_expired(alloc, out, names, story, self.number, s, was_cancelled)
+        Told { names, story }.say_expired(alloc, out, self.number, s, was_cancelled)
     }
 
     /// An event that counts.
@@ -302,7 +244,7 @@ impl Telling<'_, '_> {
         match event {
             Event::Step(t) => self.say_step(alloc, out, story, t),
             Event::Interrupt(t) => {
-                say_interrupt(alloc, out, names, story, self.number, t)?;
+                Told { names, story }.say_interrupt(alloc, out, self.number, t)?;
                 story.apply(alloc, self.options.strict, event)
             }
             Event::Expire(s) => self.say_expiry(alloc, out, story, s),
@@ -328,7 +270,7 @@ impl Telling<'_, '_> {
     {
         let names = self.names;
         if story.is_idle(event) {
-            say_idle(alloc, out, names, story, self.number, event)?;
+            Told { names, story }.say_idle(alloc, out, self.number, event)?;
             story.apply(alloc, self.options.strict, event)
         } else {
             self.say_counted(alloc, out, story, event)

@@ -1,6 +1,6 @@
 //! A story: the machine, and the arguments that each task was forked with.
 
-ghost use Rattle.std.specs.Prelude.{◌≡◌, [], ◌∷◌, IfOk, OnOk, ℤ, List, false, fold, option_map, slice_index_or};
+ghost use Rattle.std.specs.Prelude.{◌≡◌, [], IfOk, OnOk, ℤ, List, option_map, slice_index_or};
 ghost use Rattle.sts_model.specs.Run.{counts};
 ghost use Rattle.sts_plain.specs.Seen.{shown};
 ghost use Rattle.look_tell.specs.Story as def;
@@ -118,15 +118,6 @@ fn keep(
     }
 }
 
-/// The arguments of `main`, which has none.
-fn of_main(alloc: Global) -> Result<Vec<Arguments>, AllocError>
-    ensures { IfOk result (λ given. given.items ≡ [] ∷ []) }
-{
-    let mut given = Vec::new(alloc);
-    keep(alloc, &mut given, Some(&[]))?;
-    Ok(given)
-}
-
 impl<'p> Story<'p> {
     /// The story before the first event.
     ///
@@ -136,9 +127,13 @@ impl<'p> Story<'p> {
     pub fn begun(alloc: Global, program: &'p Program) -> Result<Story<'p>, AllocError>
         ensures { IfOk result (λ s. s ≡ def.begun program.now) }
     {
-        let given = of_main(alloc)?;
+        let watch = Watch::start(alloc, program)?;
+        let mut given = Vec::new(alloc);
+        given.push(Arguments {
+            values: Vec::new(alloc),
+        })?;
         Ok(Story {
-            watch: Watch::start(alloc, program)?,
+            watch,
             given,
             stopped: false,
         })
@@ -157,18 +152,10 @@ impl<'p> Story<'p> {
         ensures { IfOk result (λ s. s ≡ def.after_events program.now events.now) }
     {
         let mut story = Story::begun(alloc, program)?;
-        story.apply_each(alloc, events)?;
-        Ok(story)
-    }
-
-    /// Goes on by these events.
-    fn apply_each(&mut self, alloc: Global, events: &[Event]) -> Result<(), AllocError>
-        ensures { OnOk result (self.new ≡ fold (def.next false) self.old events.now) }
-    {
         for event in events {
-            self.apply(alloc, false, *event)?;
+            story.apply(alloc, false, *event)?;
         }
-        Ok(())
+        Ok(story)
     }
 
     /// The machine that runs.

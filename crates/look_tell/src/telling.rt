@@ -8,9 +8,9 @@ ghost use Rattle.look_refusal.specs.Stops.{Prints};
 ghost use Rattle.look_tell.specs.Story.{next};
 ghost use Rattle.look_tell.specs.Telling as def;
 
-use crate::ends::say_end_lines;
 use crate::line::say_events;
 use crate::story::Story;
+use crate::words::Told;
 use look_names::{Names, Said};
 use look_options::TellOptions;
 use look_refusal::{ExplainError, Explanation, program_of, write_explained};
@@ -60,28 +60,10 @@ fn say_story(
 {
     say_events(alloc, out, names, options, story, events)?;
     if options.strict {
-        say_end_lines(alloc, out, names, story)
+        Told { names, story }.say_end_lines(alloc, out)
     } else {
         Ok(())
     }
-}
-
-/// The story of these events, from this one on.
-fn told_from(
-    alloc: Global,
-    options: TellOptions,
-    names: &Names<'_>,
-    story: &mut Story<'_>,
-    events: &[Event],
-) -> Result<Explanation, AllocError>
-    ensures { IfOk result (λ o. o ≡ def.output_from names.now options story.old events.now) }
-{
-    let mut bytes = Vec::new(alloc);
-    say_story(alloc, &mut bytes, names, options, story, events)?;
-    Ok(Explanation {
-        bytes,
-        status: status_of(story),
-    })
 }
 
 /// The story of these events.
@@ -97,7 +79,12 @@ fn of_events(
 {
     let told = up_to(events, options.last);
     let mut story = Story::begun(alloc, program)?;
-    told_from(alloc, options, names, &mut story, told)
+    let mut bytes = Vec::new(alloc);
+    say_story(alloc, &mut bytes, names, options, &mut story, told)?;
+    Ok(Explanation {
+        bytes,
+        status: status_of(&story),
+    })
 }
 
 /// The story of a program with these lines.

@@ -11,6 +11,13 @@ use look_text::say;
 use std::alloc::Global;
 use sts_code::Program;
 
+/// A story, and the names of its text.
+#[derive(Clone, Copy)]
+pub struct Told<'n, 't, 's, 'p> {
+    pub names: &'n Names<'t>,
+    pub story: &'s Story<'p>,
+}
+
 /// Appends words and a number.
 pub(crate) fn say_numbered(alloc: Global, out: &mut Vec<u8>, words: &str, number: u32) -> Said
     ensures { OnOk result (out.new.items ≡ out.old.items ++ (words.now ++ decimal number)) }
@@ -69,116 +76,108 @@ fn next_lead(lives: bool, lead: &'static str) -> &'static str
     if lives { " and " } else { lead }
 }
 
-/// Appends the function of a task and the arguments that it was forked with: `handle(1)`.
-///
-/// # Errors
-///
-/// Memory ran out; `out` may then have a part of it.
-#[tactic(auto, unfolding(crate::specs::Words::called_words))]
-pub fn say_called(
-    alloc: Global,
-    out: &mut Vec<u8>,
-    names: &Names<'_>,
-    story: &Story<'_>,
-    t: u32,
-) -> Said
-    ensures { OnOk result (out.new.items ≡ out.old.items
-        ++ def.called_words names.now story.now t) }
-{
-    say_shown_function(out, names, story.program(), story.function_of(t))?;
-    say_arguments(alloc, out, names, story.given_to(t))
-}
-
-/// Appends a task: `task 2, handle(1)`.
-#[tactic(auto, unfolding(crate::specs::Words::task_words))]
-pub(crate) fn say_task(
-    alloc: Global,
-    out: &mut Vec<u8>,
-    names: &Names<'_>,
-    story: &Story<'_>,
-    t: u32,
-) -> Said
-    ensures { OnOk result (out.new.items ≡ out.old.items
-        ++ def.task_words names.now story.now t) }
-{
-    say_numbered(alloc, out, "task ", t)?;
-    say(out, ", ")?;
-    say_called(alloc, out, names, story, t)
-}
-
-/// Appends a task and the line that it is at: `task 2, handle(1), line 5: ret`.
-#[tactic(auto, unfolding(crate::specs::Words::place_words))]
-pub(crate) fn say_place_of(
-    alloc: Global,
-    out: &mut Vec<u8>,
-    names: &Names<'_>,
-    story: &Story<'_>,
-    t: u32,
-) -> Said
-    ensures { OnOk result (out.new.items ≡ out.old.items
-        ++ def.place_words names.now story.now t) }
-{
-    say_task(alloc, out, names, story, t)?;
-    say(out, ", ")?;
-    say_shown_sentence(alloc, out, names, story.function_of(t), story.pc_of(t))
-}
-
-/// A task that lives, with these words before it.
-fn say_living_one(
-    alloc: Global,
-    out: &mut Vec<u8>,
-    names: &Names<'_>,
-    story: &Story<'_>,
-    lives: bool,
-    lead: &'static str,
-    t: u32,
-) -> Said
-    ensures { OnOk result (out.new.items ≡ out.old.items
-        ++ def.living_word names.now story.now lives lead.entry.now t) }
-{
-    if !lives {
-        return Ok(());
+impl Told<'_, '_, '_, '_> {
+    /// Appends the function of a task and the arguments that it was forked with: `handle(1)`.
+    ///
+    /// # Errors
+    ///
+    /// Memory ran out; `out` may then have a part of it.
+    #[tactic(auto, unfolding(crate::specs::Words::called_words))]
+    pub fn say_called(self, alloc: Global, out: &mut Vec<u8>, t: u32) -> Said
+        ensures { OnOk result (out.new.items ≡ out.old.items
+            ++ def.called_words self.entry.names.now self.entry.story.now t) }
+    {
+        say_shown_function(
+            out,
+            self.names,
+            self.story.program(),
+            self.story.function_of(t),
+        )?;
+        say_arguments(alloc, out, self.names, self.story.given_to(t))
     }
-    say(out, lead)?;
-    say_task(alloc, out, names, story, t)
-}
 
-/// The living ones of these tasks, if they are subtasks of the scope, with these words before
-/// the first.
-fn say_living_among(
-    alloc: Global,
-    out: &mut Vec<u8>,
-    names: &Names<'_>,
-    story: &Story<'_>,
-    s: u32,
-    lead: &'static str,
-    births: &[u32],
-) -> Said
-    ensures { OnOk result (out.new.items ≡ out.old.items
-        ++ def.living_among
-        names.now story.now s lead.entry.now births.now) }
-{
-    let mut words = lead;
-    for t in births {
-        let lives = is_living_subtask(story.records(), s, *t);
-        say_living_one(alloc, out, names, story, lives, words, *t)?;
-        words = next_lead(lives, words);
+    /// Appends a task: `task 2, handle(1)`.
+    #[tactic(auto, unfolding(crate::specs::Words::task_words))]
+    pub(crate) fn say_task(self, alloc: Global, out: &mut Vec<u8>, t: u32) -> Said
+        ensures { OnOk result (out.new.items ≡ out.old.items
+            ++ def.task_words self.entry.names.now self.entry.story.now t) }
+    {
+        say_numbered(alloc, out, "task ", t)?;
+        say(out, ", ")?;
+        self.say_called(alloc, out, t)
     }
-    Ok(())
-}
 
-/// Appends the living subtasks of a scope, with these words before the first.
-#[tactic(auto, unfolding(crate::specs::Words::living_words))]
-pub(crate) fn say_living(
-    alloc: Global,
-    out: &mut Vec<u8>,
-    names: &Names<'_>,
-    story: &Story<'_>,
-    lead: &'static str,
-    s: u32,
-) -> Said
-    ensures { OnOk result (out.new.items ≡ out.old.items
-        ++ def.living_words names.now story.now lead.entry.now s) }
-{
-    say_living_among(alloc, out, names, story, s, lead, story.world().subtasks(s))
+    /// Appends a task and the line that it is at: `task 2, handle(1), line 5: ret`.
+    #[tactic(auto, unfolding(crate::specs::Words::place_words))]
+    pub(crate) fn say_place_of(self, alloc: Global, out: &mut Vec<u8>, t: u32) -> Said
+        ensures { OnOk result (out.new.items ≡ out.old.items
+            ++ def.place_words self.entry.names.now self.entry.story.now t) }
+    {
+        self.say_task(alloc, out, t)?;
+        say(out, ", ")?;
+        say_shown_sentence(
+            alloc,
+            out,
+            self.names,
+            self.story.function_of(t),
+            self.story.pc_of(t),
+        )
+    }
+
+    /// A task that lives, with these words before it.
+    fn say_living_one(
+        self,
+        alloc: Global,
+        out: &mut Vec<u8>,
+        lives: bool,
+        lead: &'static str,
+        t: u32,
+    ) -> Said
+        ensures { OnOk result (out.new.items ≡ out.old.items
+            ++ def.living_word self.entry.names.now self.entry.story.now lives lead.entry.now t) }
+    {
+        if !lives {
+            return Ok(());
+        }
+        say(out, lead)?;
+        self.say_task(alloc, out, t)
+    }
+
+    /// The living ones of these tasks, if they are subtasks of the scope, with these words before
+    /// the first.
+    fn say_living_among(
+        self,
+        alloc: Global,
+        out: &mut Vec<u8>,
+        s: u32,
+        lead: &'static str,
+        births: &[u32],
+    ) -> Said
+        ensures { OnOk result (out.new.items ≡ out.old.items
+            ++ def.living_among
+            self.entry.names.now self.entry.story.now s lead.entry.now births.now) }
+    {
+        let mut words = lead;
+        for t in births {
+            let lives = is_living_subtask(self.story.records(), s, *t);
+            self.say_living_one(alloc, out, lives, words, *t)?;
+            words = next_lead(lives, words);
+        }
+        Ok(())
+    }
+
+    /// Appends the living subtasks of a scope, with these words before the first.
+    #[tactic(auto, unfolding(crate::specs::Words::living_words))]
+    pub(crate) fn say_living(
+        self,
+        alloc: Global,
+        out: &mut Vec<u8>,
+        lead: &'static str,
+        s: u32,
+    ) -> Said
+        ensures { OnOk result (out.new.items ≡ out.old.items
+            ++ def.living_words self.entry.names.now self.entry.story.now lead.entry.now s) }
+    {
+        self.say_living_among(alloc, out, s, lead, self.story.world().subtasks(s))
+    }
 }

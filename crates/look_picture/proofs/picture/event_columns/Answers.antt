@@ -61,7 +61,7 @@ loop-i-preserved c =
     let made = c.watch-watch.ensures ∙ watched_told p es i e l.story c.event_words.new.story (omega arith) (omega arith) l.invariant.told c.in_ok-words.ensures.after in
     let shown = made ∙ next_seen in
     let behind = c.in_ok-apply.ensures.ok ∙ ap (λ (w : Watched). after_event w e) l.invariant.behind ∙ next_seen in
-    let words = c.in_ok-words.ensures.said ∙ ap (λ (s : Story). event_words text brief (i + 1) s e) l.invariant.told in
+    let words = c.as_str.ensures.value ∙ c.in_ok-words.ensures.said ∙ ap (λ (s : Story). event_words text brief (i + 1) s e) l.invariant.told in
     let applied = ap (applied_of (i + 1) e) c.counts-is_counted.ensures ∙ ap (λ (w : Watched). numbered_at w (i + 1) e) stands in
     let here =
     ap (λ (xs : List ℕ). def.maybe_column text xs l.before watch brief n (applied_of (i + 1) e c.counts-is_counted.result)) words
