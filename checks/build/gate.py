@@ -31,8 +31,9 @@ BEFORE = {
     "mistakes --fit": door("mistakes", "--fit"),
 }
 STS, LOOK, BOTH, RECORD = ["sts"], ["look"], ["sts", "look"], "record"
-# The programs that each check runs, those checks first that take longest. Two compilers build each program.
-PROGRAMS = {RECORD: BOTH, "ends": [*BOTH, "look.by-rattle"], "launchers": BOTH, "memory": [*BOTH, "tests_rows"], "rows": STS,
+# The programs that each check runs, or some parts of a check, those first that take longest. Two compilers build each program.
+PROGRAMS = {RECORD: BOTH, "ends": [*BOTH, "look.by-rattle"], "launchers": BOTH,
+            "memory requests_of_sts threads_of_sts requests_of_look": BOTH, "memory single_calls": [*BOTH, "tests_rows"], "rows": STS,
             "streams": BOTH, "shown": BOTH, "looks": BOTH, "cases": LOOK, "call_ends": LOOK, "heaviest": LOOK, "edges": BOTH,
             "outsides": STS, "each_cause": BOTH, "look_rows": LOOK, "workers": STS, "waits": ["tests_waits"]}
 WAIT = "--wait"
@@ -40,10 +41,16 @@ LOOKS = 1  # how many seconds after a look for programs the next one comes
 SETTLED = 5  # A program is whole so many seconds after its file came.
 
 
+def words_of(check, words):
+    """Returns the command of a check of the built programs. Parts are named behind the programs."""
+    name, *parts = check.split()
+    return door(name, *(words or [proved(it) for it in BOTH] if parts else words), *parts)
+
+
 def after(words):
     """Returns the checks of the built programs."""
     named = ["--sts", f"{proved('sts')}.unproved", "--look", f"{proved('look')}.unproved"] if words else []
-    return {it: [sys.executable, "record/test.py", *named] if it == RECORD else door(it, *words) for it in PROGRAMS}
+    return {it: [sys.executable, "record/test.py", *named] if it == RECORD else words_of(it, words) for it in PROGRAMS}
 
 
 def has_come(program, since):
