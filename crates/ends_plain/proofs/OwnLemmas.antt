@@ -42,18 +42,54 @@ use Rattle.ends_plain.proofs.OthersLemmas.{Beside, event_beside}
 
 own_effect : (p : Program) (w : World) (t : ℕ) (f : Frame) (i : Instr) → is_own f i ≡ true → effect p w t f i ≡ with_frame w t (after_own (environment_of (task_at w t) w) (code p f) i f)
 own_effect p w t f (instr.Open s timed joiner) e = cc
-own_effect p w t f i e = cc
+own_effect p w t f (instr.Fork x g h) e = cc
+own_effect p w t f (instr.Join x failed timeout to_i) e = cc
+own_effect p w t f (instr.Close x) e = cc
+own_effect p w t f (instr.Cancelled x) e = cc
+own_effect p w t f (instr.Case h success failed) e = cc
+own_effect p w t f (instr.Get h) e = cc
+own_effect p w t f (instr.Except h) e = cc
+own_effect p w t f (instr.Tally x kind) e = cc
+own_effect p w t f (instr.Total x) e = cc
+own_effect p w t f instr.Interrupted e = cc
+own_effect p w t f instr.Ret e = cc
+own_effect p w t f instr.Fail e = cc
+own_effect p w t f i e = refl
 
 -- with the same scoped values it is a misuse in both states or in neither
 own_fault : (p : Program) (w v : World) (t : ℕ) (f : Frame) (i : Instr) → is_own f i ≡ true → environment_of (task_at v t) v ≡ environment_of (task_at w t) w → fault_of p v t f i ≡ fault_of p w t f i
 own_fault p w v t f (instr.Open s timed joiner) e same = cc
+own_fault p w v t f (instr.Fork x g h) e same = cc
+own_fault p w v t f (instr.Join x failed timeout to_i) e same = cc
+own_fault p w v t f (instr.Close x) e same = cc
+own_fault p w v t f (instr.Cancelled x) e same = cc
+own_fault p w v t f (instr.Case h success failed) e same = cc
+own_fault p w v t f (instr.Get h) e same = cc
+own_fault p w v t f (instr.Except h) e same = cc
+own_fault p w v t f (instr.Tally x kind) e same = cc
+own_fault p w v t f (instr.Total x) e same = cc
+own_fault p w v t f instr.Interrupted e same = cc
+own_fault p w v t f instr.Ret e same = cc
+own_fault p w v t f instr.Fail e same = cc
 own_fault p w v t f (instr.Read k) e same = ap (λ (bs : List Bound). cond (misuses_operand p w f (instr.Read k)) (Some Operand) (cond (is_none (read bs k)) (Some Unbound) None)) same
-own_fault p w v t f i e same = cc
+own_fault p w v t f i e same = refl
 
 -- its task doesn't wait
 own_free : (p : Program) (w : World) (t : ℕ) (f : Frame) (i : Instr) → is_own f i ≡ true → can_go w (task_at w t) (stand_at_instr p w t (Some i)) ≡ true
 own_free p w t f (instr.Open s timed joiner) e = cc
-own_free p w t f i e = cc
+own_free p w t f (instr.Fork x g h) e = cc
+own_free p w t f (instr.Join x failed timeout to_i) e = cc
+own_free p w t f (instr.Close x) e = cc
+own_free p w t f (instr.Cancelled x) e = cc
+own_free p w t f (instr.Case h success failed) e = cc
+own_free p w t f (instr.Get h) e = cc
+own_free p w t f (instr.Except h) e = cc
+own_free p w t f (instr.Tally x kind) e = cc
+own_free p w t f (instr.Total x) e = cc
+own_free p w t f instr.Interrupted e = cc
+own_free p w t f instr.Ret e = cc
+own_free p w t f instr.Fail e = cc
+own_free p w t f i e = refl
 
 -- its task stays in its function
 turns_function : (f : Frame) (ls : List Loop) → (turns f ls).function ≡ f.function

@@ -1,4 +1,5 @@
 pub mod Floats
 pub mod LineLemmas
 pub mod Lines
+pub mod ListLemmas
 pub mod NamedFloatLemmas

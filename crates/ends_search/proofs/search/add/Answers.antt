@@ -1,5 +1,6 @@
-use Rattle.std.proofs.Common.{◌<◌, length, arith, subst}
+use Rattle.std.proofs.Common.{◌<◌, length, refl, arith, subst}
 use Rattle.ends_search.specs.Search.{IsAmong, states_of}
+use Rattle.ends_search.proofs.SearchLemmas.{grows_none}
 use Rattle.ends_search.proofs.StateLemmas.{space_more, grows_more, follows, follows_there}
 use Rattle.ends_search.specs.declared.origin.Origin.{Origin}
 use Rattle.ends_search.proofs.search.add.Goals as goal
@@ -32,3 +33,33 @@ returns-clause-there g c _ =
     let s = c.args.space.now in
     let o : Origin = record { parent = c.args.place; event = c.args.event; is_last = c.is_last.result } in
     rw c.in_ok-push-2.ensures.items (follows_there (g.S.StateMachine.next c.args.setting.now) (g.S.StateMachine.alike c.args.setting.now) s.first s.origins.items o (omega (arith, c.requires.within)) (omega (arith, c.requires.within, c.requires.space.searched.traced.as_many)))
+
+pub returns-then-branch-clause-space : goal.returns-then-branch-clause-space
+returns-then-branch-clause-space g c = c.requires.space
+
+pub returns-then-branch-clause-first : goal.returns-then-branch-clause-first
+returns-then-branch-clause-first g c = refl
+
+pub returns-then-branch-clause-closed : goal.returns-then-branch-clause-closed
+returns-then-branch-clause-closed g c = refl
+
+pub returns-then-branch-clause-grows : goal.returns-then-branch-clause-grows
+returns-then-branch-clause-grows g c = grows_none _
+
+pub returns-then-len-space-clause-space : goal.returns-then-len-space-clause-space
+returns-then-len-space-clause-space g c = c.requires.space
+
+pub returns-then-len-space-clause-first : goal.returns-then-len-space-clause-first
+returns-then-len-space-clause-first g c = refl
+
+pub returns-then-len-space-clause-closed : goal.returns-then-len-space-clause-closed
+returns-then-len-space-clause-closed g c = refl
+
+pub returns-then-len-space-clause-grows : goal.returns-then-len-space-clause-grows
+returns-then-len-space-clause-grows g c = grows_none _
+
+pub returns-clause-first : goal.returns-clause-first
+returns-clause-first g c = refl
+
+pub returns-clause-closed : goal.returns-clause-closed
+returns-clause-closed g c = refl

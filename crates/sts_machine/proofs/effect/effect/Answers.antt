@@ -1,5 +1,8 @@
-use Rattle.std.proofs.Common.{◌≡◌, ◌++◌, ◌∷◌, [], sym, ◌∙◌, ap, subst, arith, rules, true, false, is_some, ℕ}
+use Rattle.std.proofs.Common.{◌≡◌, ◌++◌, ◌∷◌, [], refl, sym, ◌∙◌, ap, subst, arith, Bool, true, false, Option, is_some, ℕ}
 use Rattle.std.proofs.lemmas.Bool.{not-false}
+use Rattle.sts_code.specs.declared.instr.Instr.{Instr}
+use Rattle.sts_code.specs.declared.instr.Instr.TheVariants.{Open, Fork, Close, Bind, Unbind, Ret, Fail}
+use Rattle.sts_code.specs.declared.instr.Joiner.{Joiner}
 use Rattle.sts_model.specs.declared.record.Frame.{Frame}
 use Rattle.sts_model.specs.Effect.{named}
 use Rattle.sts_model.specs.Misuse.{slot, innermost, is_entry_of, is_binding}
@@ -8,7 +11,7 @@ use Rattle.laws_live.specs.Effect.{live_effect, live_fork, live_close}
 use Rattle.laws_live.specs.Reading.{lives_in, scope_in}
 use Rattle.sts_store.specs.Parts.{Unseen, frame_of, live_of, stand_in, unseen_of}
 use Rattle.laws_live.specs.Fine.{IsLiveFine}
-use Rattle.sts_machine.specs.Changing.{ends_task, may_wait}
+use Rattle.sts_machine.specs.Changing.{ends_task, is_quiet, may_wait}
 use Rattle.sts_machine.specs.Room.{HasRoomLeft}
 use Rattle.sts_machine.proofs.Changing.{as_are, changes-quiet, lives_quiet, living, opens, opener_lives, forks, forker_lives, forker_stands, binds, binder_lives, unbinds, unbinder_lives, ends, ended_dead, none_bound}
 use Rattle.sts_machine.proofs.Closing.{closes, closer_lives}
@@ -16,6 +19,23 @@ use Rattle.sts_machine.proofs.Fine.{scope_at, fork_own, close_stands, close_entr
 use Rattle.sts_machine.proofs.Quiet.{quiet-effect}
 use Rattle.sts_machine.proofs.Stood.{stands_born}
 use Rattle.sts_machine.proofs.effect.effect.Goals as goal
+
+-- each other instruction is quiet
+others_quiet : (i : Instr) → ((a : ℕ) (b : Bool) (c : Joiner) → i ≡ Open a b c → ⊥) → ((a b : ℕ) (c : Option ℕ) → i ≡ Fork a b c → ⊥) → ((a : ℕ) → i ≡ Close a → ⊥) → ((a : ℕ) → i ≡ Bind a → ⊥) → (i ≡ Unbind → ⊥) → (i ≡ Ret → ⊥) → (i ≡ Fail → ⊥) → is_quiet i ≡ true
+others_quiet (Open a b c) n1 n2 n3 n4 n5 n6 n7 = absurd (n1 a b c refl)
+others_quiet (Fork a b c) n1 n2 n3 n4 n5 n6 n7 = absurd (n2 a b c refl)
+others_quiet (Close a) n1 n2 n3 n4 n5 n6 n7 = absurd (n3 a refl)
+others_quiet (Bind a) n1 n2 n3 n4 n5 n6 n7 = absurd (n4 a refl)
+others_quiet Unbind n1 n2 n3 n4 n5 n6 n7 = absurd (n5 refl)
+others_quiet Ret n1 n2 n3 n4 n5 n6 n7 = absurd (n6 refl)
+others_quiet Fail n1 n2 n3 n4 n5 n6 n7 = absurd (n7 refl)
+others_quiet i n1 n2 n3 n4 n5 n6 n7 = cc
+
+-- no other instruction ends its task
+others_stay : (i : Instr) → (i ≡ Ret → ⊥) → (i ≡ Fail → ⊥) → ends_task i ≡ false
+others_stay Ret n1 n2 = absurd (n1 refl)
+others_stay Fail n1 n2 = absurd (n2 refl)
+others_stay i n1 n2 = cc
 
 pub returns-in-Open-clause-rest : goal.returns-in-Open-clause-rest
 returns-in-Open-clause-rest c =
@@ -84,11 +104,12 @@ returns-in-Fail-clause-rest c =
 
 pub returns-in_default-clause-rest : goal.returns-in_default-clause-rest
 returns-in_default-clause-rest c =
+    let n = c.in_default in
     let m = c.args.store.now in
     let v = live_of m in
     let t = c.args.t in
     as_are v _ _ (unseen_of m) _ _ t c.quiet.ensures.live c.quiet.ensures.unseen
-    (changes-quiet v _ (unseen_of m) t (quiet-effect c.args.program.now v t c.args.instr.now (search rules)))
+    (changes-quiet v _ (unseen_of m) t (quiet-effect c.args.program.now v t c.args.instr.now (others_quiet c.args.instr.now n.not-Open n.not-Fork n.not-Close n.not-Bind n.not-Unbind n.not-Ret n.not-Fail)))
 
 pub returns-in-Open-clause-own : goal.returns-in-Open-clause-own
 returns-in-Open-clause-own c = λ e. ap (λ (u : Unseen). stand_in u c.args.t) c.open.ensures.unseen.1
@@ -131,9 +152,10 @@ returns-in-Fork-clause-stays c = λ e.
 
 pub returns-in_default-clause-stays : goal.returns-in_default-clause-stays
 returns-in_default-clause-stays c = λ e.
+    let n = c.in_default in
     let v = live_of c.args.store.now in
     ap (λ (x : Live). lives_in x c.args.t) c.quiet.ensures.live
-    ∙ lives_quiet v _ c.args.t (quiet-effect c.args.program.now v c.args.t c.args.instr.now (search rules))
+    ∙ lives_quiet v _ c.args.t (quiet-effect c.args.program.now v c.args.t c.args.instr.now (others_quiet c.args.instr.now n.not-Open n.not-Fork n.not-Close n.not-Bind n.not-Unbind n.not-Ret n.not-Fail))
     ∙ c.requires.lives
 
 pub returns-in-Close-clause-stays : goal.returns-in-Close-clause-stays
@@ -281,3 +303,11 @@ returns-in-Unbind-clause-stays c = λ e.
     let m = c.args.store.now in
     ap (λ (x : Live). lives_in x c.args.t) c.unbind.ensures.live
     ∙ unbinder_lives (live_of m) c.args.t (frame_of m c.args.t) c.requires.lives
+
+pub quiet-requires-clause-is_quiet : goal.quiet-requires-clause-is_quiet
+quiet-requires-clause-is_quiet c =
+    let n = c.in_default in
+    others_quiet c.args.instr.now n.not-Open n.not-Fork n.not-Close n.not-Bind n.not-Unbind n.not-Ret n.not-Fail
+
+pub returns-in_default-clause-ended : goal.returns-in_default-clause-ended
+returns-in_default-clause-ended c = λ e. let never : false ≡ true = sym (others_stay c.args.instr.now c.in_default.not-Ret c.in_default.not-Fail) ∙ e in cc

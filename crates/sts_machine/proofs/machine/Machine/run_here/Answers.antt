@@ -1,10 +1,12 @@
-use Rattle.std.proofs.Common.{◌≡◌, ◌++◌, true, refl, sym, ◌∙◌, ap, subst, arith}
+use Rattle.std.proofs.Common.{◌≡◌, ◌+◌, ◌++◌, true, Some, None, refl, sym, ◌∙◌, ap, subst, arith}
 use Rattle.sts_model.specs.World.{code}
-use Rattle.sts_frames.specs.Locals.{AreSafe, locals}
+use Rattle.sts_frames.specs.Locals.{AreSafe, local_at, locals}
+use Rattle.sts_model.specs.Live.{Live}
+use Rattle.laws_live.specs.Reading.{alive_at, with_live_frame}
 use Rattle.laws_live.specs.Waiting.{live_can_step}
-use Rattle.sts_store.specs.Parts.{frame_of, live_of, stand_in}
+use Rattle.sts_store.specs.Parts.{Unseen, frame_of, live_of, stand_in, unseen_of}
 use Rattle.sts_machine.specs.Machine.{Seen}
-use Rattle.sts_machine.specs.Slice.{steps_of}
+use Rattle.sts_machine.specs.Slice.{code_at, frame_at, steps_of}
 use Rattle.sts_machine.proofs.Cutting.{are_safe}
 use Rattle.sts_machine.proofs.LocalSteps.{was-free}
 use Rattle.sts_machine.proofs.Putting.{in_order, lawful, others_there, put_back, put_on, reached, stands_there}
@@ -106,3 +108,57 @@ returns-clause-stands c =
 pub returns-clause-runs_well : goal.returns-clause-runs_well
 returns-clause-runs_well c =
     λ events b h is. runs_well c.args.self.now.program c.laws.ensures b is (events ++ steps_of c.run_local-done.result c.args.task)
+
+pub frame-requires : goal.frame-requires
+frame-requires c =
+    let can = subst (λ (s : Seen). live_can_step s.program s.live c.args.task ≡ true) (sym c.self.view_is) c.requires in
+    alive c.self.inside.verified.now c.self.inside.store c.self.inside.steps c.self.invariant c.args.task can
+
+pub run_local-done-requires-clause-lives : goal.run_local-done-requires-clause-lives
+run_local-done-requires-clause-lives c =
+    let can = subst (λ (s : Seen). live_can_step s.program s.live c.args.task ≡ true) (sym c.self.view_is) c.requires in
+    alive c.self.inside.verified.now c.self.inside.store c.self.inside.steps c.self.invariant c.args.task can
+
+pub run_local-done-requires-clause-short : goal.run_local-done-requires-clause-short
+run_local-done-requires-clause-short c = c.code-code.ensures.short
+
+pub returns-clause-program : goal.returns-clause-program
+returns-clause-program c = ap (λ (s : Seen). s.program) c.self.view_is
+
+pub returns-clause-live : goal.returns-clause-live
+returns-clause-live c =
+    let m = c.self.inside.store in
+    let t = c.args.task in
+    c.say_stand.ensures.live ∙ c.run_local-done.ensures.live
+    ∙ ap (λ (v : Live). with_live_frame (live_of m) t (alive_at v t).frame) (sym c.say_stand.ensures.live)
+    ∙ ap (λ (s : Seen). with_live_frame s.live t (alive_at (live_of c.say_stand.new.store) t).frame) c.self.view_is
+
+pub returns-clause-local : goal.returns-clause-local
+returns-clause-local c =
+    let m = c.self.inside.store in
+    let t = c.args.task in
+    let own = c.code-code.ensures.value ∙ ap (λ q. code q c.frame.result.now) c.program-program.ensures.value ∙ ap (code c.self.inside.verified.now) c.frame.ensures in
+    subst (λ (s : Seen). locals (code_at s t) (frame_at s t) c.run_local-done.result ≡ Some (alive_at (live_of c.say_stand.new.store) t).frame) c.self.view_is
+    (ap (λ is. locals is (frame_of m t) c.run_local-done.result) (sym own) ∙ c.run_local-done.ensures.local ∙ ap (λ (v : Live). Some (alive_at v t).frame) (sym c.say_stand.ensures.live))
+
+pub returns-clause-most : goal.returns-clause-most
+returns-clause-most c = c.run_local-done.ensures.most
+
+pub returns-clause-stops : goal.returns-clause-stops
+returns-clause-stops c = λ less.
+    let t = c.args.task in
+    let own = c.code-code.ensures.value ∙ ap (λ q. code q c.frame.result.now) c.program-program.ensures.value ∙ ap (code c.self.inside.verified.now) c.frame.ensures in
+    subst (λ (s : Seen). local_at (code_at s t) (alive_at (live_of c.say_stand.new.store) t).frame ≡ None) c.self.view_is
+    (ap (λ (v : Live). local_at (code c.self.inside.verified.now (frame_of c.self.inside.store t)) (alive_at v t).frame) c.say_stand.ensures.live
+    ∙ ap (λ is. local_at is (frame_of c.run_local-done.new.self t)) (sym own) ∙ c.run_local-done.ensures.stops less)
+
+pub returns-clause-unseen : goal.returns-clause-unseen
+returns-clause-unseen c =
+    let stands = (unseen_of c.say_stand.new.store).stands in
+    c.say_stand.ensures.unseen
+    ∙ ap (λ (u : Unseen). record u { stands = stands }) c.run_local-done.ensures.unseen
+    ∙ ap (λ (s : Seen). record s.unseen { stands = stands }) c.self.view_is
+
+pub returns-clause-steps : goal.returns-clause-steps
+returns-clause-steps c =
+    ap (λ k. c.self.inside.steps + k) c.from.ensures ∙ ap (λ (s : Seen). s.steps + c.run_local-done.result) c.self.view_is
