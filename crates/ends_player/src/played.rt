@@ -67,6 +67,7 @@ pub struct Start {
 #[derive(Drop)]
 pub struct Starts {
     starts: Vec<Start>,
+    /// Was there no memory for one of them?
     pub lacks_memory: bool,
 }
 
@@ -95,6 +96,7 @@ impl Starts {
         self.starts.reverse();
     }
 
+    /// Is no task left that is to be played?
     pub fn is_empty(&self) -> bool {
         self.starts.is_empty()
     }
