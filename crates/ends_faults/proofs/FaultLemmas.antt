@@ -25,7 +25,7 @@ use Rattle.sts_model.specs.World.{World, State, Running, Faulted, task_at, scope
 use Rattle.sts_model.specs.Living.{ends, completion_of, parent, scope_of, sub_state, subtask_count}
 use Rattle.sts_model.specs.Environment.{environment_of, bound_of, read}
 use Rattle.sts_model.specs.Misuse as misuse
-use Rattle.sts_model.specs.Misuse.{slot, IsFine, fault_at, fault_of, is_joined, has_succeeded, has_failed}
+use Rattle.sts_model.specs.Misuse.{slot, IsFine, fault_at, is_joined, has_succeeded, has_failed}
 use Rattle.sts_model.specs.Run.{after}
 use Rattle.laws_runs.specs.Runs.{In}
 use Rattle.laws_runs.specs.Scopes.{HasCause, IsEntered}
@@ -50,12 +50,9 @@ use Rattle.ends_faults.specs.Safe.{KnowsOne, CanRead, IsAllowed, IsSafe}
 use Rattle.ends_faults.specs.Faults.{lacks_births, HasPlace, IsIn, SafeIsFine}
 use Rattle.ends_faults.proofs.HeldLemmas.{empty_slot, scope_slot, sub_slot, own_held, sub_held, get_map}
 use Rattle.ends_faults.proofs.ClosingLemmas.{is_close, closing_is_at_close}
+use Rattle.sts_model.proofs.FineLemmas.{fine_no_fault}
 
 -- ---- small tests
-
--- if no test finds a fault, there is none
-no_fault : (p : Program) (w : World) (t : ℕ) (f : Frame) (i : Instr) → IsFine p w t f i → fault_of p w t f i ≡ None
-no_fault p w t f i h = rw (h.operands, h.room, h.loops, h.slots, h.joins, h.births, h.own, h.legal, h.structure, h.bound) refl
 
 -- ---- the structure list
 
@@ -382,7 +379,7 @@ module _ (p : Program) (rows : ℕ → Row) (w : World) (h : Facts w) (closes : 
   misuses_nothing : IsSafe p c own → HasPlace p w u → misuse.misuse p w u ≡ None
   misuses_nothing s few =
       let at : instr_at p f ≡ Some s.instr = subst (λ (z : Frame). instr_at p z ≡ Some s.instr) (sym k.fits.frame) s.at in
-      ap (fault_at p w u f) at ∙ no_fault p w u f s.instr (fine s few)
+      ap (fault_at p w u f) at ∙ fine_no_fault p w u f s.instr (fine s few)
 
 -- ---- runs
 

@@ -11,7 +11,7 @@ use Rattle.laws_words.proofs.ListLemmas.{sole}
 use Rattle.sts_model.specs.declared.event.Event.{Event}
 use Rattle.sts_model.specs.declared.event.Event.TheVariants as event
 use Rattle.sts_code.specs.Program.{Program}
-pub use Rattle.ends_search.proofs.SearchLemmas.{split}
+pub use Rattle.laws_words.proofs.NumberLemmas.{split}
 use Rattle.sts_model.specs.World.{World, task_at, scope_at, no_task, no_scope, State, Running}
 use Rattle.sts_model.specs.Living.{lives}
 use Rattle.sts_model.specs.Waiting.{can_step, can_go, stand_at}

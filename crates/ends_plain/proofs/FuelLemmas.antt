@@ -1,7 +1,7 @@
 -- Own steps of a task end: each makes its fuel smaller.
 use Rattle.std.proofs.Common.{◌≡◌, ℕ, zero, suc, ◌+◌, ◌-◌, ◌*◌, ◌<◌, ◌≤◌, List, [], ◌∷◌, Bool, true, false, Option, Some, None}
 use Rattle.std.proofs.Common.{refl, ◌∙◌, ap, length, arith, cond, not, find, drop}
-use Rattle.std.specs.Prelude.{ℤ, pos, negsuc, nat_le, is_none, is_some, unwrap_or, ◌==◌, slice_get, slice_set, slice_range}
+use Rattle.std.specs.Prelude.{pos, nat_le, is_none, is_some, unwrap_or, ◌==◌, slice_get, slice_set, slice_range}
 use Rattle.std.specs.List.{range_with_len, sum_by}
 use Rattle.std.specs.Int.{int_wrapping_div, w64}
 use Rattle.std.specs.Ordering.{int_eq}
@@ -26,6 +26,7 @@ use Rattle.sts_model.specs.Local.{local, operand, goes, steps, truth, clipped, e
 use Rattle.sts_model.specs.Misuse.{breaks_loop, closes_loop}
 use Rattle.laws_names.specs.Names.{Names, named_frame}
 use Rattle.ends_plain.specs.Own.{is_own}
+use Rattle.sts_model.proofs.LocalLemmas.{clipped_few}
 
 -- the frame after an own instruction, with these scoped values
 abbrev pub after_own : List Bound → List Instr → Instr → Frame → Frame
@@ -167,10 +168,6 @@ turn_less n k pc l ls inside more =
   where
     turned : (base q r x t s : ℕ) → t ≡ x + q → r < x → base + q + r < base + t + s
     turned base q r x t s e less = omega arith
-
-clipped_few : (n : ℕ) (v : ℤ) → clipped n v ≤ n
-clipped_few n (pos k) = omega arith
-clipped_few n (negsuc k) = omega arith
 
 times_few : (is : List Instr) (pc n : ℕ) → slice_get is pc ≡ Some (instr.Times n) → n ≤ most_turns is
 unfolding most_turns turns_of

@@ -1,7 +1,6 @@
 -- How a search grows.
-use Rattle.std.proofs.Common.{◌≡◌, ℕ, ◌+◌, ◌<◌, ◌≤◌, ◌⊎◌, List, [], ◌∷◌, ◌++◌, length, fold, refl, ap, sym, ◌∙◌, arith, inl, inr, subst}
+use Rattle.std.proofs.Common.{◌≡◌, ℕ, ◌+◌, ◌<◌, ◌≤◌, ◌⊎◌, List, [], ◌∷◌, ◌++◌, length, fold, ap, sym, ◌∙◌, arith, inl, inr, subst}
 use Rattle.std.proofs.Common.{length-append, reverse, append_assoc, Bool, true}
-use borrow.Author.Count.{below_more}
 use Rattle.std.proofs.lemmas.List.{get_or_default}
 use Rattle.std.proofs.lemmas.List.{append-nil}
 use Rattle.std.specs.Prelude.{slice_index_or}
@@ -13,10 +12,7 @@ use Rattle.std.proofs.lemmas.List.Elements.{Contains-append_left, Contains-push}
 use Rattle.sts_model.specs.declared.event.Event.{Event}
 use Rattle.ends_search.specs.declared.origin.Origin.{Origin}
 use Rattle.ends_search.specs.Search.{IsTraced, IsSearched, ComesFrom, IsAmong, Grows, LeadsInto, Begins, Follows, IsClosed, origin_at, no_origin, CanAt, CanAll, IsWay}
-
--- a place in a longer list is an older one or the last
-pub split : (k n : ℕ) → k < n + 1 → (k < n) ⊎ (k ≡ n)
-split k n h = below_more (λ j. (j < n) ⊎ (j ≡ n)) n (λ j less. inl less) (inr refl) k h
+use Rattle.laws_words.proofs.NumberLemmas.{split}
 
 -- ---- one state more
 

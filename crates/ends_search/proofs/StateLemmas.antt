@@ -11,7 +11,8 @@ use Rattle.std.proofs.lemmas.List.Elements.{Contains-push}
 use Rattle.sts_model.specs.declared.event.Event.{Event}
 use Rattle.ends_search.specs.declared.origin.Origin.{Origin}
 use Rattle.ends_search.specs.Search.{Grows, Begins, Follows, LeadsInto, IsKept, AreKept, IsAmong, IsSpace, CanAt, mark_at, state_at, states_of, with_next}
-use Rattle.ends_search.proofs.SearchLemmas.{split, traced_more, searched_on, searched_more}
+use Rattle.ends_search.proofs.SearchLemmas.{traced_more, searched_on, searched_more}
+use Rattle.laws_words.proofs.NumberLemmas.{split}
 
 -- ---- the states
 

@@ -1,7 +1,7 @@
 -- A task goes on as the control paths of its function do.
 use Rattle.std.proofs.Common.{◌≡◌, ℕ, suc, ◌+◌, ◌-◌, ◌<◌, ◌≤◌, inl, inr, List, [], ◌∷◌, Bool}
 use Rattle.std.proofs.Common.{true, false, refl, sym, ◌∙◌, ap, subst, arith, cond, not}
-use Rattle.std.specs.Prelude.{nat_le, ◌==◌, unwrap_or, ℤ, pos, negsuc}
+use Rattle.std.specs.Prelude.{nat_le, ◌==◌, unwrap_or, pos}
 use Rattle.std.specs.Int.{int_wrapping_div, w64}
 use Rattle.std.specs.Ordering.{int_eq}
 use Rattle.std.proofs.lemmas.Bool.{cond_both, eqb-false}
@@ -24,6 +24,7 @@ use Rattle.sts_rules.specs.ControlPaths.{GoesTo, Repeats, EndsTurn, Skeleton, Op
 use Rattle.sts_rules.specs.ControlPaths.{Loops, Follows, go, skip, enter, again, leave, Comes}
 use Rattle.sts_rules.specs.ControlPaths.{start, step}
 use Rattle.sts_rules.specs.Budget.{shape_of}
+use Rattle.sts_model.proofs.LocalLemmas.{clipped_few}
 
 -- from a frame to the next, a control path goes on
 abbrev pub GoesOn : Program → List Budgets → Frame → Frame → Type 0
@@ -53,17 +54,13 @@ positive c pc loops before es (step {pc = from} {loops = ls} {before = b} {entri
 pub goes_to : (p : Program) (budgets : List Budgets) (f : Frame) (i : Instr) (places : List ℕ) (to : ℕ) → instr_at (code p f) f.pc ≡ i → shape_of f.pc i ≡ GoesTo places → Among places to → Follows (skeleton_of p budgets f) f.pc (loops_of f.loops) to (loops_of f.loops)
 goes_to p budgets f i places to at shape among = go places (ap (shape_of f.pc) at ∙ shape) among
 
-few_turns : (n : ℕ) (v : ℤ) → clipped n v ≤ n
-few_turns n (pos k) = omega arith
-few_turns n (negsuc k) = omega arith
-
 times_goes : (p : Program) (budgets : List Budgets) (f : Frame) (n : ℕ) → instr_at (code p f) f.pc ≡ Times n → GoesOn p budgets f (enters (code p f) f (clipped n (operand f 0)))
 times_goes p budgets f n at =
     let shape : (skeleton_of p budgets f).shape f.pc ≡ Repeats n = ap (shape_of f.pc) at in
     let m : ℕ = clipped n (operand f 0) in
     cond_both (m == 0) (goes f (unwrap_or (match_of (code p f) f.pc) 0 + 1) 1 []) (record (steps f 1 []) { loops = record { at = f.pc; left = m } ∷ f.loops }) (λ (g : Frame). GoesOn p budgets f g)
     (λ e. skip n shape)
-    (λ e. enter n m shape (pos_of_ne-zero (eqb-false m 0 e)) (few_turns n (operand f 0)))
+    (λ e. enter n m shape (pos_of_ne-zero (eqb-false m 0 e)) (clipped_few n (operand f 0)))
 
 one_left : (n : ℕ) → 0 < n → nat_le n 1 ≡ true → n ≡ 1
 one_left n some e = let le : n ≤ 1 = grind (arith, nat_tests) in omega arith

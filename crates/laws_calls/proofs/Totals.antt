@@ -24,6 +24,7 @@ use Rattle.laws_calls.proofs.Lists.{Apart, among_filter}
 use Rattle.laws_calls.proofs.Told.{Test, EndOf, counted, rest_once}
 use Rattle.laws_calls.proofs.Counts.{states_in}
 use Rattle.laws_calls.proofs.Turns.{sub_listed}
+use Rattle.laws_runs.proofs.TallyLemmas.{first, others}
 
 -- ---- births
 
@@ -55,12 +56,6 @@ module _ (c : Completion) (cs : List Completion) (once : (u : ℕ) → count_by 
 
   self : (c.task == c.task) ≡ true
   self = grind (arith, nat_tests)
-
-  first_here : completion_of (c ∷ cs) c.task ≡ Some c.end
-  first_here = ap (λ b. EndOf (cond b (Some c) (find (Test c.task) cs))) self
-
-  first_other : (u : ℕ) → (u ≡ c.task → ⊥) → completion_of (c ∷ cs) u ≡ completion_of cs u
-  first_other u other = let is : (c.task == u) ≡ false = grind (arith, nat_tests) in ap (λ b. EndOf (cond b (Some c) (find (Test u) cs))) is
 
   -- the task has no other
   first_alone : completion_of cs c.task ≡ None
@@ -125,8 +120,8 @@ module _ {M : Type 0} (nil : M) (plus : M → M → M) (assoc : (a b c : M) → 
   completed us apart [] once listed = sym (births_nil us)
   completed us apart (c ∷ cs) once listed =
       ap (λ z. plus (value c.end) z) (completed us apart cs (rest_once c cs once) (rest_listed c cs once us listed))
-      ∙ sym (births_point (λ u. worth (completion_of cs u)) (λ u. worth (completion_of (c ∷ cs) u)) c.task us apart (listed c.task c.end (first_here c cs once)) (ap worth (first_alone c cs once)) (λ u other. ap worth (first_other c cs once u other))
-      ∙ ap (λ q. plus (worth q) (births_sum (λ u. worth (completion_of cs u)) us)) (first_here c cs once))
+      ∙ sym (births_point (λ u. worth (completion_of cs u)) (λ u. worth (completion_of (c ∷ cs) u)) c.task us apart (listed c.task c.end (first c cs)) (ap worth (first_alone c cs once)) (λ u other. ap worth (others c cs u other))
+      ∙ ap (λ q. plus (worth q) (births_sum (λ u. worth (completion_of cs u)) us)) (first c cs))
 
   sum_heard : (f : ℕ → Option End) (us : List ℕ) → sum_of (heard_in (map f us)) ≡ births_sum (λ u. worth (f u)) us
   sum_heard f [] = refl

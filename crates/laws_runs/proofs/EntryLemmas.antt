@@ -99,11 +99,11 @@ enters-cancel w s =
 
 -- ---- frames
 
-same-turns : (f : Frame) (ls : List Loop) → (turns f ls).entries ≡ f.entries
+pub same-turns : (f : Frame) (ls : List Loop) → (turns f ls).entries ≡ f.entries
 same-turns f [] = refl
 same-turns f (l ∷ ls) = cond_both (nat_le l.left 1) _ _ (λ (g : Frame). g.entries ≡ f.entries) (λ e. refl) (λ e. refl)
 
-same-local : (is : List Instr) (i : Instr) (f : Frame) → (local is i f).entries ≡ f.entries
+pub same-local : (is : List Instr) (i : Instr) (f : Frame) → (local is i f).entries ≡ f.entries
 same-local is (Div to) f = cond_both _ _ _ (λ (g : Frame). g.entries ≡ f.entries) (λ e. refl) (λ e. refl)
 same-local is (Times n) f = cond_both _ _ _ (λ (g : Frame). g.entries ≡ f.entries) (λ e. refl) (λ e. refl)
 same-local is Next f = same-turns f f.loops

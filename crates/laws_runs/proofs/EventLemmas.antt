@@ -11,15 +11,13 @@ use Rattle.sts_model.specs.declared.event.Event.TheVariants as event
 use Rattle.sts_model.specs.declared.event.End.{End}
 use Rattle.sts_model.specs.declared.event.End.TheVariants.{Success, Failed}
 use Rattle.sts_model.specs.declared.event.Fault.{Fault}
-use Rattle.sts_model.specs.declared.event.Phase.{Phase}
-use Rattle.sts_model.specs.declared.event.Phase.TheVariants.{Closed}
 use Rattle.sts_model.specs.declared.record.Slot.TheVariants as slots
 use Rattle.sts_model.specs.declared.record.Frame.{Frame}
 use Rattle.sts_model.specs.declared.record.Task.{Task}
 use Rattle.sts_model.specs.World.{World, State, Running, Faulted, task_at, scope_at, no_task}
 use Rattle.sts_model.specs.World.{no_scope, instr_at, opening, entry_frame, with_frame}
 use Rattle.sts_model.specs.Local.{operand}
-use Rattle.sts_model.specs.Living.{lives, is_closed}
+use Rattle.sts_model.specs.Living.{lives}
 use Rattle.sts_model.specs.Misuse.{slot, is_opened, misuse, IsFine}
 use Rattle.sts_model.proofs.FineLemmas.{fine}
 use Rattle.sts_model.specs.Waiting.{can_step}
@@ -43,6 +41,7 @@ use Rattle.laws_runs.proofs.BirthLemmas.{sound-open, sound-fork, later-fork, new
 use Rattle.laws_runs.proofs.CompletionLemmas.{AllTold, told-new, told-still, told-open, told-fork}
 use Rattle.laws_runs.proofs.CompletionLemmas.{told-end}
 use Rattle.laws_runs.proofs.RunLemmas.{after-append}
+use Rattle.sts_model.proofs.PhaseLemmas.{opened_not_closed}
 
 -- all facts about a state
 pub record Right (w : World) : Type 0 where
@@ -92,16 +91,12 @@ next-open w t x joiner timed o alive =
       later = later-trans w v _ (later-more_scopes w (new_scope w t joiner timed)) (later-frame v t (opener w (task_at w t).frame x));
     }
 
-open_at_fork : (phase : Phase) → not (is_opened phase) ≡ false → is_closed phase ≡ false
-open_at_fork Closed e = cc
-open_at_fork _ e = refl
-
 next-fork : (p : Program) (w : World) (t s g : ℕ) (h : Option ℕ) → Right w → Owner w.scopes s t → lives (task_at w t) ≡ true → not (is_opened (scope_at w s).phase) ≡ false → Next w (fork_task p w t (task_at w t).frame s g h)
 next-fork p w t s g h o mine alive opened =
     record {
       right =
           record {
-            sound = sound-fork p w t s g h o.sound mine alive (open_at_fork (scope_at w s).phase opened);
+            sound = sound-fork p w t s g h o.sound mine alive (opened_not_closed (scope_at w s).phase opened);
             told = told-fork p w t s g h alive o.told;
           };
       later = later-fork p w t s g h alive;

@@ -118,14 +118,14 @@ uncounted (c ∷ cs) u e = by (c.task == u) (count-cons (Test u) c cs) (uncounte
     by false k next = next (omega (arith, k, e))
 
 -- the first completion is found by its task
-first : (c : Completion) (cs : List Completion) → completion_of (c ∷ cs) c.task ≡ Some c.end
+pub first : (c : Completion) (cs : List Completion) → completion_of (c ∷ cs) c.task ≡ Some c.end
 first c cs = by (c.task == c.task) (grind (arith, nat_tests))
   where
     by : (b : Bool) → b ≡ true → EndOf (cond b (Some c) (find (Test c.task) cs)) ≡ Some c.end
     by true e = refl
     by false e = cc
 
-others : (c : Completion) (cs : List Completion) (u : ℕ) → (u ≡ c.task → ⊥) → completion_of (c ∷ cs) u ≡ completion_of cs u
+pub others : (c : Completion) (cs : List Completion) (u : ℕ) → (u ≡ c.task → ⊥) → completion_of (c ∷ cs) u ≡ completion_of cs u
 others c cs u other = by (c.task == u) refl
   where
     by : (b : Bool) → (c.task == u) ≡ b → EndOf (cond b (Some c) (find (Test u) cs)) ≡ EndOf (find (Test u) cs)

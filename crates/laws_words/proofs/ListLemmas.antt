@@ -1,7 +1,7 @@
 -- Elements at their places, and how many pass a test.
 use Rattle.std.proofs.Common.{◌≡◌, ℕ, zero, suc, ◌+◌, ◌<◌, ◌≤◌, ◌||◌, Bool, true, false, cond, List}
 use Rattle.std.proofs.Common.{[], ◌∷◌, ◌++◌, length, get_or, set, drop, Option, Some, None, refl}
-use Rattle.std.proofs.Common.{sym, ap, ◌∙◌, arith, count_by, slice_index_or}
+use Rattle.std.proofs.Common.{sym, ap, ◌∙◌, arith, count_by, replicate, slice_index_or}
 use Rattle.std.specs.Prelude.{nat_lt}
 use Rattle.std.specs.List.{list_any}
 use Rattle.std.proofs.lemmas.Bool.{lt-ltb}
@@ -51,3 +51,9 @@ drop_past (suc n) (x ∷ xs) h = drop_past n xs (omega arith)
 pub sole : {X : Type 0} (x e : X) (k : ℕ) → k < 1 → slice_index_or (x ∷ []) k e ≡ e → e ≡ x
 sole x e zero less i = sym i
 sole x e (suc k) less i = absurd (omega arith)
+
+-- zeros alone, and a zero past the end
+pub zeros : (n k : ℕ) → get_or {A = ℕ} (replicate n 0) k 0 ≡ 0
+zeros zero k = refl
+zeros (suc n) zero = refl
+zeros (suc n) (suc k) = zeros n k

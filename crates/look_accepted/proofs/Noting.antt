@@ -16,7 +16,7 @@ use Rattle.look_accepted.specs.Found.{AreAll}
 use Rattle.look_accepted.specs.Relying.{Relies, relies, relied_on, relied_on_at}
 use Rattle.sts_rules.specs.Refusal.{size}
 use Rattle.look_accepted.specs.Notes.{AreRules, IsPlain, none, plain, noted, AddsNotes}
-use Rattle.look_accepted.proofs.Searching.{split}
+use Rattle.laws_words.proofs.NumberLemmas.{split}
 
 -- ---- one place
 

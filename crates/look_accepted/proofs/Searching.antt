@@ -1,6 +1,5 @@
 -- How a search grows, and that it finds all nodes.
-use Rattle.std.proofs.Common.{◌≡◌, ℕ, ◌+◌, ◌<◌, ◌≤◌, ◌⊎◌, List, [], ◌∷◌, ◌++◌, length, refl, ap, sym, ◌∙◌, arith, inl, inr, subst, length-append, append_assoc}
-use borrow.Author.Count.{below_more}
+use Rattle.std.proofs.Common.{◌≡◌, ℕ, ◌+◌, ◌<◌, ◌≤◌, ◌⊎◌, List, [], ◌∷◌, ◌++◌, length, ap, sym, ◌∙◌, arith, inl, inr, subst, length-append, append_assoc}
 use Rattle.std.proofs.lemmas.List.{get_or_default, append-nil}
 use Rattle.std.specs.Prelude.{slice_index_or}
 use Rattle.std.specs.List.{Contains}
@@ -10,10 +9,7 @@ use Rattle.sts_code.specs.Program.{Program}
 use Rattle.look_accepted.specs.declared.node.Node.{Node}
 use Rattle.look_accepted.specs.Nodes.{Comes, first, then, first_node, followers}
 use Rattle.look_accepted.specs.Found.{AreFound, Grows, Adds, IsSpread, AreAll}
-
--- a place in a longer list is an older one or the last
-pub split : (k n : ℕ) → k < n + 1 → (k < n) ⊎ (k ≡ n)
-split k n h = below_more (λ j. (j < n) ⊎ (j ≡ n)) n (λ j less. inl less) (inr refl) k h
+use Rattle.laws_words.proofs.NumberLemmas.{split}
 
 -- ---- lists that grow
 

@@ -46,7 +46,7 @@ budgets_plain [] bs = refl
 budgets_plain (r ∷ rs) [] = refl
 budgets_plain (r ∷ rs) (b ∷ bs) = budgets_plain rs bs
 
-verdict_plain : (p : Program) (text : List ℕ) (d : Data) → def.IsVerdict p text d → has_float d ≡ false
+pub verdict_plain : (p : Program) (text : List ℕ) (d : Data) → def.IsVerdict p text d → has_float d ≡ false
 verdict_plain p text d (def.accepts budgets accepted told is) = ap has_float is ∙ or_from _ _ (budgets_plain p.routines budgets) refl
 verdict_plain p text d (def.refuses f pc c refusal is) = ap has_float is ∙ or_from _ _ (maybe_plain (def.line_of text f pc)) refl
 

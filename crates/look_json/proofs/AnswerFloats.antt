@@ -1,26 +1,15 @@
 -- No answer to a text without a trace has a float.
-use Rattle.std.proofs.Common.{◌≡◌, ℕ, List, [], ◌∷◌, Result, Ok, Err, Some, None, false, refl, ap, ◌∙◌}
+use Rattle.std.proofs.Common.{◌≡◌, ℕ, List, Result, Ok, Err, Some, None, false, refl, ap, ◌∙◌}
 use Rattle.std.proofs.lemmas.Bool.{or_from}
 use Rattle.serde_json.specs.Data.{Data}
-use Rattle.serde_json.specs.View.{items_of}
-use Rattle.serde_json.specs.Written.{has_float, items_have_float}
+use Rattle.serde_json.specs.Written.{has_float}
 use Rattle.sts_asm.specs.Fault.{code_error}
 use Rattle.sts_asm.specs.Text.{judged}
 use Rattle.sts_asm.specs.declared.fault.AsmError.{AsmError}
-use Rattle.sts_code.specs.Program.{Program, Routine}
-use Rattle.sts_rules.specs.declared.budget.Budgets.{Budgets}
-use Rattle.look_cases.proofs.FloatLemmas.{maybe_plain, text_fault_plain}
+use Rattle.sts_code.specs.Program.{Program}
+use Rattle.look_cases.proofs.FloatLemmas.{text_fault_plain, verdict_plain}
 use Rattle.look_cases.specs.Answer as def
 use Rattle.look_json.specs.Explained.{case_of}
-
-budgets_plain : (rs : List Routine) (bs : List Budgets) → items_have_float (items_of (def.budget_list rs bs)) ≡ false
-budgets_plain [] bs = refl
-budgets_plain (r ∷ rs) [] = refl
-budgets_plain (r ∷ rs) (b ∷ bs) = budgets_plain rs bs
-
-verdict_plain : (p : Program) (text : List ℕ) (d : Data) → def.IsVerdict p text d → has_float d ≡ false
-verdict_plain p text d (def.accepts budgets accepted told is) = ap has_float is ∙ or_from _ _ (budgets_plain p.routines budgets) refl
-verdict_plain p text d (def.refuses f pc c refusal is) = ap has_float is ∙ or_from _ _ (maybe_plain (def.line_of text f pc)) refl
 
 answers_plain : (text : List ℕ) (r : Result Program AsmError) (d : Data) → def.Answers 1 (case_of text) r d → has_float d ≡ false
 answers_plain text (Ok p) d h = ap has_float h.2 ∙ or_from _ _ (verdict_plain p text h.0 h.1) refl

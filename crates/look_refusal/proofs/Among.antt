@@ -7,11 +7,6 @@ among_at [] i x lt e = absurd (omega arith)
 among_at (y ∷ ys) zero x lt e = inl e
 among_at (y ∷ ys) (suc i) x lt e = inr (among_at ys i x (omega arith) e)
 
-pub among_left : (xs ys : List ℕ) (x : ℕ) → Among xs x → Among (xs ++ ys) x
-among_left [] ys x a = absurd a
-among_left (y ∷ xs) ys x (inl e) = inl e
-among_left (y ∷ xs) ys x (inr a) = inr (among_left xs ys x a)
-
 pub among_last : (xs : List ℕ) (y : ℕ) → Among (xs ++ y ∷ []) y
 among_last [] y = inl refl
 among_last (x ∷ xs) y = inr (among_last xs y)

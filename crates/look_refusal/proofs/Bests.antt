@@ -9,8 +9,9 @@ use Rattle.look_refusal.specs.declared.trail.Best.{Best}
 use Rattle.look_refusal.specs.Leads.{AreLeads}
 use Rattle.look_refusal.specs.Search.{IsReady}
 use Rattle.look_refusal.specs.Trail.{handed, better, no_way, way_from, IsFrom, IsFromOne, IsBest, IsBestOf, IsRow, IsRowOf, KeepsWays}
-use Rattle.look_refusal.proofs.Among.{among_left, among_last, among_before}
+use Rattle.look_refusal.proofs.Among.{among_last, among_before}
 use Rattle.look_refusal.proofs.Leading.{handed_same, leads_later}
+use Rattle.sts_types.proofs.AmongLemmas.{among_left}
 
 module _ (s : Search) (best : ℕ → ℕ → ℕ) where
   -- no place was asked

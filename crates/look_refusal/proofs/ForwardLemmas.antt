@@ -22,6 +22,7 @@ use Rattle.sts_rules.specs.Edges.{edges, follows, to_optional, moved, or_cause, 
 use Rattle.sts_rules.specs.Flow.{Reaches, Leads}
 use Rattle.sts_rules.specs.TypeState.{TypeState, heads}
 use Rattle.sts_types.proofs.PromisingLemmas.{loops_around}
+use Rattle.sts_types.proofs.CauseLemmas.{none_here, or_cause_ok}
 
 -- ---- places
 
@@ -82,28 +83,19 @@ found t (x ∷ xs) c e = by (t x) refl e (λ h. found t xs c h)
     by true is e more = let same : x ≡ c = cc in subst (λ y. t y ≡ true) same is
     by false is e more = more e
 
--- if the first is not found, the rest is searched
-missed : (b : Bool) (c : Cause) (rest : Option Cause) → cond b (Some c) rest ≡ None → (b ≡ false) × (rest ≡ None)
-missed true c rest e = cc
-missed false c rest e = (refl, e)
-
 no_back_jump : (p : Program) (f pc : ℕ) (i : Instr) (s : TypeState) → least_cause p f pc i s ≡ None → jumps_back pc i ≡ false
 no_back_jump p f pc i s e =
     let t = holds p f pc i s in
-    let a = missed (t cause.StackUnder) cause.StackUnder _ e in
-    let b = missed (t cause.StackOver) cause.StackOver _ a.1 in
-    let c = missed (t cause.FallsOff) cause.FallsOff _ b.1 in
-    (missed (t cause.BackJump) cause.BackJump _ c.1).0
-
-fine : (o : Option Cause) (es out : List (ℕ × TypeState)) → or_cause o es ≡ Ok out → (o ≡ None) × (es ≡ out)
-fine None es out e = (refl, cc)
-fine (Some c) es out e = cc
+    let a = none_here (t cause.StackUnder) cause.StackUnder _ e in
+    let b = none_here (t cause.StackOver) cause.StackOver _ a.1 in
+    let c = none_here (t cause.FallsOff) cause.FallsOff _ b.1 in
+    (none_here (t cause.BackJump) cause.BackJump _ c.1).0
 
 -- if no cause holds at an instruction, its edges lead to later places
 pub forward : (p : Program) (f pc : ℕ) (s : TypeState) (out : List (ℕ × TypeState)) (to : ℕ) (x : TypeState) → edges p f pc s ≡ Ok out → Leads out to x → pc < to
 forward p f pc s out to x e l =
     let i : Instr = instr_at (routine p f).code pc in
-    let o = fine (least_cause p f pc i s) (follows p (routine p f).code pc i s) out e in
+    let o = or_cause_ok (least_cause p f pc i s) (follows p (routine p f).code pc i s) out e in
     let past : ArePast pc (targets i) = are_past pc (targets i) (no_back_jump p f pc i s o.0) in
     later pc out to x (subst (λ es. AreLater pc es) o.1 (follow_later p (routine p f).code pc i s past)) l
 

@@ -6,8 +6,9 @@ use Rattle.sts_rules.specs.ControlPaths.{Among}
 use Rattle.look_refusal.specs.declared.search.Search.{Search}
 use Rattle.look_refusal.specs.Leads.{AreAllLeads, AreNoted}
 use Rattle.look_refusal.specs.Search.{IsReady, LeadsOn}
-use Rattle.look_refusal.proofs.Among.{among_left, among_last, among_before}
+use Rattle.look_refusal.proofs.Among.{among_last, among_before}
 use Rattle.look_refusal.proofs.Leading.{leads_later}
+use Rattle.sts_types.proofs.AmongLemmas.{among_left}
 
 no_list : (n to : ℕ) → get_or (replicate {A = List ℕ} n []) to [] ≡ []
 no_list zero to = refl

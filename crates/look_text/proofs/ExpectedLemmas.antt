@@ -19,8 +19,10 @@ use Rattle.look_text.specs.declared.wanted.Expected.{Expected}
 use Rattle.look_text.specs.declared.wanted.Expected.TheVariants as w
 use Rattle.look_text.specs.Wanted.{fits, stop, of_mnemonic, after_inner, after_first, is_profile}
 use Rattle.look_text.specs.WrongWord.{IsWrong, wrong, missing, Stops, IsOfOperand}
-use Rattle.look_text.proofs.StopLemmas.{StopsFrom, allows, one, one_on, spelled, nothing, none_of, same_kind}
-use Rattle.look_text.proofs.OperandLemmas.{same, named_fits, operands}
+use Rattle.look_text.proofs.StopLemmas.{StopsFrom, allows, one, one_on, spelled, nothing, same_kind}
+use Rattle.look_text.proofs.OperandLemmas.{named_fits, operands}
+use Rattle.laws_words.proofs.OptionLemmas.{none_of}
+use Rattle.sts_asm.proofs.TableLemmas.{same}
 
 -- ---- what is read is put elsewhere
 

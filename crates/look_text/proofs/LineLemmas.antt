@@ -4,6 +4,7 @@ use Rattle.std.specs.Prelude.{if◌then◌else◌, Some, codes, option_map, slic
 use Rattle.std.proofs.lemmas.List.{append-nil}
 use Rattle.sts_asm.specs.declared.fault.AsmKind.TheVariants.{UnknownWord, DuplicateLabel}
 use Rattle.sts_list.specs.Spelling.{after_spaces}
+use Rattle.laws_words.proofs.AppendLemmas.{two_parts}
 use Rattle.look_text.specs.declared.wanted.Expected.{Expected}
 use Rattle.look_text.specs.declared.wanted.Expected.TheVariants.{NewLabel}
 use Rattle.look_text.specs.Wanted.{Stop, stop, behind, fits, after, first_wrong, in_place_of, wrong_place}
@@ -11,9 +12,7 @@ use Rattle.look_text.specs.Wrong.{bracketed, expected_words, wanted_words, stop_
 
 -- three texts are appended in a row
 pub three_said : (a b d before one two three : List ℕ) → one ≡ before ++ a → two ≡ one ++ b → three ≡ two ++ d → three ≡ before ++ (a ++ (b ++ d))
-three_said a b d before one two three e f g =
-    g ∙ ap (λ (x : List ℕ). x ++ d) (f ∙ ap (λ (x : List ℕ). x ++ b) e ∙ append_assoc before a b)
-    ∙ append_assoc before (a ++ b) d ∙ ap (λ (x : List ℕ). before ++ x) (append_assoc a b d)
+three_said a b d before one two three e f g = two_parts before a (b ++ d) one three e (two_parts one b d two three f g)
 
 pub behind_words : (word : List ℕ) (s : Stop) → stop_words (behind word s) ≡ (32 ∷ word) ++ stop_words s
 behind_words word s =
@@ -35,10 +34,6 @@ one_word_said wanted next word words left before space after_word e f n g h =
     let whole : stop_words (stop wanted words) ≡ (32 ∷ word) ++ rest = ap (λ (ws : List (List ℕ)). stop_words (stop wanted ws)) e ∙ ap stop_words (stop_behind wanted word left f) ∙ behind_words word (stop (after wanted word) left) in
     ap (λ (w : Expected). after_word ++ stop_words (stop w left)) n ∙ ap (λ (x : List ℕ). x ++ rest) said ∙ append_assoc before (32 ∷ word) rest
     ∙ ap (λ (x : List ℕ). before ++ x) (sym whole)
-
--- one text more
-pub said_on : (before said more first second : List ℕ) → first ≡ before ++ said → second ≡ first ++ more → second ≡ before ++ (said ++ more)
-said_on before said more first second e f = f ∙ ap (λ (x : List ℕ). x ++ more) e ∙ append_assoc before said more
 
 -- the fault of a first word is in it, if there is one
 pub unknown_first : (inside : Bool) (words : List (List ℕ)) → wrong_place UnknownWord inside words ≡ option_map (first_wrong (in_place_of inside)) (slice_get words 0)

@@ -2,7 +2,6 @@
 use Rattle.std.proofs.Common.{◌≡◌, ℕ, ◌^◌, ◌-◌, Bool, true, false, cond, List, [], ◌∷◌, refl, sym, ap, ◌∙◌}
 use Rattle.std.specs.Prelude.{Option, Some, None, Result, Ok, is_some, codes, ◌||◌}
 use Rattle.std.specs.Str.{bytes_eq}
-use Rattle.std.proofs.lemmas.Slice.Eq.{bytes_eq-Decides}
 use Rattle.std.proofs.lemmas.Bool.{or_parts}
 use Rattle.sts_code.specs.Name.{is_name}
 use Rattle.sts_code.specs.declared.instr.Instr.{Instr}
@@ -27,16 +26,15 @@ use Rattle.look_text.specs.declared.wanted.Expected.{Expected}
 use Rattle.look_text.specs.declared.wanted.Expected.TheVariants as w
 use Rattle.look_text.specs.Wanted.{fits, after, of_mnemonic}
 use Rattle.look_text.specs.WrongWord.{Allows}
-use Rattle.look_text.proofs.StopLemmas.{StopsFrom, FailsAfter, GoesOnAfter, allows, one, spelled, nothing, none_of}
+use Rattle.look_text.proofs.StopLemmas.{StopsFrom, FailsAfter, GoesOnAfter, allows, one, spelled, nothing}
+use Rattle.laws_words.proofs.OptionLemmas.{none_of}
+use Rattle.sts_asm.proofs.TableLemmas.{same}
 
 -- ---- truths
 
 pub or_other : (a b : Bool) → a ≡ false → (a || b) ≡ true → b ≡ true
 or_other true b f e = absurd (cc)
 or_other false b f e = e
-
-pub same : (u v : List ℕ) → bytes_eq u v ≡ true → u ≡ v
-same u v e = (bytes_eq-Decides u v).0 e
 
 -- ---- one word that spells something
 

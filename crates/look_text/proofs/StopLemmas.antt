@@ -9,6 +9,7 @@ use Rattle.look_text.specs.declared.wanted.Expected.{Expected}
 use Rattle.look_text.specs.declared.wanted.Expected.TheVariants as w
 use Rattle.look_text.specs.Wanted.{Stop, stop, behind, fits, after}
 use Rattle.look_text.specs.WrongWord.{Allows, IsWrong, wrong, missing, Stops}
+use Rattle.laws_words.proofs.OptionLemmas.{none_of}
 
 -- The state in which reading begins, and what is expected there.
 abbrev pub StopsFrom : {X : Type 0} → Expected → (List (List ℕ) → Result X AsmKind) → Type 0
@@ -24,10 +25,6 @@ GoesOnAfter {X} s read word = (next : List (List ℕ) → Result X AsmKind) × (
 
 pub same_kind : {X : Type 0} (a b : AsmKind) (r : Result X AsmKind) → r ≡ Err a → r ≡ Err b → a ≡ b
 same_kind a b r e f = cc
-
-pub none_of : {A : Type 0} (o : Option A) → is_some o ≡ false → o ≡ None
-none_of None e = refl
-none_of (Some x) e = absurd (cc)
 
 -- words with which all is well
 pub allows : {X : Type 0} (read : List (List ℕ) → Result X AsmKind) (more : List (List ℕ)) (x : X) → read more ≡ Ok x → (kind : AsmKind) → Allows read kind []

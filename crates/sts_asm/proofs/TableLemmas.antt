@@ -46,7 +46,7 @@ use Rattle.sts_asm.specs.Table.{IsWord, IsJoiner, IsTimed, ReadByTable}
 is_dash : List ℕ → Bool
 is_dash u = bytes_eq u (codes "-")
 
-same : (u v : List ℕ) → bytes_eq u v ≡ true → u ≡ v
+pub same : (u v : List ℕ) → bytes_eq u v ≡ true → u ≡ v
 same u v e = (bytes_eq-Decides u v).0 e
 
 some_handle : (b : Bool) (u : List ℕ) (s : ℕ) → bytes_eq u (codes "_") ≡ b → slot u ≡ Some s → cond b (Some None) (option_map (λ h. Some h) (slot u)) ≡ Some (Some s)

@@ -1,5 +1,5 @@
 -- The code and the pass hand on the same values at a place.
-use Rattle.std.proofs.Common.{◌≡◌, ℕ, zero, suc, ◌+◌, ◌*◌, ◌<◌, ◌≤◌, max, min, inl, inr, List, []}
+use Rattle.std.proofs.Common.{◌≡◌, ℕ, ◌+◌, ◌*◌, ◌<◌, ◌≤◌, max, min, inl, inr, List, []}
 use Rattle.std.proofs.Common.{◌∷◌, ◌++◌, length, get_or, replicate, true, false, Option, unwrap_or}
 use Rattle.std.proofs.Common.{refl, sym, ap, ◌∙◌, subst, arith, Bool, pos}
 use Rattle.std.proofs.lemmas.List.{length-replicate, get_or-replicate}
@@ -34,6 +34,7 @@ use Rattle.sts_budget.proofs.SumsLemmas.{IsSourced, go_stands, loop_stands}
 use Rattle.sts_budget.proofs.Forward.{among_cases, partial_more, sourced}
 use Rattle.sts_budget.proofs.FourKindLemmas.{fits}
 use Rattle.sts_budget.proofs.HandedValues.{value_of_ordinary}
+use Rattle.laws_words.proofs.ListLemmas.{zeros}
 
 -- an instruction of the code, which is not quiet
 pub not_quiet : (code : List Instr) (pc : ℕ) (b : Bool) → pc < length code → b ≡ is_quiet (get_or code pc (Push (pos 0))) → b ≡ false → (get_or code pc (Push (pos 0)) ≡ instr_at code pc) × (is_quiet (instr_at code pc) ≡ false)
@@ -219,11 +220,6 @@ module _ (k : Resource) (earlier : List Budgets) (code : List Instr) (l : Layout
       nothing : (pc d m : ℕ) → Handed c f (read rows) 0 pc d m → ⊥
       nothing pc d m (over_go from to x places lt e among low) = omega arith
       nothing pc d m (over_loop p n x lt e low) = omega arith
-
-      zeros : (n d : ℕ) → get_or {A = ℕ} (replicate n 0) d 0 ≡ 0
-      zeros zero d = refl
-      zeros (suc n) zero = refl
-      zeros (suc n) (suc d) = zeros n d
 
       zero_at : (pc d : ℕ) → pc < length code → read rows pc d ≡ 0
       zero_at pc d lt = ap (λ (xs : List (List ℕ)). get_or (get_or xs pc []) d 0) e ∙ ap (λ (x : List ℕ). get_or x d 0) (get_or-replicate (length code) pc (replicate n 0) [] lt) ∙ zeros n d

@@ -1,5 +1,5 @@
 -- The last turns: the greatest sums of all places, from the table.
-use Rattle.std.proofs.Common.{◌≡◌, ◌≢◌, ℕ, zero, suc, ◌+◌, ◌-◌, ◌*◌, ◌<◌, ◌≤◌, ◌⊎◌, max, inl, inr}
+use Rattle.std.proofs.Common.{◌≡◌, ◌≢◌, ℕ, ◌+◌, ◌-◌, ◌*◌, ◌<◌, ◌≤◌, ◌⊎◌, max, inl, inr}
 use Rattle.std.proofs.Common.{List, [], ◌∷◌, length, get_or, set, replicate, Option, Some, None}
 use Rattle.std.proofs.Common.{IfSome, rules, refl, sym, ap, ◌∙◌, subst, arith, length-set}
 use Rattle.std.proofs.Common.{mul-le-mul, get_or-set_same, get_or-set_other}
@@ -31,6 +31,7 @@ use Rattle.sts_budget.proofs.Forward.{is_table}
 use Rattle.sts_budget.proofs.FourKindLemmas.{stands_exceeds, top_is_most}
 use Rattle.sts_budget.proofs.HandOn.{fits_here, heads_right, counts_times, counts_next}
 use Rattle.sts_budget.proofs.SumsLemmas.{IsTable, point_attained, full_inside, full_outside}
+use Rattle.laws_words.proofs.ListLemmas.{zeros}
 
 pub limit_small : (k : Resource) → limit_of k ≤ 1000000
 limit_small Steps = omega arith
@@ -121,11 +122,6 @@ module _ (k : Resource) (earlier : List Budgets) (code : List Instr) (l : Layout
     right = λ h n lt t. absurd (omega arith);
     small = λ i. (let z : get_or bases i 0 ≡ 0 = ap (λ (xs : List ℕ). get_or xs i 0) e ∙ zeros (length code) i in omega arith);
   }
-    where
-      zeros : (n i : ℕ) → get_or {A = ℕ} (replicate n 0) i 0 ≡ 0
-      zeros zero i = refl
-      zeros (suc n) zero = refl
-      zeros (suc n) (suc i) = zeros n i
 
   pub bases_next : (pc full' end : ℕ) (bases bases' : List ℕ) → pc < length code → HasBases k earlier code l rows pc bases → full' ≡ here pc → full' < 4294967296 → end < 4294967296 → ((n : ℕ) → instr_at code pc ≡ Times n → (n < 65536) × (end ≡ read rows (c.mate pc) (depth_of k (names_in l pc)))) → bases' ≡ bases_after (instr_at code pc) pc (own_step k) full' end bases → HasBases k earlier code l rows (pc + 1) bases'
   bases_next pc full' end bases bases' lt b full_here low low' at e = elim (is_times_or (instr_at code pc) pc (own_step k) full' end bases) [ inl t ↦ subst (HasBases k earlier code l rows (pc + 1)) (sym (e ∙ ap (λ i. bases_after i pc (own_step k) full' end bases) t.1)) (opens t.0 t.1) | inr other ↦ subst (HasBases k earlier code l rows (pc + 1)) (sym (e ∙ other.1)) (same other.0) ]

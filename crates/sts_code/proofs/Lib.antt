@@ -1,4 +1,5 @@
 pub mod CheckedLemmas
+pub mod EqualLemmas
 pub mod InstrLemmas
 pub mod LimitLemmas
 pub mod LoopLemmas

@@ -18,7 +18,7 @@ pub match_of_bound : (code : List Instr) (at m : ℕ) → match_of code at ≡ S
 match_of_bound code at m e =
     let h = find_some (λ q. is_balanced (slice_range code at (q + 1))) (at + 1) (length code - (at + 1)) m e in omega arith
 
-as_count : (b : Bool) → bool_byte b ≡ cond b 1 0
+pub as_count : (b : Bool) → bool_byte b ≡ cond b 1 0
 as_count true = refl
 as_count false = refl
 

@@ -2,23 +2,13 @@
 use Rattle.std.proofs.Common.{◌≡◌, ◌≢◌, ℕ, zero, suc, ◌<◌, List, [], ◌∷◌, ◌++◌, Option, Some, None}
 use Rattle.std.proofs.Common.{refl, sym, ◌∙◌, subst, arith, nat_eq, Bool, true, false}
 use Rattle.std.proofs.lemmas.Bool.Decides.{nat_tests}
-use Rattle.sts_env.specs.Environments.{Records, AreWhole, NotIn, keys, keys_of, record_at}
+use Rattle.sts_env.specs.Environments.{Records, AreWhole, keys, keys_of, record_at}
+use Rattle.laws_words.specs.Keys.{NotIn}
+use Rattle.laws_words.proofs.KeyLemmas.{not_front, not_back, not_both}
 use Rattle.sts_env.specs.Sharing.{Sharing, Lives, IsOpen, inherited, IsSharing, IsLastBinding}
 use Rattle.sts_env.specs.Sharing.{FrontIsUnshared}
 use Rattle.sts_env.specs.declared.env.Record.{Record}
 use Rattle.sts_env.proofs.WalkLemmas.{front_of, keys_cons, longer}
-
-not_both : (k : ℕ) (xs ys : List ℕ) → NotIn k xs → NotIn k ys → NotIn k (xs ++ ys)
-not_both k [] ys h l = l
-not_both k (x ∷ xs) ys h l = (h.0, not_both k xs ys h.1 l)
-
-pub not_front : (k : ℕ) (xs ys : List ℕ) → NotIn k (xs ++ ys) → NotIn k xs
-not_front k [] ys h = tt
-not_front k (x ∷ xs) ys h = (h.0, not_front k xs ys h.1)
-
-not_back : (k : ℕ) (xs ys : List ℕ) → NotIn k (xs ++ ys) → NotIn k ys
-not_back k [] ys h = h
-not_back k (x ∷ xs) ys h = not_back k xs ys h.1
 
 -- the first key is the front
 front_of_keys : (at : ℕ → Option Record) (n : ℕ) (front : Option ℕ) (k : ℕ) (rest : List ℕ) → keys at n front ≡ k ∷ rest → front ≡ Some k

@@ -3,7 +3,8 @@ use Rattle.std.proofs.Common.{◌≡◌, ◌≢◌, ℕ, zero, suc, ◌≤◌, L
 use Rattle.std.proofs.Common.{false, refl, ap, sym, ◌∙◌, arith, subst}
 use Rattle.std.specs.Prelude.{nat_eq}
 use Rattle.std.proofs.lemmas.Bool.Decides.{nat_tests}
-use Rattle.sts_env.specs.Environments.{NotIn, AreWhole, keys, bindings}
+use Rattle.sts_env.specs.Environments.{AreWhole, keys, bindings}
+use Rattle.laws_words.specs.Keys.{NotIn}
 use Rattle.sts_model.specs.Environment.{read}
 use Rattle.sts_env.specs.declared.env.Record.{Record}
 

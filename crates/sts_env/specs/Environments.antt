@@ -4,6 +4,7 @@
 -- force when its scope was opened. It is this project's own that environments share records.
 use Rattle.std.specs.Prelude.{◌≡◌, ◌≢◌, ℕ, zero, suc, List, [], ◌∷◌, Option, Some, None}
 use Rattle.std.specs.Prelude.{slice_index_or}
+use Rattle.laws_words.specs.Keys.{NotIn}
 use Rattle.sts_env.specs.declared.env.Env.{Env}
 use Rattle.sts_env.specs.declared.env.Record.{Record}
 use Rattle.sts_model.specs.declared.record.Bound.{Bound}
@@ -48,11 +49,6 @@ keys_of records env = keys (record_at records) env.length env.front
 -- the environment's bindings, innermost first
 abbrev pub list_of : Records → Env → List Bound
 list_of records env = bindings (record_at records) env.length env.front
-
--- the list doesn't have the key
-abbrev pub NotIn : ℕ → List ℕ → Type 0
-NotIn k [] = Unit {0}
-NotIn k (x ∷ xs) = (k ≢ x) × NotIn k xs
 
 -- the environment is whole afterwards, with the records and the bindings that it had
 pub record Stays (old new : Records) (env : Env) : Type 0 where

@@ -2,7 +2,8 @@
 -- Restates "Description" of JEP 506: a subtask inherits the bindings of its scope, and binds in
 -- front of them. It is this project's own that environments share records.
 use Rattle.std.specs.Prelude.{◌≡◌, ◌≢◌, ℕ, ◌<◌, List, [], ◌∷◌, ◌++◌, Option, Some, None, Bool, true}
-use Rattle.sts_env.specs.Environments.{Records, IsWhole, keys_of, NotIn}
+use Rattle.sts_env.specs.Environments.{Records, IsWhole, keys_of}
+use Rattle.laws_words.specs.Keys.{NotIn}
 use Rattle.sts_env.specs.declared.env.Env.{Env}
 
 -- tasks and scopes, with their environments

@@ -15,7 +15,7 @@ use Rattle.sts_model.specs.declared.event.End.TheVariants.{Success, Failed}
 use Rattle.sts_model.specs.Joining.{is_success, is_failure, cancels, result_of, plus_value}
 use Rattle.sts_model.specs.Told.{told, tell, reaches, result_told, cancels_told}
 use Rattle.sts_joiners.specs.Enough.{IsEnough}
-use Rattle.sts_joiners.specs.Tallied.{Tallied, StandsFor, with_end}
+use Rattle.sts_joiners.specs.Tallied.{Tallied, StandsFor, ends_told, with_end}
 
 any_found : (test : End → Bool) (xs : List End) → list_any test xs ≡ is_some (find test xs)
 any_found test [] = refl
@@ -65,3 +65,8 @@ stands_with tally e ends h = ap (λ t. tell tally.joiner t e) h ∙ sym (more ta
 -- the counters with one more end cancel if the longer list does
 pub asks_with : (tally : Tallied) (e : End) (ends : List End) → StandsFor tally ends → cancels_told tally.joiner (with_end tally e).told ≡ cancels tally.joiner (ends ++ e ∷ [])
 asks_with tally e ends h = ap (cancels_told tally.joiner) (stands_with tally e ends h) ∙ sym (cancel tally.joiner (ends ++ e ∷ []))
+
+-- one end more
+pub one_told : (tally : Tallied) (end : End) → ends_told (with_end tally end) ≡ ends_told tally + 1
+one_told tally (Success v) = omega arith
+one_told tally (Failed c) = omega arith

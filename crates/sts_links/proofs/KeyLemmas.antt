@@ -2,24 +2,14 @@
 use Rattle.std.proofs.Common.{◌≡◌, ◌≢◌, ℕ, List, [], ◌∷◌, ◌++◌, Option, Some, None, refl, sym, ◌∙◌}
 use Rattle.std.proofs.Common.{append-nil}
 use Rattle.std.specs.List.{last_or}
-use Rattle.sts_links.specs.Lists.{first_or, NotIn, AreDistinct, AreApart, if_none}
+use Rattle.sts_links.specs.Lists.{first_or, AreDistinct, AreApart, if_none}
+use Rattle.laws_words.specs.Keys.{NotIn}
+use Rattle.laws_words.proofs.KeyLemmas.{not_front, not_back, not_both}
 
 -- the last of some keys is one of them
 pub last_not : (k y : ℕ) (ys : List ℕ) (p : Option ℕ) → NotIn k (y ∷ ys) → last_or p (y ∷ ys) ≢ Some k
 last_not k y [] p h e = h.0 (cc)
 last_not k y (z ∷ zs) p h e = last_not k z zs (Some y) h.1 e
-
-pub not_front : (k : ℕ) (xs ys : List ℕ) → NotIn k (xs ++ ys) → NotIn k xs
-not_front k [] ys h = tt
-not_front k (x ∷ xs) ys h = (h.0, not_front k xs ys h.1)
-
-pub not_back : (k : ℕ) (xs ys : List ℕ) → NotIn k (xs ++ ys) → NotIn k ys
-not_back k [] ys h = h
-not_back k (x ∷ xs) ys h = not_back k xs ys h.1
-
-pub not_both : (k : ℕ) (xs ys : List ℕ) → NotIn k xs → NotIn k ys → NotIn k (xs ++ ys)
-not_both k [] ys h l = l
-not_both k (x ∷ xs) ys h l = (h.0, not_both k xs ys h.1 l)
 
 pub distinct_front : (xs ys : List ℕ) → AreDistinct (xs ++ ys) → AreDistinct xs
 distinct_front [] ys d = tt

@@ -2,6 +2,7 @@
 -- This project's own.
 use Rattle.std.specs.Prelude.{◌≡◌, ◌≢◌, ℕ, List, [], ◌∷◌, Option, Some, None}
 use Rattle.std.specs.List.{last_or}
+use Rattle.laws_words.specs.Keys.{NotIn}
 use Rattle.sts_links.specs.declared.links.Link.{Link}
 use Rattle.sts_links.specs.declared.links.Ends.{Ends}
 
@@ -9,11 +10,6 @@ use Rattle.sts_links.specs.declared.links.Ends.{Ends}
 abbrev pub first_or : List ℕ → Option ℕ → Option ℕ
 first_or [] next = next
 first_or (k ∷ ks) next = Some k
-
--- the list doesn't have the key
-abbrev pub NotIn : ℕ → List ℕ → Type 0
-NotIn k [] = Unit {0}
-NotIn k (x ∷ xs) = (k ≢ x) × NotIn k xs
 
 -- no key comes twice
 abbrev pub AreDistinct : List ℕ → Type 0

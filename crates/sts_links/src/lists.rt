@@ -4,7 +4,8 @@ ghost use Rattle.std.specs.Prelude.{◌≡◌, ◌≢◌, ℕ, List, [], ◌∷�
 ghost use Rattle.sts_links.specs.declared.links.Ends.{Ends};
 ghost use Rattle.sts_links.specs.declared.links.Link.{Link};
 ghost use Rattle.sts_links.specs.Lists as chain;
-ghost use Rattle.sts_links.specs.Lists.{IsList, NotIn, Relinks, BecomesList, first_or, with_after};
+ghost use Rattle.sts_links.specs.Lists.{IsList, Relinks, BecomesList, first_or, with_after};
+ghost use Rattle.laws_words.specs.Keys.{NotIn};
 ghost use Rattle.sts_links.specs.Lists.{with_before};
 
 use crate::links::{Ends, Link, Links};

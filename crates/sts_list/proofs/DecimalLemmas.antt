@@ -1,5 +1,5 @@
-use Rattle.std.proofs.Common.{◌≡◌, ℕ, suc, ◌<◌, ◌≤◌, ◌^◌, true, false, List, [], ◌∷◌, length, refl}
-use Rattle.std.proofs.Common.{◌∙◌, ap, arith, get_or}
+use Rattle.std.proofs.Common.{◌≡◌, ℕ, suc, ◌<◌, ◌≤◌, ◌^◌, true, ◌∷◌, length, refl}
+use Rattle.std.proofs.Common.{◌∙◌, ap, arith}
 use Rattle.std.specs.Prelude.{◌==◌, not, nat_le, nat_lt, Some, ℤ, pos, negsuc}
 use Rattle.std.specs.List.{list_all}
 use Rattle.std.specs.Char.{is_ascii_digit}
@@ -7,7 +7,6 @@ use Rattle.std.specs.Fmt.{decimal, signed_decimal}
 use Rattle.std.proofs.lemmas.Fmt.{digits_decimal, digits_value-decimal, decimal_nonempty}
 use Rattle.std.proofs.lemmas.Fmt.{length-decimal-le}
 use Rattle.std.proofs.lemmas.Bool.Decides.{nat_tests}
-use Rattle.std.proofs.lemmas.Bool.{and_parts}
 use Rattle.sts_code.specs.Name.{is_name, is_name_byte}
 use Rattle.sts_text.specs.Number.{number, number_up_to, up_to}
 use Rattle.sts_text.proofs.NumberLemmas.{own, decimal_is_digits}
@@ -15,6 +14,7 @@ use Rattle.sts_asm.specs.Operand as operand
 use Rattle.sts_list.specs.Spelling.{label, slot}
 use Rattle.sts_list.specs.RoundTrip.{IsValue}
 use Rattle.sts_list.proofs.ByteLemmas.{is_plain, all_implied, IsWord}
+use Rattle.sts_text.proofs.BackLemmas.{no_minus}
 
 digit_plain : (b : ℕ) → is_ascii_digit b ≡ true → is_plain b ≡ true
 digit_plain b e = grind (arith, nat_tests)
@@ -28,15 +28,11 @@ digits_of n h = digits_decimal own n h
 pub decimal_word : (n : ℕ) → n < 2 ^ 64 → IsWord (decimal n)
 decimal_word n h = record { filled = decimal_nonempty n h; plain = all_implied is_ascii_digit is_plain digit_plain (decimal n) (digits_of n h) }
 
-no_minus_at : (ds : List ℕ) → list_all is_ascii_digit ds ≡ true → (get_or ds 0 0 == 45) ≡ false
-no_minus_at [] e = refl
-no_minus_at (d ∷ ds) e = let h = (and_parts (is_ascii_digit d) (list_all is_ascii_digit ds) e).0 in grind (arith, nat_tests)
-
 pub positive_read : (n : ℕ) → n < 2 ^ 63 → number (decimal n) ≡ Some (pos n)
 positive_read n h =
     let wide : n < 2 ^ 64 = omega arith in
     let small : nat_lt n (2 ^ 63) ≡ true = grind (arith, nat_tests) in
-    rw (no_minus_at (decimal n) (digits_of n wide), decimal_is_digits n wide, digits_value-decimal own n wide, small) refl
+    rw (no_minus (decimal n) (digits_of n wide), decimal_is_digits n wide, digits_value-decimal own n wide, small) refl
 
 pub number_read : (most n : ℕ) → n ≤ most → n < 2 ^ 63 → number_up_to most (decimal n) ≡ Some n
 number_read most n h small =

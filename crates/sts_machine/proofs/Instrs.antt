@@ -5,44 +5,13 @@ use Rattle.std.proofs.lemmas.Bool.{and_parts, false≢true}
 use Rattle.std.specs.Bool.{Decides}
 use Rattle.std.proofs.lemmas.Bool.Decides.{Decides-int_eq}
 use Rattle.std.specs.contracts.prelude.BoolPartialEq.TheImpl as bool_eq
-use Rattle.sts_code.specs.declared.instr.Pred.{Pred}
-use Rattle.sts_code.specs.declared.instr.Pred.TheVariants as pred
 use Rattle.sts_code.specs.declared.instr.Joiner.{Joiner}
-use Rattle.sts_code.specs.declared.instr.Joiner.TheVariants.{Until}
 use Rattle.sts_code.specs.declared.instr.Kind.{Kind}
 use Rattle.sts_code.specs.declared.instr.Instr.{Instr}
 use Rattle.sts_code.specs.declared.instr.Instr.TheVariants.{Push, Pop, Dup, Swap, Load, Store, Add, Sub, Mul, Lt, Eq, Div, Jmp, Jz, Times, Next, Open, Fork, Join, Close, Cancelled, Case, Get, Except, Tally, Total, Forget, Bind, Unbind, Read, Bound, OrElse, Interrupted, Ret, Fail}
-use Rattle.sts_code.specs.contracts.instr.PredPartialEq.TheImpl as pred_eq
 use Rattle.sts_code.specs.contracts.instr.JoinerPartialEq.TheImpl as joiner_eq
 use Rattle.sts_code.specs.contracts.instr.InstrPartialEq.TheImpl as instr_eq
-
--- ---- what instructions are made of
-
-pred-to : (a b : Pred) → pred_eq.eq-value.it a b ≡ true → a ≡ b
-pred-to (pred.AtLeast x) (pred.AtLeast y) e = let h = (Decides-int_eq x y).0 e in cc
-pred-to a b e = grind arith
-
-pred-from : (a : Pred) → pred_eq.eq-value.it a a ≡ true
-pred-from (pred.AtLeast x) = (Decides-int_eq x x).1 refl
-pred-from a = grind arith
-
-joiner-to : (a b : Joiner) → joiner_eq.eq-value.it a b ≡ true → a ≡ b
-joiner-to (Until x) (Until y) e = let h = pred-to x y e in cc
-joiner-to a b e = grind arith
-
-joiner-from : (a : Joiner) → joiner_eq.eq-value.it a a ≡ true
-joiner-from (Until x) = pred-from x
-joiner-from a = grind arith
-
-bool-to : (a b : Bool) → bool_eq.ghosts.eq a b ≡ true → a ≡ b
-bool-to true true e = refl
-bool-to false false e = refl
-bool-to true false e = cc
-bool-to false true e = cc
-
-bool-from : (a : Bool) → bool_eq.ghosts.eq a a ≡ true
-bool-from true = refl
-bool-from false = refl
+use Rattle.sts_code.proofs.EqualLemmas.{joiner-to, joiner-from, bool-to, bool-from}
 
 all_three : (a b c : Bool) → a ≡ true → b ≡ true → c ≡ true → (a && (b && c)) ≡ true
 all_three a b c p q r = simp (p, q, r)

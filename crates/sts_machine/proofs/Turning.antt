@@ -38,6 +38,7 @@ use Rattle.sts_machine.specs.Room.{HasRoomLeft, HasRoomOf, is_living}
 use Rattle.sts_machine.specs.Standing.{AreStanding}
 use Rattle.sts_machine.specs.Turned.{turned}
 use Rattle.sts_machine.specs.declared.turned.Turned.{Turned}
+use Rattle.laws_words.proofs.BoolLemmas.{at_most_one}
 
 -- ---- events that count, and others
 
@@ -113,13 +114,9 @@ living_few (x ∷ xs) =
     let here = one x in
     omega (arith, rest, living, standing, here)
   where
-    some_few : (b : Bool) → cond b 1 0 ≤ 1
-    some_few true = omega arith
-    some_few false = omega arith
-
     one : (y : Option LiveTask) → cond (is_living y) 1 0 ≤ cond (is_some y) 1 0
     one None = omega arith
-    one (Some task) = some_few (is_some task.alive)
+    one (Some task) = at_most_one (is_some task.alive)
 
 -- the numbers that count are below the budgets, so there is room
 left : (b : Budgets) (v : Live) (u : Unseen) (f : Frame) (i : Instr) → HasRoomOf b v u → LiveHasRoomFor b v f i → HasRoomLeft u f i

@@ -42,3 +42,7 @@ IsFine-from_fault p w t f i e =
 -- if nothing is misused, the instruction that a task is at is fine
 pub fine : (p : Program) (w : World) (t : ℕ) (i : Instr) → misuse p w t ≡ None → instr_at p (task_at w t).frame ≡ Some i → IsFine p w t (task_at w t).frame i
 fine p w t i e at = IsFine-from_fault p w t (task_at w t).frame i (rw at at e)
+
+-- an instruction that is fine has no fault
+pub fine_no_fault : (p : Program) (w : World) (t : ℕ) (f : Frame) (i : Instr) → IsFine p w t f i → fault_of p w t f i ≡ None
+fine_no_fault p w t f i h = rw (h.operands, h.room, h.loops, h.slots, h.joins, h.births, h.own, h.legal, h.structure, h.bound) refl

@@ -6,6 +6,7 @@ use Rattle.sts_model.specs.declared.event.Event.{Event}
 use Rattle.sts_model.specs.World.{State}
 use Rattle.sts_model.specs.Run.{apply, counts, is_step, taken_from}
 use Rattle.sts_plain.specs.Seen.{Seen, after_event, one_more}
+use Rattle.laws_words.proofs.BoolLemmas.{at_most_one}
 
 abbrev same : Program → State → ℕ → Seen
 same p state n = record { program = p; state = state; steps = n }
@@ -25,10 +26,6 @@ seen_after [] p state n h = let e : n ≡ min (n + 0) (2 ^ 64 - 1) = omega arith
 seen_after (e ∷ es) p state n h =
     seen_after es p (apply p state e) (one_more (is_step e && counts p state e) n) (at_most (is_step e && counts p state e) n h)
     ∙ ap (λ (m : ℕ). same p (fold (apply p) (apply p state e) es) m) (summed (is_step e && counts p state e) n (taken_from p (apply p state e) es) h)
-
-at_most_one : (b : Bool) → cond b 1 0 ≤ 1
-at_most_one true = omega arith
-at_most_one false = omega arith
 
 -- no more steps are taken than there are events
 pub taken_few : (es : List Event) (p : Program) (state : State) → taken_from p state es ≤ length es

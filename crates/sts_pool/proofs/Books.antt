@@ -1,7 +1,6 @@
 -- Each call keeps the facts of a book.
 use Rattle.std.proofs.Common.{◌≡◌, ℕ, ◌+◌, ◌≤◌, List, [], ◌∷◌, ◌++◌, length, Bool, true, false, not, Option, Some, None, inl, inr, refl, sym, ◌∙◌, subst, cond, is_some, ◌==◌, ◌&&◌, arith, length-append, count_by, filter}
 use Rattle.std.proofs.lemmas.Bool.{and_parts, and_from, and_left, and_right, cond-true, not-true, not_from_false, not_from_true}
-use Rattle.std.proofs.lemmas.Bool.Decides.{nat_tests}
 use Rattle.std.proofs.lemmas.List.{length-replicate}
 use Rattle.std.proofs.lemmas.List.Filters.{length-filter_both}
 use Rattle.std.proofs.lemmas.List.Folds.{sum_by-replicate}
@@ -37,7 +36,7 @@ use Rattle.sts_pool.specs.Book.{BookSeen, HasBookRoom, IsBook, is_free}
 use Rattle.sts_pool.specs.Outside.{outside_entries}
 use Rattle.sts_pool.specs.Report.{IsBounded, IsReport, IsUnfinished}
 use Rattle.sts_pool.proofs.OutsideLemmas.{entries_more}
-use Rattle.sts_pool.proofs.Outs.{among, among_more, apart_more, apart_without, few_from_apart, was_among, without}
+use Rattle.sts_pool.proofs.Outs.{among, among_more, apart_more, apart_without, few_from_apart, same_from, was_among, without}
 
 -- ---- a new one
 
@@ -89,12 +88,9 @@ stepped_book m x journal out t is stay stands live steps can absent =
     others : (u : ℕ) → among out u ≡ true → (u == t) ≡ false
     others u h = other (u == t) refl
       where
-        same : (a b : ℕ) → (a == b) ≡ true → a ≡ b
-        same a b e = grind (arith, nat_tests)
-
         other : (b : Bool) → (u == t) ≡ b → (u == t) ≡ false
         other false e = e
-        other true e = let here : among out u ≡ false = rw (same u t e) absent in absurd (cc)
+        other true e = let here : among out u ≡ false = rw (same_from u t e) absent in absurd (cc)
 
 -- an interrupt or an expiry, if there is room for one more
 pub outside_book : (m x : Seen) (journal : List Event) (out : List ℕ) (e : Event) → IsBook m journal out → StandsStay m.program → ((events : List Event) → Stands m events → Stands x (events ++ e ∷ [])) → x.live ≡ live_apply m.program m.live e → x.steps ≡ m.steps + live_steps_in m.program m.live e → is_step e ≡ false → outside_entries journal + 1 ≤ 4096 → IsBook x (journal ++ e ∷ []) out

@@ -23,7 +23,7 @@ pub among_flip : (xs : List ℕ) (t : ℕ) → among xs t ≡ list_any (eqb t) x
 among_flip [] t = refl
 among_flip (x ∷ xs) t = rw (same_flip x t, among_flip xs t) refl
 
-same_from : (o t : ℕ) → (o == t) ≡ true → o ≡ t
+pub same_from : (o t : ℕ) → (o == t) ≡ true → o ≡ t
 same_from o t e = grind (arith, nat_tests)
 
 -- ---- one more

@@ -16,17 +16,11 @@ use Rattle.sts_records.specs.PlaceLends.{with_body}
 use Rattle.sts_records.specs.Places.{Entry, Updates}
 use Rattle.sts_records.specs.Slots.{birth_of, body_of}
 use Rattle.sts_records.specs.declared.places.Cell.{Cell}
+use Rattle.laws_words.proofs.OptionLemmas.{has_some, not_none}
 
 pub some_of : {X : Type 0} → (o : Option X) → o ≢ None → (x : X) × (o ≡ Some x)
 some_of None h = absurd (h refl)
 some_of (Some x) h = (x, refl)
-
-pub has_some : {X : Type 0} → (o : Option X) → is_some o ≡ true → (x : X) × (o ≡ Some x)
-has_some None h = absurd (cc)
-has_some (Some x) h = (x, refl)
-
-pub not_none : {X : Type 0} → (o : Option X) (x : X) → o ≡ Some x → o ≢ None
-not_none o x e f = cc
 
 -- what was read twice
 pub same_read : {X : Type 0} → (xs : List X) (k : ℕ) (x y : X) → k < length xs → x ≡ get_or xs k x → y ≡ get_or xs k y → x ≡ y

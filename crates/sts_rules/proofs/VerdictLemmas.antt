@@ -26,7 +26,7 @@ module _ {S C : Type 0} (f : Flow S C) (pc : ℕ) where
   not_alone : (s : S) → HasTwo f pc → IsAlone f pc s → ⊥
   not_alone s t alone = t.1.1.2 (alone.1 t.0 t.1.1.0 ∙ sym (alone.1 t.1.0 t.1.1.1))
 
-  clear_excludes : (c : C) → IsClear f pc → HasCause f pc c → ⊥
+  pub clear_excludes : (c : C) → IsClear f pc → HasCause f pc c → ⊥
   clear_excludes c clear (dead none) = none clear.state clear.alone.0
   clear_excludes c clear (two t) = not_alone clear.state t clear.alone
   clear_excludes c clear (edge s alone e) =

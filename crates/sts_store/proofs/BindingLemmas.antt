@@ -3,7 +3,8 @@ use Rattle.std.proofs.Common.{◌≡◌, ◌≢◌, ℕ, suc, ◌+◌, ◌≤◌
 use Rattle.std.proofs.lemmas.List.{map-set}
 use Rattle.std.proofs.lemmas.List.Sums.{sum_by-cons}
 use Rattle.std.specs.Prelude.{option_map, is_some, unwrap_or, count_by}
-use Rattle.sts_env.specs.Environments.{Records, IsWhole, keys_of, list_of, NotIn, Stays, PutsRecord, TakesRecord, KeepsWithout}
+use Rattle.sts_env.specs.Environments.{Records, IsWhole, keys_of, list_of, Stays, PutsRecord, TakesRecord, KeepsWithout}
+use Rattle.laws_words.specs.Keys.{NotIn}
 use Rattle.sts_env.specs.declared.env.Env.{Env}
 use Rattle.sts_env.specs.Sharing.{IsUnshared}
 use Rattle.sts_env.proofs.UnsharedLemmas.{front_is_unshared}

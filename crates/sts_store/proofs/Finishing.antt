@@ -1,5 +1,5 @@
 -- The end of a task in a tree: when its scope is cancelled, and the view after it.
-use Rattle.std.proofs.Common.{◌≡◌, ◌≢◌, ℕ, Bool, true, false, Option, Some, None, refl, sym, ◌∙◌, ap, get_or, cond, ◌&&◌, not, get_or-set_same}
+use Rattle.std.proofs.Common.{◌≡◌, ◌≢◌, ℕ, true, false, Option, Some, None, refl, sym, ◌∙◌, ap, get_or, cond, ◌&&◌, not, get_or-set_same}
 use Rattle.std.proofs.lemmas.Bool.{and_parts}
 use Rattle.sts_model.specs.declared.event.End.{End}
 use Rattle.sts_tree.specs.Forest.{Forest, asks}
@@ -14,6 +14,7 @@ use Rattle.sts_store.specs.View.{Beside, view_of}
 use Rattle.sts_store.specs.Agreeing.{at_end, TaskAt}
 use Rattle.sts_store.proofs.ViewingLemmas.{root_seen, end_seen}
 use Rattle.sts_store.specs.Ending.{finished_of, finished_in, finished}
+use Rattle.std.proofs.lemmas.Bool.{not-true}
 
 -- the scope after its joiner was told
 abbrev pub told_scope : {E : Type 0} → ScopeNode E → End → ScopeNode E
@@ -33,15 +34,11 @@ module _ {E : Type 0} (f : Forest E) (t : ℕ) (x : TaskNode) (end : End) where
       asked : asks_told end (get_or f.scopes s None) ≡ true
       asked = sym (ap (asks_in f end) scope) ∙ asks_now
 
-      uncancelled : (b : Bool) → not b ≡ true → b ≡ false
-      uncancelled true e = cc
-      uncancelled false e = refl
-
       by : (o : Option (ScopeNode E)) → get_or f.scopes s None ≡ o → Asking f t x end s
       by None at = let never : asks_told {E = E} end None ≡ true = sym (ap (asks_told end) at) ∙ asked in cc
       by (Some c) at =
           let yes : (not c.cancelled && asks c end) ≡ true = sym (ap (asks_told end) at) ∙ asked in
-          let still : c.cancelled ≡ false = uncancelled c.cancelled (and_parts (not c.cancelled) (asks c end) yes).0 in
+          let still : c.cancelled ≡ false = not-true c.cancelled (and_parts (not c.cancelled) (asks c end) yes).0 in
           let same : ended f t x end ≡ told f t x end s c =
           ap (ended_in f t x end) scope ∙ ap (told_in f t x end s) at ∙ ap (λ b. cond b (gone f t x) (told f t x end s c)) still
           in

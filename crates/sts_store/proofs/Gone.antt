@@ -1,6 +1,6 @@
 -- A scope and its subtasks are taken out: the view after it, and the facts that keep the parts in
 -- order.
-use Rattle.std.proofs.Common.{◌≡◌, ◌≢◌, ℕ, suc, ◌+◌, List, [], ◌∷◌, drop, length, map, Bool, true, false, Option, Some, None, refl, sym, ◌∙◌, ap, subst, get_or, arith, cond, nat_eq}
+use Rattle.std.proofs.Common.{◌≡◌, ◌≢◌, ℕ, suc, ◌+◌, List, [], ◌∷◌, drop, length, map, Bool, true, false, Option, Some, None, refl, sym, ◌∙◌, ap, subst, get_or, arith, cond}
 use Rattle.std.proofs.lemmas.Bool.Decides.{nat_tests}
 use Rattle.std.proofs.lemmas.List.{length-map, map-set, length-set}
 use Rattle.std.proofs.lemmas.List.Sums.{sum_by-cons}
@@ -35,11 +35,12 @@ use Rattle.sts_store.proofs.Views.{Lived, lives_of, lives_is, same_frame, frame_
 use Rattle.sts_store.proofs.Keeping.{still_some}
 use Rattle.sts_store.proofs.Seeing.{scope_stands, stand_is}
 use Rattle.sts_store.proofs.Housed.{holds, housed}
-use Rattle.sts_store.proofs.Unsharing.{some_of}
 use Rattle.sts_store.proofs.Writing.{living}
 use Rattle.sts_store.proofs.Entering.{behind_there}
 use Rattle.sts_store.proofs.Opening.{close_shares}
 use Rattle.sts_store.proofs.CloseLemmas.{innermost_own}
+use Rattle.laws_words.proofs.OptionLemmas.{has_some}
+use Rattle.sts_tree.proofs.KeyLemmas.{same_key}
 
 -- ---- the structure list
 
@@ -145,9 +146,6 @@ module _ (m : Parts) (t s : ℕ) (k : Leaves m t s) where
       lives : lives_at m.tree u ≡ true
       lives = sym (lives_is m u) ∙ sym (holds m k.is k.order u) ∙ ap (λ (o : Option Holder). is_some o) e
 
-      here : nat_eq s s ≡ true
-      here = grind (arith, nat_tests)
-
       by : (o : Option TaskNode) → get_or m.tree.tasks u None ≡ o → (home_at homes_left u ≡ home_at (homes m) u) × (home_at (homes m) u ≢ Some s)
       by None at = let no : lives_at m.tree u ≡ false = ap lives_of at in let never : true ≡ false = sym lives ∙ no in cc
       by (Some x) at =
@@ -158,7 +156,7 @@ module _ (m : Parts) (t s : ℕ) (k : Leaves m t s) where
             ap (λ (o : Option (Option ℕ)). elim o [ None ↦ None | Some q ↦ q ]) (now ∙ sym was),
             λ q.
                 let mine : x.scope ≡ Some s = sym (ap (λ (o : Option (Option ℕ)). elim o [ None ↦ None | Some q ↦ q ]) was) ∙ q in
-                let is_own : is_of s x ≡ true = ap (is_in s) mine ∙ here in
+                let is_own : is_of s x ≡ true = ap (is_in s) mine ∙ same_key s in
                 let never : true ≡ false = sym is_own ∙ other in
                 cc,
           )
@@ -176,7 +174,7 @@ module _ (m : Parts) (t s : ℕ) (k : Leaves m t s) where
               (ap (λ es. count_by is_binding es) left ∙ counted s r.frame.entries outer)
               (λ n ne. ap (behind n) left ∙ sym (behind_there s n (drop 1 r.frame.entries) ne) ∙ ap (behind n) (sym outer))
               same_home
-              (λ n x ne e. some_of (get_or (holders m) x.owner None) ((housed m k.is k.order).owners n x e));
+              (λ n x ne e. has_some (get_or (holders m) x.owner None) ((housed m k.is k.order).owners n x e));
         });
       }
     where

@@ -1,5 +1,5 @@
 -- Local instructions in a row on the frame of a living task.
-use Rattle.std.proofs.Common.{◌≡◌, ℕ, zero, suc, List, [], ◌∷◌, true, Option, Some, None, refl, sym, ◌∙◌, ap, get_or, set}
+use Rattle.std.proofs.Common.{◌≡◌, ℕ, zero, suc, List, true, Some, None, sym, ◌∙◌, ap, get_or}
 use Rattle.sts_code.specs.declared.instr.Instr.{Instr}
 use Rattle.sts_frames.specs.Locals.{locals}
 use Rattle.std.proofs.lemmas.Option.{same_Some}
@@ -9,20 +9,16 @@ use Rattle.laws_live.specs.Reading.{lives_in}
 use Rattle.sts_store.specs.declared.running.Running.{Running}
 use Rattle.sts_store.specs.Parts.{Parts, frame_of, live_of}
 use Rattle.sts_store.specs.Stored.{IsStore}
-use Rattle.sts_store.proofs.Local.{local_entries}
+use Rattle.laws_runs.proofs.EntryLemmas.{same-local}
 use Rattle.sts_store.proofs.Views.{lived, lives_is, same_frame, with_running}
+use Rattle.laws_words.proofs.ListLemmas.{put_there}
 
 -- they keep the structure list
 pub locals_entries : (is : List Instr) (f : Frame) (n : ℕ) (g : Frame) → locals is f n ≡ Some g → g.entries ≡ f.entries
 locals_entries is f zero g e = ap (λ (h : Frame). h.entries) (sym (same_Some f g e))
 locals_entries is f (suc n) g e =
     let l = last is (locals is f n) g e in
-    ap (λ (h : Frame). h.entries) l.next ∙ local_entries is l.instr l.frame ∙ locals_entries is f n l.frame l.before
-
-put_there : (xs : List (Option Running)) (k : ℕ) (r q : Running) → get_or xs k None ≡ Some r → get_or (set xs k (Some q)) k None ≡ Some q
-put_there [] k r q e = absurd (cc)
-put_there (o ∷ xs) zero r q e = refl
-put_there (o ∷ xs) (suc k) r q e = put_there xs k r q e
+    ap (λ (h : Frame). h.entries) l.next ∙ same-local is l.instr l.frame ∙ locals_entries is f n l.frame l.before
 
 -- the frame that was written is the frame in the view
 pub frame_now : (m : Parts) (t : ℕ) (r q : Running) → IsStore (with_running m t q m.chains) → lives_in (live_of m) t ≡ true → get_or m.frames.slots t None ≡ Some r → frame_of (with_running m t q m.chains) t ≡ q.frame

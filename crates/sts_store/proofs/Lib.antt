@@ -12,7 +12,6 @@ pub mod Housed
 pub mod InARow
 pub mod Keeping
 pub mod Leaving
-pub mod Local
 pub mod Opening
 pub mod Phases
 pub mod Scoping

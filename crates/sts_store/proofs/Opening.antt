@@ -3,10 +3,12 @@ use Rattle.std.proofs.Common.{◌≡◌, ◌≢◌, ℕ, zero, suc, List, [], �
 use Rattle.std.proofs.lemmas.Bool.Decides.{nat_tests}
 use Rattle.std.specs.Prelude.{count_by}
 use Rattle.std.proofs.lemmas.Option.{same_Some}
-use Rattle.sts_env.specs.Environments.{Records, IsWhole, keys_of, NotIn}
+use Rattle.sts_env.specs.Environments.{Records, IsWhole, keys_of}
+use Rattle.laws_words.specs.Keys.{NotIn}
 use Rattle.sts_model.specs.Misuse.{is_binding}
 use Rattle.sts_store.specs.Sharing.{Shares, Holder, Keeper, keys_kept, inherited, home_at, behind}
 use Rattle.sts_store.proofs.Shared.{by_place, there, instead, instead_here, instead_there}
+use Rattle.sts_tree.proofs.ClosedLemmas.{beside_hole}
 
 less : (a b : ℕ) → suc a ≡ suc b → a ≡ b
 less a b q = omega (arith, q)
@@ -27,14 +29,6 @@ old_at (x ∷ xs) y (suc r) ne = old_at xs y r (λ q. ne (ap suc q))
 -- a task that lives now lived before
 was : (hs : List (Option Holder)) (t : ℕ) (h g : Holder) → get_or hs t None ≡ Some h → (u : ℕ) (l : Holder) → get_or (set hs t (Some g)) u None ≡ Some l → (k : Holder) × (get_or hs u None ≡ Some k)
 was hs t h g at = by_place (λ u l. (k : Holder) × (get_or hs u None ≡ Some k)) hs t h g at (h, at) (λ u l ne e. (l, e))
-
--- what a list without s holds, it held
-held : {X : Type 0} (xs : List (Option X)) (s r : ℕ) (x : X) → get_or (set xs s None) r None ≡ Some x → (r ≢ s) × (get_or xs r None ≡ Some x)
-held [] s r x e = cc
-held (o ∷ xs) zero zero x e = cc
-held (o ∷ xs) zero (suc r) x e = ((λ q. cc), e)
-held (o ∷ xs) (suc s) zero x e = ((λ q. cc), e)
-held (o ∷ xs) (suc s) (suc r) x e = let p = held xs s r x e in ((λ q. p.0 (less r s q)), p.1)
 
 module _ {c : Records} {hs : List (Option Holder)} {ks : List (Option Keeper)} {os : List (Option (Option ℕ))} {own outside : ℕ → List ℕ} where
   pub open_shares : Shares c hs ks os own outside → (t : ℕ) (h g : Holder) → get_or hs t None ≡ Some h → g.env ≡ h.env → count_by is_binding g.entries ≡ count_by is_binding h.entries → behind (length ks) g.entries ≡ h.entries → ((r : ℕ) → r ≢ length ks → behind r g.entries ≡ behind r h.entries) → ((u r : ℕ) → home_at os u ≡ Some r → r ≢ length ks) → Shares c (set hs t (Some g)) (ks ++ Some (record { owner = t; kept = h.env }) ∷ []) os own (instead outside (length ks) (own t))
@@ -77,19 +71,19 @@ module _ {c : Records} {hs : List (Option Holder)} {ks : List (Option Keeper)} {
   close_shares z t s h g qs at env same others homes owners =
       record {
         whole = by_place (λ u l. IsWhole c l.env) hs t h g at (subst (IsWhole c) (sym env) (z.whole t h at)) (λ u l ne e. z.whole u l e);
-        kept = λ r x e. z.kept r x (held ks s r x e).1;
+        kept = λ r x e. z.kept r x (beside_hole ks s r x e).1;
         tasks = by_place (λ u l. keys_of c l.env ≡ own u ++ inherited c (set ks s None) (home_at qs u)) hs t h g at
             (ap (keys_of c) env ∙ z.tasks t h at ∙ ap (λ l. own t ++ l) (sym (inherits t h at)))
             (λ u l ne e. z.tasks u l e ∙ ap (λ l. own u ++ l) (sym (inherits u l e)));
         scopes = λ r x e.
-            let p = held ks s r x e in
+            let p = beside_hole ks s r x e in
             let o = owners r x p.0 p.1 in
             z.scopes r x p.1 ∙ ap (λ l. outside r ++ l) (sym (inherits x.owner o.0 o.1));
-        nested = λ r x e. z.nested r x (held ks s r x e).1;
+        nested = λ r x e. z.nested r x (beside_hole ks s r x e).1;
         apart = λ a b k x y p q ne off. let v = was hs t h g at a x p in let w = was hs t h g at b y q in z.apart a b k v.0 w.0 v.1 w.1 ne off;
         count = by_place (λ u l. length (own u) ≡ count_by is_binding l.entries) hs t h g at (z.count t h at ∙ sym same) (λ u l ne e. z.count u l e);
         behind = λ r x y e f.
-            let p = held ks s r x e in
+            let p = beside_hole ks s r x e in
             by_place (λ u l. u ≡ x.owner → length (outside r) ≡ count_by is_binding (behind r l.entries)) hs t h g at
             (λ q. rw (others r p.0) (z.behind r x h p.1 (subst (λ i. get_or hs i None ≡ Some h) q at)))
             (λ u l no e q. z.behind r x l p.1 (subst (λ i. get_or hs i None ≡ Some l) q e)) x.owner y f refl;

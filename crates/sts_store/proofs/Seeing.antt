@@ -24,7 +24,8 @@ use Rattle.laws_live.specs.Waiting.{live_can_go}
 use Rattle.sts_store.specs.View.{scope_seen, task_seen}
 use Rattle.sts_store.proofs.ViewingLemmas.{task_is, scope_is, scope_there, words}
 use Rattle.sts_store.specs.Parts.{Parts, live_of, beside, stand_of, stand_in, unseen_of, can_go_on}
-use Rattle.sts_store.proofs.Views.{lives_is, lives_of, some_not}
+use Rattle.sts_store.proofs.Views.{lives_is, lives_of}
+use Rattle.laws_words.proofs.OptionLemmas.{not_none}
 
 -- ---- tasks
 
@@ -78,7 +79,7 @@ scope_stands m s stands = by (get_or m.tree.scopes s None) refl
     by (Some c) e = (c, e)
 
 pub scope_is_some : (m : Parts) (s : ℕ) → is_some (scope_in (live_of m) s) ≡ true → get_or m.tree.scopes s None ≢ None
-scope_is_some m s stands = let p = scope_stands m s stands in some_not (get_or m.tree.scopes s None) p.0 p.1
+scope_is_some m s stands = let p = scope_stands m s stands in not_none (get_or m.tree.scopes s None) p.0 p.1
 
 -- how many subtasks are in a state
 pub tally_is : (m : Parts) (s : ℕ) (c : ScopeNode Env) (kind : Kind) → get_or m.tree.scopes s None ≡ Some c → count_of m.tree s c kind ≡ live_tally (live_of m) s kind

@@ -4,9 +4,10 @@ use Rattle.std.proofs.lemmas.Bool.Decides.{nat_tests}
 use Rattle.std.specs.Prelude.{count_by}
 use Rattle.std.proofs.lemmas.Option.{same_Some}
 use Rattle.laws_words.proofs.ListLemmas.{put_there}
-use Rattle.sts_env.specs.Environments.{Records, IsWhole, keys_of, record_at, NotIn, Stays}
+use Rattle.sts_env.specs.Environments.{Records, IsWhole, keys_of, record_at, Stays}
+use Rattle.laws_words.specs.Keys.{NotIn}
 use Rattle.sts_env.specs.declared.env.Env.{Env}
-use Rattle.sts_env.proofs.UnsharedLemmas.{not_front}
+use Rattle.laws_words.proofs.KeyLemmas.{not_front}
 use Rattle.sts_env.proofs.ChangeLemmas.{vacant_to}
 use Rattle.sts_model.specs.Misuse.{is_binding}
 use Rattle.sts_store.specs.Sharing.{Shares, Holder, Keeper, keys_kept, inherited, home_at, behind}

@@ -8,16 +8,13 @@ use Rattle.sts_model.specs.Misuse.{is_binding}
 use Rattle.sts_store.specs.Sharing.{Shares, Holder, Keeper, keys_kept, inherited, home_at, behind}
 use Rattle.sts_store.specs.Parts.{no_running}
 use Rattle.sts_store.proofs.Shared.{inner}
+use Rattle.laws_words.proofs.OptionLemmas.{has_some}
 
 abbrev pub no_holder : Holder
 no_holder = record { env = no_running.env; entries = [] }
 
 abbrev pub no_keeper : Keeper
 no_keeper = record { owner = 0; kept = no_running.env }
-
-pub some_of : {X : Type 0} (o : Option X) → is_some o ≡ true → (x : X) × (o ≡ Some x)
-some_of None e = cc
-some_of (Some x) e = (x, refl)
 
 -- as the law of environments has it
 abbrev pub sharing_of : List (Option Holder) → List (Option Keeper) → List (Option (Option ℕ)) → (ℕ → List ℕ) → (ℕ → List ℕ) → Sharing
@@ -49,22 +46,22 @@ module _ (c : Records) (hs : List (Option Holder)) (ks : List (Option Keeper)) (
   pub is_sharing : IsSharing c (sharing_of hs ks os own outside)
   is_sharing =
       record {
-        owners = λ r o. let p = some_of (get_or ks r None) o in subst (λ x. is_some (get_or hs (unwrap_or x no_keeper).owner None) ≡ true) (sym p.1) (housed.owners r p.0 p.1);
+        owners = λ r o. let p = has_some (get_or ks r None) o in subst (λ x. is_some (get_or hs (unwrap_or x no_keeper).owner None) ≡ true) (sym p.1) (housed.owners r p.0 p.1);
         homes = λ t r lives e.
             let p = housed.homes t r lives e in
             (ap (λ (x : Option Keeper). is_some x) p.1.0, subst (λ x. (unwrap_or x no_keeper).owner < t) (sym p.1.0) p.1.1);
-        whole = λ t lives. let p = some_of (get_or hs t None) lives in subst (λ x. IsWhole c (unwrap_or x no_holder).env) (sym p.1) (s.whole t p.0 p.1);
+        whole = λ t lives. let p = has_some (get_or hs t None) lives in subst (λ x. IsWhole c (unwrap_or x no_holder).env) (sym p.1) (s.whole t p.0 p.1);
         tasks = λ t lives.
-            let p = some_of (get_or hs t None) lives in
+            let p = has_some (get_or hs t None) lives in
             ap (λ x. keys_of c (unwrap_or x no_holder).env) p.1 ∙ s.tasks t p.0 p.1 ∙ ap (λ l. own t ++ l) (inherited_is t lives);
         scopes = λ r o.
-            let p = some_of (get_or ks r None) o in
+            let p = has_some (get_or ks r None) o in
             let lives = housed.owners r p.0 p.1 in
             ap (λ x. keys_of c (unwrap_or x no_keeper).kept) p.1 ∙ s.scopes r p.0 p.1 ∙ ap (λ l. outside r ++ l) (inherited_is p.0.owner lives) ∙ ap (λ x. outside r ++ env.inherited c (sharing_of hs ks os own outside) (home_at os (unwrap_or x no_keeper).owner)) (sym p.1);
         nested = λ r o.
-            let p = some_of (get_or ks r None) o in
+            let p = has_some (get_or ks r None) o in
             subst (λ x. (inside : List ℕ) × (own (unwrap_or x no_keeper).owner ≡ inside ++ outside r)) (sym p.1) (s.nested r p.0 p.1);
-        apart = λ t u k a b ne held. let p = some_of (get_or hs t None) a in let q = some_of (get_or hs u None) b in s.apart t u k p.0 q.0 p.1 q.1 ne held;
+        apart = λ t u k a b ne held. let p = has_some (get_or hs t None) a in let q = has_some (get_or hs u None) b in s.apart t u k p.0 q.0 p.1 q.1 ne held;
       }
 
   -- the innermost binding of a task, if that is its last entry
@@ -76,7 +73,7 @@ module _ (c : Records) (hs : List (Option Holder)) (ks : List (Option Keeper)) (
         rest = rest;
         own = first;
         scopes = λ r o e.
-            let p = some_of (get_or ks r None) o in
+            let p = has_some (get_or ks r None) o in
             let owner : p.0.owner ≡ t = ap (λ x. (unwrap_or x no_keeper).owner) (sym p.1) ∙ e in
             let far = s.behind r p.0 h p.1 (subst (λ i. get_or hs i None ≡ Some h) (sym owner) at) in
             let less = few r in

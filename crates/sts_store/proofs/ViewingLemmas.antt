@@ -39,9 +39,6 @@ use Rattle.sts_store.specs.Agreeing.{at_end, TaskAt, ScopeAt, WordsAgree, decide
 zero_more : (n : ℕ) → n + 0 ≡ n
 zero_more n = omega arith
 
-from_zero : (n : ℕ) → 0 + n ≡ n
-from_zero n = omega arith
-
 either : (a b c d : Bool) → (a || b || c || d) ≡ ((a || b) || c || d)
 either true b c d = refl
 either false true c d = refl
@@ -56,7 +53,7 @@ module _ {E : Type 0} (b : Beside E) where
   task_from n (o ∷ xs) (suc k) = rw (suc_more n k) (task_from (suc n) xs k)
 
   pub task_is : (f : Forest E) (t : ℕ) → task_in (view_of b f) t ≡ option_map (task_seen b t) (get_or f.tasks t None)
-  task_is f t = let z = from_zero t in rw z at (task_from 0 f.tasks t)
+  task_is f t = let z : 0 + t ≡ t = omega arith in rw z at (task_from 0 f.tasks t)
 
   set_from : (n : ℕ) (xs : List (Option TaskNode)) (k : ℕ) (y : TaskNode) → tasks_from b n (set xs k (Some y)) ≡ set (tasks_from b n xs) k (Some (task_seen b (n + k) y))
   set_from n [] k y = refl
@@ -64,7 +61,7 @@ module _ {E : Type 0} (b : Beside E) where
   set_from n (o ∷ xs) (suc k) y = rw (suc_more n k) (ap (λ l. option_map (task_seen b n) o ∷ l) (set_from (suc n) xs k y))
 
   set_is : (xs : List (Option TaskNode)) (k : ℕ) (y : TaskNode) → tasks_from b 0 (set xs k (Some y)) ≡ set (tasks_from b 0 xs) k (Some (task_seen b k y))
-  set_is xs k y = let z = from_zero k in rw z at (set_from 0 xs k y)
+  set_is xs k y = let z : 0 + k ≡ k = omega arith in rw z at (set_from 0 xs k y)
 
   map_from : (n : ℕ) (g : Option TaskNode → Option TaskNode) (h : Option LiveTask → Option LiveTask) → ((m : ℕ) (o : Option TaskNode) → option_map (task_seen b m) (g o) ≡ h (option_map (task_seen b m) o)) → (xs : List (Option TaskNode)) → tasks_from b n (map g xs) ≡ map h (tasks_from b n xs)
   map_from n g h same [] = refl
@@ -75,7 +72,7 @@ module _ {E : Type 0} (b : Beside E) where
   more_from n (x ∷ xs) o = rw (suc_more n (length xs)) (ap (λ l. option_map (task_seen b n) x ∷ l) (more_from (suc n) xs o))
 
   pub more_is : (xs : List (Option TaskNode)) (y : TaskNode) → tasks_from b 0 (xs ++ Some y ∷ []) ≡ tasks_from b 0 xs ++ Some (task_seen b (length xs) y) ∷ []
-  more_is xs y = let z = from_zero (length xs) in rw z at (more_from 0 xs (Some y))
+  more_is xs y = let z : 0 + (length xs) ≡ (length xs) = omega arith in rw z at (more_from 0 xs (Some y))
 
   -- ---- one task, one scope
 

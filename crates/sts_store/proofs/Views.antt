@@ -20,9 +20,6 @@ use Rattle.sts_store.specs.declared.running.Running.{Running}
 use Rattle.sts_store.specs.Parts.{Parts, live_of, beside, running_at, no_running}
 use Rattle.sts_store.specs.Stored.{IsStore}
 
-pub some_not : {X : Type 0} (o : Option X) (x : X) → o ≡ Some x → o ≢ None
-some_not o x e none = cc
-
 -- the change of what a task has, if it lives
 abbrev pub changed : (Alive → Alive) → LiveTask → LiveTask
 changed change task = record task { alive = option_map change task.alive }

@@ -10,18 +10,19 @@ use Rattle.laws_live.specs.Reading.{lives_in, with_live_frame}
 use Rattle.sts_store.specs.declared.running.Running.{Running}
 use Rattle.sts_store.specs.Parts.{Parts, live_of, frame_of}
 use Rattle.sts_store.specs.Stored.{IsStore}
-use Rattle.sts_store.proofs.Views.{Lived, lived, with_running, frame_seen, same_frame, some_not}
+use Rattle.sts_store.proofs.Views.{Lived, lived, with_running, frame_seen, same_frame}
 use Rattle.sts_store.proofs.Keeping.{kept_frame}
+use Rattle.laws_words.proofs.OptionLemmas.{not_none}
 
 -- a task that lives in the contracts' view has its records in the parts
 pub living : (m now : Parts) → IsStore m → m ≡ now → (t : ℕ) → lives_in (live_of now) t ≡ true → Lived m t
 living m now is same t lives = lived m is t (subst (λ p. lives_in (live_of p) t ≡ true) (sym same) lives)
 
 pub has_frame : {m : Parts} {t : ℕ} → Lived m t → get_or m.frames.slots t None ≢ None
-has_frame {m} {t} l = some_not (get_or m.frames.slots t None) l.run l.runs
+has_frame {m} {t} l = not_none (get_or m.frames.slots t None) l.run l.runs
 
 pub has_task : {m : Parts} {t : ℕ} → Lived m t → get_or m.tree.tasks t None ≢ None
-has_task {m} {t} l = some_not (get_or m.tree.tasks t None) l.task l.stands
+has_task {m} {t} l = not_none (get_or m.tree.tasks t None) l.task l.stands
 
 module _ (m now : Parts) (t : ℕ) (r : Running) (l : Lived m t) (at : get_or m.frames.slots t None ≡ Some r) (same : m ≡ now) where
   -- the frame in the record is the frame that contracts see

@@ -3,7 +3,8 @@
 -- front of them. It is this project's own that environments share records.
 use Rattle.std.specs.Prelude.{◌≡◌, ◌≢◌, ℕ, List, [], ◌∷◌, ◌++◌, length, map, count_by}
 use Rattle.std.specs.Prelude.{Option, Some, None, option_map, ◌==◌, if◌then◌else◌, slice_index_or}
-use Rattle.sts_env.specs.Environments.{Records, IsWhole, keys_of, NotIn}
+use Rattle.sts_env.specs.Environments.{Records, IsWhole, keys_of}
+use Rattle.laws_words.specs.Keys.{NotIn}
 use Rattle.sts_env.specs.declared.env.Env.{Env}
 use Rattle.sts_tree.specs.declared.record.TaskNode.{TaskNode}
 use Rattle.sts_tree.specs.declared.record.ScopeNode.{ScopeNode}

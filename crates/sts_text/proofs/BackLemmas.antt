@@ -19,6 +19,6 @@ spelled_value {A} n within value h w =
     let some : ℕ → Option A = λ m. Some (value m) in
     cond-true (is_digits (decimal n) && within (digits_value 10 (decimal n))) (Some (value (digits_value 10 (decimal n)))) None (and_from (is_digits (decimal n)) (within (digits_value 10 (decimal n))) (decimal_is_digits n h) (ap within v ∙ w)) ∙ ap some v
 
-no_minus : (ds : List ℕ) → list_all is_ascii_digit ds ≡ true → (get_or ds 0 0 == 45) ≡ false
+pub no_minus : (ds : List ℕ) → list_all is_ascii_digit ds ≡ true → (get_or ds 0 0 == 45) ≡ false
 no_minus [] e = refl
 no_minus (d ∷ ds) e = grind (arith, nat_tests)

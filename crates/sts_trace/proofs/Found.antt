@@ -1,6 +1,6 @@
 -- If events are read, the text spells them.
-use Rattle.std.proofs.Common.{◌≡◌, ℕ, ◌+◌, ◌<◌, ◌≤◌, ◌^◌, Bool, true, false, cond, List, [], ◌∷◌}
-use Rattle.std.proofs.Common.{◌++◌, length, arith, refl, sym, ◌∙◌, ap, append_assoc, ◌⊎◌, inl, inr}
+use Rattle.std.proofs.Common.{◌≡◌, ℕ, ◌+◌, ◌<◌, ◌≤◌, ◌^◌, true, false, cond, List, [], ◌∷◌}
+use Rattle.std.proofs.Common.{◌++◌, length, arith, refl, sym, ◌∙◌, ap, append_assoc, inl, inr}
 use Rattle.std.proofs.lemmas.Bool.{and_parts}
 use Rattle.std.proofs.lemmas.Bool.Decides.{nat_tests}
 use Rattle.std.specs.Prelude.{◌&&◌, Result, Ok, Err, Option, Some, None, nat_lt, codes, IfOk}
@@ -24,10 +24,7 @@ use Rattle.sts_trace.specs.Reading.{trace_read, outside_read}
 use Rattle.sts_trace.specs.Spelling.{event_text, trace_text, due_text, outside_text, number_of}
 use Rattle.sts_trace.specs.Spelling.{is_outside, IsEvent, IsDue, AreDues}
 use Rattle.sts_trace.proofs.Spelled.{word_of, event_parts, due_parts, outside_word}
-
-chosen : {A : Type 0} (b : Bool) (x y z : A) → cond b x y ≡ z → ((b ≡ true) × (x ≡ z)) ⊎ ((b ≡ false) × (y ≡ z))
-chosen true x y z e = inl (refl, e)
-chosen false x y z e = inr (refl, e)
+use Rattle.sts_text.proofs.WordLemmas.{by_cond}
 
 ok_same : {A : Type 0} (x y : A) (r : Result A TraceError) → r ≡ Ok x → r ≡ Ok y → x ≡ y
 ok_same x y r a b = cc
@@ -58,11 +55,11 @@ made at word number make e counts names h =
     rw (← same) (record { word_is = names p.0; number_is = rw (counts p.0) q.1; small = rw (counts p.0) q.0 })
 
 event_found : (at : ℕ) (word number : List ℕ) (e : Event) → event_of at word number ≡ Ok e → SaysEvent word number e
-event_found at word number e h = elim (chosen (bytes_eq word (codes "step")) (numeral_at at number >>= λ n. Ok (Step n)) (cond (bytes_eq word (codes "interrupt")) (numeral_at at number >>= λ n. Ok (Interrupt n)) (cond (bytes_eq word (codes "expire")) (numeral_at at number >>= λ n. Ok (Expire n)) (Err (BadLine at)))) (Ok e) h) [
+event_found at word number e h = elim (by_cond (bytes_eq word (codes "step")) (numeral_at at number >>= λ n. Ok (Step n)) (cond (bytes_eq word (codes "interrupt")) (numeral_at at number >>= λ n. Ok (Interrupt n)) (cond (bytes_eq word (codes "expire")) (numeral_at at number >>= λ n. Ok (Expire n)) (Err (BadLine at)))) (Ok e) h) [
   | inl p ↦ let is = (bytes_eq-Decides word (codes "step")).0 p.0 in made at word number (λ n. Step n) e (λ n. refl) (λ n. is) p.1
-  | inr p ↦ elim (chosen (bytes_eq word (codes "interrupt")) (numeral_at at number >>= λ n. Ok (Interrupt n)) (cond (bytes_eq word (codes "expire")) (numeral_at at number >>= λ n. Ok (Expire n)) (Err (BadLine at))) (Ok e) p.1) [
+  | inr p ↦ elim (by_cond (bytes_eq word (codes "interrupt")) (numeral_at at number >>= λ n. Ok (Interrupt n)) (cond (bytes_eq word (codes "expire")) (numeral_at at number >>= λ n. Ok (Expire n)) (Err (BadLine at))) (Ok e) p.1) [
     | inl q ↦ let is = (bytes_eq-Decides word (codes "interrupt")).0 q.0 in made at word number (λ n. Interrupt n) e (λ n. refl) (λ n. is) q.1
-    | inr q ↦ elim (chosen (bytes_eq word (codes "expire")) (numeral_at at number >>= λ n. Ok (Expire n)) (Err (BadLine at)) (Ok e) q.1) [
+    | inr q ↦ elim (by_cond (bytes_eq word (codes "expire")) (numeral_at at number >>= λ n. Ok (Expire n)) (Err (BadLine at)) (Ok e) q.1) [
       | inl r ↦ let is = (bytes_eq-Decides word (codes "expire")).0 r.0 in made at word number (λ n. Expire n) e (λ n. refl) (λ n. is) r.1
       | inr r ↦ cc
     ]
@@ -72,7 +69,7 @@ event_found at word number e h = elim (chosen (bytes_eq word (codes "step")) (nu
 event_said_found : (at : ℕ) (ps : List (List ℕ)) (e : Event) → event_said at ps ≡ Ok e → (join_with_byte 32 ps ≡ event_text e) × IsEvent e
 event_said_found at [] e h = cc
 event_said_found at (a ∷ []) e h = cc
-event_said_found at (a ∷ b ∷ []) e h = elim (chosen (is_filled b) (event_of at a b) (Err (BadLine at)) (Ok e) h) [
+event_said_found at (a ∷ b ∷ []) e h = elim (by_cond (is_filled b) (event_of at a b) (Err (BadLine at)) (Ok e) h) [
   | inl p ↦ let s = event_found at a b e p.1 in (rw (s.word_is, s.number_is) (sym (event_parts e)), s.small)
   | inr p ↦ cc
 ]
@@ -91,7 +88,7 @@ due_said_found at [] due h = cc
 due_said_found at (a ∷ []) due h = cc
 due_said_found at (a ∷ b ∷ []) due h = cc
 due_said_found at (a ∷ b ∷ c ∷ []) due h = cc
-due_said_found at (a ∷ b ∷ c ∷ d ∷ []) due h = elim (chosen (bytes_eq a (codes "at") && (is_filled b && (is_outside_word c && is_filled d))) (numeral_at at b >>= λ n. event_of at c d >>= λ e. Ok (record { at = n; event = e })) (Err (BadLine at)) (Ok due) h) [
+due_said_found at (a ∷ b ∷ c ∷ d ∷ []) due h = elim (by_cond (bytes_eq a (codes "at") && (is_filled b && (is_outside_word c && is_filled d))) (numeral_at at b >>= λ n. event_of at c d >>= λ e. Ok (record { at = n; event = e })) (Err (BadLine at)) (Ok due) h) [
   | inl p ↦
       let t = and_parts (bytes_eq a (codes "at")) (is_filled b && (is_outside_word c && is_filled d)) p.0 in
       let u = and_parts (is_filled b) (is_outside_word c && is_filled d) t.1 in
@@ -110,7 +107,7 @@ due_said_found at (a ∷ b ∷ c ∷ d ∷ []) due h = elim (chosen (bytes_eq a 
 due_said_found at (a ∷ b ∷ c ∷ d ∷ e ∷ ps) due h = cc
 
 in_time : (at : ℕ) (r : Result Due TraceError) (due : Due) → cond (nat_lt 4096 at) (Err (BadLine at)) r ≡ Ok due → (at ≤ 4096) × (r ≡ Ok due)
-in_time at r due h = elim (chosen (nat_lt 4096 at) (Err (BadLine at)) r (Ok due) h) [
+in_time at r due h = elim (by_cond (nat_lt 4096 at) (Err (BadLine at)) r (Ok due) h) [
   | inl p ↦ cc
   | inr p ↦ (grind (arith, nat_tests, p.0), p.1)
 ]
@@ -128,7 +125,7 @@ nothing (x ∷ xs) e = grind (arith, nat_tests)
 lines_found : {A : Type 0} (said : ℕ → List ℕ → Result A TraceError) (spelling : A → List ℕ) (Is : A → Type 0) → ((at : ℕ) (line : List ℕ) (x : A) → said at line ≡ Ok x → (line ≡ spelling x) × Is x) → (at : ℕ) (ps : List (List ℕ)) (xs : List A) → lines_read said at ps ≡ Ok xs → (join_with_byte 10 ps ≡ flat_map (λ x. spelling x ++ codes "\n") xs) × All Is xs
 unfolding lines_read
 lines_found {A} said spelling Is one at [] xs h = rw (← ok_same {A = List A} [] xs (Ok []) refl h) (refl, All-nil Is)
-lines_found {A} said spelling Is one at (rest ∷ []) xs h = elim (chosen (is_filled rest) (Err NoNewline) (Ok []) (Ok xs) h) [
+lines_found {A} said spelling Is one at (rest ∷ []) xs h = elim (by_cond (is_filled rest) (Err NoNewline) (Ok []) (Ok xs) h) [
   | inl p ↦ cc
   | inr p ↦ rw (← ok_same {A = List A} [] xs (Ok []) refl p.1, nothing rest p.0) (refl, All-nil Is)
 ]
@@ -143,7 +140,7 @@ lines_found {A} said spelling Is one at (line ∷ next ∷ more) xs h =
 dues_counted : (at : ℕ) (ps : List (List ℕ)) (dues : List Due) → lines_read due_line at ps ≡ Ok dues → at ≤ 4097 → at + length dues ≤ 4097
 unfolding lines_read
 dues_counted at [] dues h k = rw (← ok_same {A = List Due} [] dues (Ok []) refl h) (omega arith)
-dues_counted at (rest ∷ []) dues h k = elim (chosen (is_filled rest) (Err NoNewline) (Ok []) (Ok dues) h) [
+dues_counted at (rest ∷ []) dues h k = elim (by_cond (is_filled rest) (Err NoNewline) (Ok []) (Ok dues) h) [
   | inl p ↦ cc
   | inr p ↦ rw (← ok_same {A = List Due} [] dues (Ok []) refl p.1) (omega arith)
 ]

@@ -1,7 +1,8 @@
 -- Births with a record that passes a test, when a record is added, changed or taken out.
 use Rattle.std.proofs.Common.{◌≡◌, ℕ, zero, suc, ◌+◌, ◌<◌, ◌≤◌, List, [], ◌∷◌, ◌++◌, length, Option, Some, None, refl, sym, ap, arith, get_or, set, Bool, true, false, cond, is_some, count_by, subst, add-zero}
 use Rattle.std.proofs.lemmas.List.Sums.{sum_by-cons}
-use Rattle.sts_links.specs.Lists.{NotIn, AreApart}
+use Rattle.sts_links.specs.Lists.{AreApart}
+use Rattle.laws_words.specs.Keys.{NotIn}
 use Rattle.sts_tree.specs.Births.{births}
 
 pub suc_more : (n k : ℕ) → n + suc k ≡ suc n + k

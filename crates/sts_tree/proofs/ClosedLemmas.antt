@@ -4,7 +4,8 @@ use Rattle.std.proofs.lemmas.List.{set_at, append_assoc, length-map}
 use Rattle.std.proofs.lemmas.List.Sums.{sum_by-cons}
 use Rattle.std.proofs.lemmas.Option.{same_Some}
 use Rattle.sts_records.specs.Holes.{Holes}
-use Rattle.sts_links.specs.Lists.{NotIn, AreDistinct, AreLinked, IsList, first_or}
+use Rattle.sts_links.specs.Lists.{AreDistinct, AreLinked, IsList, first_or}
+use Rattle.laws_words.specs.Keys.{NotIn}
 use Rattle.sts_links.specs.declared.links.Ends.{Ends}
 use Rattle.sts_links.specs.declared.links.Link.{Link}
 use Rattle.sts_links.proofs.ChainLemmas.{list_stays, stays}

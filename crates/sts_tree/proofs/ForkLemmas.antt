@@ -3,7 +3,8 @@ use Rattle.std.proofs.Common.{◌≡◌, ◌≢◌, ℕ, ◌+◌, ◌-◌, ◌<�
 use Rattle.std.proofs.lemmas.Bool.Decides.{nat_tests}
 use Rattle.std.proofs.lemmas.List.{get_or_past}
 use Rattle.std.proofs.lemmas.Option.{same_Some}
-use Rattle.sts_links.specs.Lists.{NotIn, AreApart, IsList}
+use Rattle.sts_links.specs.Lists.{AreApart, IsList}
+use Rattle.laws_words.specs.Keys.{NotIn}
 use Rattle.sts_links.specs.declared.links.Link.{Link}
 use Rattle.sts_links.specs.declared.links.Ends.{Ends}
 use Rattle.sts_links.proofs.ChainLemmas.{without_link}

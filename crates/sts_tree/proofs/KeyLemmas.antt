@@ -1,7 +1,8 @@
 -- Lists of births without repetition: one more, one less.
 use Rattle.std.proofs.Common.{◌≡◌, ◌≢◌, ℕ, List, [], ◌∷◌, ◌++◌, refl, sym, ◌∙◌, ap, arith, Bool, true, false, nat_eq}
 use Rattle.std.proofs.lemmas.Bool.Decides.{nat_tests}
-use Rattle.sts_links.specs.Lists.{NotIn, AreDistinct}
+use Rattle.sts_links.specs.Lists.{AreDistinct}
+use Rattle.laws_words.specs.Keys.{NotIn}
 use Rattle.sts_tree.specs.Births.{has, without}
 
 pub same_key : (k : ℕ) → nat_eq k k ≡ true

@@ -6,7 +6,7 @@ use Rattle.std.specs.List.{list_any}
 use Rattle.std.specs.Prelude.{if◌then◌else◌}
 use Rattle.sts_tree.specs.Births.{has}
 use Rattle.sts_links.specs.Lists.{AreDistinct, first_or}
-use Rattle.sts_links.proofs.KeyLemmas.{not_back}
+use Rattle.laws_words.proofs.KeyLemmas.{not_back}
 use Rattle.sts_tree.proofs.KeyLemmas.{same_key}
 
 -- is the task out?

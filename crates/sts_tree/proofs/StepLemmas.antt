@@ -2,7 +2,8 @@
 use Rattle.std.proofs.Common.{◌≡◌, ◌≢◌, ℕ, ◌+◌, ◌<◌, ◌≤◌, List, [], ◌∷◌, ◌++◌, length, Option, Some, None, refl, sym, ◌∙◌, ap, arith, get_or, set, Bool, true, false, nat_eq, get_or-set_same, get_or-set_other, length-set, length-append, nat_lt, cond, append-nil}
 use Rattle.std.proofs.lemmas.Bool.Decides.{nat_tests}
 use Rattle.std.proofs.lemmas.List.{get_or_past, get_or_append_left, get_or_at}
-use Rattle.sts_links.specs.Lists.{NotIn, AreApart, IsList, BecomesList}
+use Rattle.sts_links.specs.Lists.{AreApart, IsList, BecomesList}
+use Rattle.laws_words.specs.Keys.{NotIn}
 use Rattle.sts_links.specs.declared.links.Link.{Link}
 use Rattle.sts_links.specs.declared.links.Ends.{Ends}
 use Rattle.sts_links.proofs.ChainLemmas.{list_stays, without_link}

@@ -4,7 +4,8 @@ use Rattle.std.proofs.lemmas.Bool.Decides.{nat_tests}
 use Rattle.std.proofs.lemmas.List.{map-set, get_or_past, get_or_append_left}
 use Rattle.std.specs.Prelude.{option_map}
 use Rattle.std.proofs.lemmas.Option.{same_Some}
-use Rattle.sts_links.specs.Lists.{NotIn, IsList, BecomesList}
+use Rattle.sts_links.specs.Lists.{IsList, BecomesList}
+use Rattle.laws_words.specs.Keys.{NotIn}
 use Rattle.sts_links.specs.declared.links.Ends.{Ends}
 use Rattle.sts_links.proofs.ChainLemmas.{without_link, list_stays}
 use Rattle.sts_tree.specs.Stored.{task_of, tasks_of, link_of, link_at}

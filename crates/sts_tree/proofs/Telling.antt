@@ -1,12 +1,11 @@
 -- The joiner was told of one end more.
 use Rattle.std.proofs.Common.{◌≡◌, ℕ, ◌+◌, ◌≤◌, List, length, Option, Some, None, refl, sym, ◌∙◌, ap, arith, get_or, set, get_or-set_same, Bool, true, false, cond}
 use Rattle.std.proofs.lemmas.List.{set-set, set-get_or}
-use Rattle.sts_joiners.specs.Tallied.{Tallied, ends_told, with_end}
+use Rattle.sts_joiners.specs.Tallied.{ends_told, with_end}
 use Rattle.sts_links.specs.Lists.{IsList}
 use Rattle.sts_links.specs.declared.links.Link.{Link}
 use Rattle.sts_links.specs.declared.links.Ends.{Ends}
 use Rattle.sts_model.specs.declared.event.End.{End}
-use Rattle.sts_model.specs.declared.event.End.TheVariants.{Success, Failed}
 use Rattle.sts_tree.specs.Births.{births}
 use Rattle.sts_tree.specs.Ending.{gone, told, told_in, ended, ended_in}
 use Rattle.sts_tree.specs.Forest.{Forest, is_of, lives_in, Family, IsForest}
@@ -20,10 +19,7 @@ use Rattle.sts_tree.proofs.ForkLemmas.{stays_some}
 use Rattle.sts_tree.proofs.HoldingLemmas.{inside_of}
 use Rattle.sts_tree.proofs.Removing.{EndsIn}
 use Rattle.sts_tree.proofs.StepLemmas.{at_set}
-
-pub one_told : (tally : Tallied) (end : End) → ends_told (with_end tally end) ≡ ends_told tally + 1
-one_told tally (Success v) = omega arith
-one_told tally (Failed c) = omega arith
+use Rattle.sts_joiners.proofs.TellLemmas.{one_told}
 
 pub told_one : (at : ℕ → ℕ → Option Link) (tasks : List (Option TaskNode)) (families : List (Option Family)) (ready : Ends) (keys : List ℕ) (room s : ℕ) (f g : Family) → IsForest at tasks families ready keys room → get_or families s None ≡ Some f → g.forks ≡ f.forks → g.fork_count ≡ f.fork_count → g.living ≡ f.living → g.ends + length (births (lives_in s) 0 tasks) ≤ length (births (is_of s) 0 tasks) → IsForest at tasks (set families s (Some g)) ready keys room
 told_one at tasks families ready keys room s f g i there forks count living fits =

@@ -1,9 +1,11 @@
 -- Walking along a list of keys.
 use Rattle.std.proofs.Common.{◌≡◌, ◌≢◌, ℕ, zero, suc, ◌<◌, ◌≤◌, List, [], ◌∷◌, ◌++◌, length, Option, Some, None, refl, sym, ap, arith, Bool, true, false, length-append}
-use Rattle.sts_links.specs.Lists.{first_or, NotIn, AreDistinct, AreLinked, IsList}
+use Rattle.sts_links.specs.Lists.{first_or, AreDistinct, AreLinked, IsList}
+use Rattle.laws_words.specs.Keys.{NotIn}
 use Rattle.sts_links.specs.declared.links.Link.{Link}
 use Rattle.sts_links.specs.declared.links.Ends.{Ends}
-use Rattle.sts_links.proofs.KeyLemmas.{distinct_less, not_front, not_back, not_both}
+use Rattle.sts_links.proofs.KeyLemmas.{distinct_less}
+use Rattle.laws_words.proofs.KeyLemmas.{not_front, not_back, not_both}
 use Rattle.sts_tree.specs.Births.{has}
 use Rattle.sts_tree.specs.Stored.{walk}
 use Rattle.sts_tree.proofs.KeyLemmas.{has_not, split}

@@ -7,7 +7,8 @@ ghost use Rattle.std.specs.Prelude.{slice_index_or, slice_set, option_copied};
 ghost use Rattle.sts_records.specs.Holes.{key_at};
 ghost use Rattle.sts_tree.specs.Births.{has, remove_each, without};
 ghost use Rattle.sts_tree.specs.Stored.{link_at, SameTasks};
-ghost use Rattle.sts_links.specs.Lists.{AreDistinct, IsList, NotIn, BecomesList};
+ghost use Rattle.sts_links.specs.Lists.{AreDistinct, IsList, BecomesList};
+ghost use Rattle.laws_words.specs.Keys.{NotIn};
 ghost use Rattle.sts_tree.specs.declared.record.TaskNode.{TaskNode as AnyTask};
 
 use crate::ending::{Ended, tell};

@@ -1,13 +1,9 @@
 -- Comparing typestates decides whether they are the same.
-use Rattle.std.proofs.Common.{◌≡◌, ℕ, List, [], ◌∷◌, Bool, true, false, ◌&&◌, ◌↔◌, IsTrue, arith}
+use Rattle.std.proofs.Common.{◌≡◌, ℕ, List, [], ◌∷◌, Bool, true, ◌&&◌, ◌↔◌, IsTrue, arith}
 use Rattle.std.proofs.Common.{refl, sym, ap, ◌∙◌, subst, reverse, eqb, eqb-true, eq-eqb}
-use Rattle.std.proofs.lemmas.Bool.Decides.{Decides-int_eq}
 use Rattle.std.proofs.lemmas.List.{reverse-reverse}
 use lib.Pointwise.{pointwise}
-use Rattle.sts_code.specs.declared.instr.Pred.{Pred}
-use Rattle.sts_code.specs.declared.instr.Pred.TheVariants as pred
 use Rattle.sts_code.specs.declared.instr.Joiner.{Joiner}
-use Rattle.sts_code.specs.declared.instr.Joiner.TheVariants.{Until}
 use Rattle.std.specs.contracts.prelude.BoolPartialEq.TheImpl as bool_eq
 use Rattle.std.proofs.lemmas.Bool.{and_parts}
 use Rattle.sts_code.specs.contracts.instr.PredPartialEq.TheImpl as pred_eq
@@ -23,6 +19,7 @@ use Rattle.sts_rules.specs.contracts.typing.TypedPhasePartialEq.TheImpl as phase
 use Rattle.sts_rules.specs.contracts.typing.TypedScopePartialEq.TheImpl as scope_eq
 use Rattle.sts_rules.specs.contracts.typing.TypedEntryPartialEq.TheImpl as entry_eq
 use Rattle.sts_rules.specs.contracts.typing.SlotKindPartialEq.TheImpl as slot_eq
+use Rattle.sts_code.proofs.EqualLemmas.{pred-to, pred-from, joiner-to, joiner-from, bool-to, bool-from}
 
 -- the test decides equality
 abbrev pub IsSame : {X : Type 0} → (X → X → Bool) → Type 0
@@ -48,42 +45,16 @@ slots_same : IsSame slot_eq.eq-value.it
 slots_same = ((λ a b e. grind arith), λ a. grind arith)
 
 preds_same : IsSame pred_eq.eq-value.it
-preds_same = (to, from)
-  where
-    to : (a b : Pred) → pred_eq.eq-value.it a b ≡ true → a ≡ b
-    to (pred.AtLeast x) (pred.AtLeast y) e = let h = (Decides-int_eq x y).0 e in cc
-    to a b e = grind arith
-
-    from : (a : Pred) → pred_eq.eq-value.it a a ≡ true
-    from (pred.AtLeast x) = (Decides-int_eq x x).1 refl
-    from a = grind arith
+preds_same = (pred-to, pred-from)
 
 joiners_same : IsSame joiner_eq.eq-value.it
-joiners_same = (to, from)
-  where
-    to : (a b : Joiner) → joiner_eq.eq-value.it a b ≡ true → a ≡ b
-    to (Until x) (Until y) e = let h = preds_same.0 x y e in cc
-    to a b e = grind arith
-
-    from : (a : Joiner) → joiner_eq.eq-value.it a a ≡ true
-    from (Until x) = preds_same.1 x
-    from a = grind arith
+joiners_same = (joiner-to, joiner-from)
 
 same_scope : (s s' : ℕ) (j j' : Joiner) (t t' : Bool) (p p' : TypedPhase) → s ≡ s' → j ≡ j' → t ≡ t' → p ≡ p' → ◌≡◌ {A = TypedScope} (record { slot = s; joiner = j; timed = t; phase = p }) (record { slot = s'; joiner = j'; timed = t'; phase = p' })
 same_scope s s' j j' t t' p p' a b c d = rw (a, b, c, d) refl
 
 bools_same : IsSame bool_eq.ghosts.eq
-bools_same = (to, from)
-  where
-    to : (a b : Bool) → bool_eq.ghosts.eq a b ≡ true → a ≡ b
-    to true true e = refl
-    to false false e = refl
-    to true false e = cc
-    to false true e = cc
-
-    from : (a : Bool) → bool_eq.ghosts.eq a a ≡ true
-    from true = refl
-    from false = refl
+bools_same = (bool-to, bool-from)
 
 all_true : (a b c d : Bool) → a ≡ true → b ≡ true → c ≡ true → d ≡ true → (a && (b && (c && d))) ≡ true
 all_true a b c d p q r t = simp (p, q, r, t)

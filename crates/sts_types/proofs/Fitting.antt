@@ -13,11 +13,7 @@ use Rattle.sts_rules.specs.TypeState.{TypeState}
 use Rattle.sts_rules.specs.Causes.{holds, least_cause}
 use Rattle.sts_rules.specs.Causes as test
 use Rattle.sts_rules.specs.Fits.{Fits}
-
--- if the first is not found, the rest is searched
-none_here : (b : Bool) (c : Cause) (rest : Option Cause) → cond b (Some c) rest ≡ None → (b ≡ false) × (rest ≡ None)
-none_here true c rest e = cc
-none_here false c rest e = (refl, e)
+use Rattle.sts_types.proofs.CauseLemmas.{none_here}
 
 pub fits : (p : Program) (f pc : ℕ) (i : Instr) (s : TypeState) → least_cause p f pc i s ≡ None → Fits p f pc i s
 fits p f pc i s e =

@@ -1,7 +1,7 @@
 -- The edges of instructions go forward and stay inside the function.
 use Rattle.std.proofs.Common.{◌≡◌, ℕ, ◌+◌, ◌<◌, ◌≤◌, ◌⊎◌, inl, inr, true, false}
 use Rattle.std.proofs.Common.{List, [], ◌∷◌, ◌++◌, map, Option, Some, None, option_map}
-use Rattle.std.proofs.Common.{option_to_list, slice_get, Ok, leb, cond, eqb-true, leb-false, refl}
+use Rattle.std.proofs.Common.{option_to_list, slice_get, leb, cond, eqb-true, leb-false, refl}
 use Rattle.std.proofs.Common.{sym, ap, subst, arith}
 use Rattle.std.proofs.lemmas.Bool.{not-false, or_parts}
 use Rattle.sts_types.proofs.AmongLemmas.{none_passes, among_left, among_right}
@@ -9,7 +9,6 @@ use Rattle.sts_code.specs.Program.{Program, routine, instr_at}
 use Rattle.sts_code.specs.declared.instr.Instr.{Instr}
 use Rattle.sts_code.specs.declared.instr.Instr.TheVariants.{Div, Jmp, Jz, Times, Next, Join, Case}
 use Rattle.sts_code.specs.declared.instr.Instr.TheVariants.{Ret, Fail}
-use Rattle.sts_rules.specs.declared.typing.Cause.{Cause}
 use Rattle.sts_rules.specs.declared.typing.TypedLoop.{TypedLoop}
 use Rattle.sts_code.specs.Loops.{match_of, is_at}
 use Rattle.sts_rules.specs.TypeState.{TypeState}
@@ -17,7 +16,7 @@ use Rattle.sts_rules.specs.Around.{next_place, skipped_to}
 use Rattle.sts_code.specs.Facts.{targets, falls_through}
 use Rattle.sts_rules.specs.Causes.{closes_loop}
 use Rattle.sts_rules.specs.ControlPaths.{Among}
-use Rattle.sts_rules.specs.Edges.{follows, to_optional, moved, or_cause, back_of, typing}
+use Rattle.sts_rules.specs.Edges.{follows, to_optional, moved, back_of, typing}
 use Rattle.sts_rules.specs.Fits.{Fits}
 use Rattle.sts_rules.specs.Flow.{Leads}
 use Rattle.sts_rules.specs.Refusal.{size}
@@ -25,6 +24,7 @@ use Rattle.sts_types.proofs.Fitting.{fits}
 use Rattle.sts_types.proofs.FollowLemmas.{at_place}
 use Rattle.sts_types.proofs.MatchingLemmas.{ends}
 use Rattle.sts_types.proofs.Passing.{IsForward}
+use Rattle.sts_types.proofs.CauseLemmas.{or_cause_ok}
 
 -- an instruction leads to a place that it names, to the next, or past its loop
 abbrev pub LeadsTo : List Instr → ℕ → Instr → ℕ → Type 0
@@ -108,10 +108,6 @@ leads_up p f pc i s to fit m = (after m, leb-false (size p f) to (none_passes (l
     all (inl m) = among_left (targets i ++ next_place pc i) (skipped_to (routine p f).code pc i) to (among_left (targets i) (next_place pc i) to m)
     all (inr (inl h)) = among_left (targets i ++ next_place pc i) (skipped_to (routine p f).code pc i) to (among_right (targets i) (next_place pc i) to (next_among pc i to h))
     all (inr (inr m)) = among_right (targets i ++ next_place pc i) (skipped_to (routine p f).code pc i) to m
-
-pub or_cause_ok : (o : Option Cause) (es out : List (ℕ × TypeState)) → or_cause o es ≡ Ok out → (o ≡ None) × (es ≡ out)
-or_cause_ok None es out e = (refl, cc)
-or_cause_ok (Some c) es out e = cc
 
 ends_before : (code : List Instr) (pc : ℕ) (loops : List TypedLoop) (q : ℕ) → closes_loop code pc loops ≡ true → option_map (λ (l : TypedLoop). l.at + 1) (slice_get loops 0) ≡ Some q → q ≤ pc
 ends_before code pc [] q e b = cc

@@ -1,5 +1,6 @@
 pub mod AmongLemmas
 pub mod Arriving
+pub mod CauseLemmas
 pub mod ComparingLemmas
 pub mod EdgeLemmas
 pub mod Fitting

@@ -83,12 +83,9 @@ heads_more code heads now k at long marks = record { long = long ∙ at.long; he
         let not_after : ltb k q ≡ false = grind (arith, nat_tests) in
         marks q ∙ ap (λ b. cond (b && reaches_to q (end_at code k)) (Some k) (get_or heads q None)) not_after ∙ at.heads_are q h ∙ ap (λ x. slice_get (below code q x) 0) (sym one)
 
-pub the_same : (p : ℕ) → 0 + p ≡ p
-the_same p = omega arith
-
 -- what is read of the table of ends
 pub ends_read : (code : List Instr) (ends : List (Option ℕ)) (at : ℕ) (r : Option ℕ) → ends ≡ map (end_at code) (range_with_len 0 (length code)) → at < length code → r ≡ get_or ends at r → r ≡ end_at code at
-ends_read code ends at r e h is = is ∙ ap (λ xs. get_or xs at r) e ∙ get_or-map-range_with_len (end_at code) 0 (length code) at at r h (the_same at)
+ends_read code ends at r e h is = is ∙ ap (λ xs. get_or xs at r) e ∙ get_or-map-range_with_len (end_at code) 0 (length code) at at r h (omega arith)
 
 pub ends_long : (code : List Instr) (ends : List (Option ℕ)) → ends ≡ map (end_at code) (range_with_len 0 (length code)) → length ends ≡ length code
 ends_long code ends e = ap length e ∙ length-map-range_with_len (end_at code) 0 (length code)
@@ -119,6 +116,6 @@ tables_made code ends heads k e past at =
     record {
       ends_long = ap length e ∙ length-map-range_with_len (end_at code) 0 (length code);
       heads_long = at.long;
-      ends = λ p h is. ap (λ xs. get_or xs p None) e ∙ get_or-map-range_with_len (end_at code) 0 (length code) p p None h (the_same p) ∙ ap (λ b. cond b (match_of code p) None) is;
+      ends = λ p h is. ap (λ xs. get_or xs p None) e ∙ get_or-map-range_with_len (end_at code) 0 (length code) p p None h (omega arith) ∙ ap (λ b. cond b (match_of code p) None) is;
       heads = λ q h. (let z : min k q ≡ q = omega arith in at.heads_are q h ∙ ap (λ x. slice_get (below code q x) 0) z);
     }

@@ -191,16 +191,6 @@ module _ {S C : Type 0} (f : Flow S C) (n : ℕ) (laws : IsForward f n) where
           by pc (inl b) lt = at.clear pc b
           by pc (inr b) lt = let e' : k ≡ pc = omega arith in subst (IsClear f) e' (is_clear out e d)
 
-  -- the two verdicts exclude each other, and a refusal names one place
-  pub clear_or_cause : (pc : ℕ) (c : C) → IsClear f pc → HasCause f pc c → ⊥
-  clear_or_cause pc c clear (dead h) = h clear.state clear.alone.0
-  clear_or_cause pc c clear (two h) = h.1.1.2 (clear.alone.1 h.0 h.1.1.0 ∙ sym (clear.alone.1 h.1.0 h.1.1.1))
-  clear_or_cause pc c clear (edge s a e) =
-      let same = clear.alone.1 s a.0 in
-      let o : Err c ≡ Ok clear.out = sym e ∙ ap (f.edges pc) same ∙ clear.fine in
-      cc
-  clear_or_cause pc c clear (turn s out a e d) = let h = subst (TurnDiffers f pc) (clear.alone.1 s a.0) d in h.1.1.2 (clear.same h.0 h.1.0 h.1.1.0 h.1.1.1)
-
   -- before the first place
   pub begin : (table : List (Arrival S)) → 0 < n → length table ≡ n → get_or table 0 Nothing ≡ One f.entry → ((pc : ℕ) → 0 < pc → pc < n → get_or table pc Nothing ≡ Nothing) → Passed f n table 0
   begin table some long one none = record { holds = (long, λ pc within. at pc within (cases_eq pc 0)); clear = λ pc lt. absurd (omega arith) }

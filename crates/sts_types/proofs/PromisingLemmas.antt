@@ -26,7 +26,8 @@ use Rattle.sts_code.proofs.LimitLemmas.{has_code}
 use Rattle.sts_types.proofs.Fitting.{fits}
 use Rattle.sts_types.proofs.FollowLemmas.{at_place}
 use Rattle.sts_types.proofs.Laws.{LeadsTo, next_among}
-use Rattle.sts_types.proofs.Laws.{follow_leads, leads_among, or_cause_ok, laws}
+use Rattle.sts_types.proofs.Laws.{follow_leads, leads_among, laws}
+use Rattle.sts_types.proofs.CauseLemmas.{or_cause_ok}
 
 -- each edge has these loops open
 abbrev KeepLoops : List ℕ → List (ℕ × TypeState) → Type 0

@@ -27,9 +27,10 @@ use Rattle.sts_types.specs.Tables.{AreTablesOf}
 use Rattle.sts_types.specs.declared.pass.TypeError.{TypeError}
 use Rattle.sts_types.specs.declared.pass.TypeError.TheVariants.{Refused}
 use Rattle.sts_types.specs.Typing.{Typing, IsTyping, Tells}
-use Rattle.sts_types.proofs.Passing.{all_alone, clear_or_cause, begin, is_dead, has_two, has_edge_cause}
+use Rattle.sts_types.proofs.Passing.{all_alone, begin, is_dead, has_two, has_edge_cause}
 use Rattle.sts_types.proofs.Passing.{has_turn_cause, turn_differs, turn_same, no_turn, goes_on}
 use Rattle.sts_types.proofs.RoomLemmas.{has_room}
+use Rattle.sts_rules.proofs.VerdictLemmas.{clear_excludes}
 
 pub within_code : (loops code : List Instr) (count pc : ℕ) → count ≡ length loops → loops ≡ code → pc < count → pc < length code
 within_code loops code count pc e same h = omega (arith, e, ap length same)
@@ -72,7 +73,7 @@ starts p f code table s is some begun first = subst (λ t. Passed (typing p f) (
 pub never_refused : (p : Program) (f : ℕ) (e : TypeError) (pc : ℕ) (c : Cause) → IsWellTyped p f → Tells p f e → e ≡ Refused pc c → ⊥
 never_refused p f e pc c typed tells is =
     let refusal : IsTypeRefusal p f pc c = subst (Tells p f) is tells in
-    clear_or_cause (typing p f) (size p f) (laws p f) pc c (typed pc refusal.0) refusal.1
+    clear_excludes (typing p f) pc c (typed pc refusal.0) refusal.1
 
 -- the typestates of a pass over the whole function are its typing
 pub is_typing : (p : Program) (f : ℕ) (code : List Instr) (table : List (Arrival TypeState)) (t : Typing) → code ≡ (routine p f).code → Passed (typing p f) (size p f) table (length code) → length t.states ≡ length table → ((pc : ℕ) (s : TypeState) → get_or table pc Nothing ≡ One s → get_or t.states pc none ≡ s) → AreTablesOf code t.loops → IsTyping p f t

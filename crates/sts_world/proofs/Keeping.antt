@@ -12,13 +12,13 @@ use Rattle.sts_code.specs.declared.instr.Joiner.{Joiner}
 use Rattle.sts_code.specs.declared.limits.TheConstants.{MAX_STANDING}
 use Rattle.sts_joiners.specs.Tallied.{Tallied, tallied, with_end, ends_told}
 use Rattle.sts_model.specs.declared.event.End.{End}
-use Rattle.sts_model.specs.declared.event.End.TheVariants.{Success, Failed}
 use Rattle.sts_world.specs.Lines.{Line, Lines}
 use Rattle.sts_world.specs.Kept.{IsKept, Family, no_line, no_tally, count_in, births, lives_in}
 use Rattle.sts_world.specs.Kept.{family_of, no_family, with_child, with_death, stands}
 use Rattle.sts_world.specs.Kept.{standing_tasks, standing_scopes}
 use Rattle.sts_world.proofs.Counting.{as_one, births_count, births-set, births_push, stands-set}
 use Rattle.sts_world.proofs.Counting.{stands_push, root_besides, and_le}
+use Rattle.sts_joiners.proofs.TellLemmas.{one_told}
 
 -- the lines are as they were
 pub kept_same : (a b : Lines) (fs : List Family) (ts : List Tallied) (n m : ℕ) → a ≡ b → IsKept b fs ts n m → IsKept a fs ts n m
@@ -206,10 +206,6 @@ room_to_tell l fs ts n m t s d k h e =
     let less : count_by (lives_in s) (set l.tasks t (record { scope = Some s; lives = false })) + 1 ≡ count_by (lives_in s) l.tasks = rw (eq-eqb s s refl) at fewer in
     omega (arith, k.told s, less, same_in s l.tasks t (record { scope = Some s; lives = false }) d (rw e refl))
 
-told_more : (tally : Tallied) (end : End) → ends_told (with_end tally end) ≡ ends_told tally + 1
-told_more tally (Success v) = omega arith
-told_more tally (Failed c) = omega arith
-
 -- the joiner of a scope is told of an end
 pub kept_told : (l : Lines) (fs : List Family) (ts : List Tallied) (n m s : ℕ) (end : End) → IsKept l fs ts n m → s < length l.tallies → ends_told (get_or l.tallies s no_tally) + count_by (lives_in s) l.tasks + 1 ≤ count_in s l.tasks → IsKept (record l { tallies = set l.tallies s (with_end (get_or l.tallies s no_tally) end) }) fs (set ts s (with_end (get_or ts s no_tally) end)) n m
 kept_told l fs ts n m s end k h room =
@@ -228,7 +224,7 @@ kept_told l fs ts n m s end k h room =
     by_test : (r : ℕ) (b : Bool) → eqb r s ≡ b → ends_told (get_or (set l.tallies s (with_end (get_or l.tallies s no_tally) end)) r no_tally) + count_by (lives_in r) l.tasks ≤ count_in r l.tasks
     by_test r true e =
         let same : r ≡ s = eqb-true r s e in
-        let now_told : ends_told (get_or (set l.tallies s (with_end (get_or l.tallies s no_tally) end)) s no_tally) ≡ ends_told (get_or l.tallies s no_tally) + 1 = ap ends_told (get_or-set_same l.tallies s (with_end (get_or l.tallies s no_tally) end) no_tally h) ∙ told_more (get_or l.tallies s no_tally) end in
+        let now_told : ends_told (get_or (set l.tallies s (with_end (get_or l.tallies s no_tally) end)) s no_tally) ≡ ends_told (get_or l.tallies s no_tally) + 1 = ap ends_told (get_or-set_same l.tallies s (with_end (get_or l.tallies s no_tally) end) no_tally h) ∙ one_told (get_or l.tallies s no_tally) end in
         rw same (omega (arith, now_told, room))
     by_test r false e = rw (get_or-set_other l.tallies s r (with_end (get_or l.tallies s no_tally) end) no_tally (eqb-false r s e)) (k.told r)
 

@@ -1,18 +1,13 @@
 use Rattle.std.proofs.Common.{◌≡◌, ℕ, ◌+◌, List, [], ◌∷◌, ◌++◌, None, replicate, ap, ◌∙◌, arith}
 use Rattle.std.proofs.lemmas.List.{replicate_more}
+use Rattle.laws_words.proofs.AppendLemmas.{one_more, all_there}
 use Rattle.look_accepted.proofs.notes.no_rules.Goals as goal
-
-more : {X : Type 0} (x : X) (n : ℕ) (old new : List X) → old ≡ replicate n x → new ≡ old ++ x ∷ [] → new ≡ replicate (n + 1) x
-more x n old new is e = e ∙ ap (λ l. l ++ x ∷ []) is ∙ replicate_more n x
-
-all : {X : Type 0} (x : X) (n k : ℕ) (new : List X) → k ≡ n → new ≡ replicate k x → new ≡ replicate n x
-all x n k new same is = is ∙ ap (λ m. replicate m x) same
 
 pub loop-init : goal.loop-init
 loop-init c = c.in_ok-rules.ensures.items
 
 pub loop-preserved : goal.loop-preserved
-loop-preserved c = more None c.loop.counter c.loop.rules.items c.push.new.self.items c.loop.invariant c.in_ok-push.ensures.items
+loop-preserved c = one_more None c.loop.counter c.loop.rules.items c.push.new.self.items c.loop.invariant c.in_ok-push.ensures.items
 
 pub returns : goal.returns
-returns c = all None c.args.count c.loop.counter c.loop.rules.items (omega (arith, c.loop-test.false, c.loop.auto.counter-end)) c.loop.invariant
+returns c = all_there None c.args.count c.loop.counter c.loop.rules.items (omega (arith, c.loop-test.false, c.loop.auto.counter-end)) c.loop.invariant

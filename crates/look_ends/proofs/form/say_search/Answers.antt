@@ -1,6 +1,6 @@
 use Rattle.std.proofs.Common.{ℕ, List, ◌++◌}
 use Rattle.std.proofs.lemmas.Result.{on_ok_weaker}
-use Rattle.look_text.proofs.LineLemmas.{said_on}
+use Rattle.laws_words.proofs.AppendLemmas.{two_parts}
 use Rattle.look_ends.specs.Lines as def
 use Rattle.look_ends.proofs.form.say_search.Goals as goal
 
@@ -16,8 +16,8 @@ returns c =
     let two = rw c.as_slice-found.ensures.value at c.in_ok-say_refused.ensures in
     let last = rw c.as_slice-found.ensures.value at c.say_no_number.ensures in
     on_ok_weaker c.say_no_number.result
-    (λ h. said_on _ _ (refused ++ (called ++ (states ++ none))) _ _ one
-    (said_on _ refused (called ++ (states ++ none)) _ _ two
-    (said_on _ called (states ++ none) _ _ c.in_ok-say_by_calls.ensures
-    (said_on _ states none _ _ c.in_ok-say_states.ensures h))))
+    (λ h. two_parts _ _ (refused ++ (called ++ (states ++ none))) _ _ one
+    (two_parts _ refused (called ++ (states ++ none)) _ _ two
+    (two_parts _ called (states ++ none) _ _ c.in_ok-say_by_calls.ensures
+    (two_parts _ states none _ _ c.in_ok-say_states.ensures h))))
     last

@@ -3,20 +3,9 @@ use mir.Val.{SFits}
 use Rattle.std.specs.List.{flat_map}
 use Rattle.std.proofs.lemmas.Int.{to_z-of_z}
 use Rattle.std.proofs.lemmas.List.{append-nil, at_drop_all, at_drop_more}
+use Rattle.laws_words.proofs.AppendLemmas.{item_said, items_said}
 use Rattle.look_names.specs.Words.{value_words}
 use Rattle.look_names.proofs.words.say_more.Goals as goal
-
--- one item more is said
-said : {X : Type 0} (f : X → List ℕ) (xs : List X) (i : ℕ) (d : X) (all out next : List ℕ) → i < length xs → out ++ flat_map f (drop i xs) ≡ all → next ≡ out ++ f (get_or xs i d) → next ++ flat_map f (drop (i + 1) xs) ≡ all
-said f xs i d all out next less is more =
-    ap (λ l. l ++ flat_map f (drop (i + 1) xs)) more
-    ∙ append_assoc out (f (get_or xs i d)) (flat_map f (drop (i + 1) xs))
-    ∙ ap (λ l. out ++ l) (sym (at_drop_more (flat_map f) xs i d less))
-    ∙ is
-
--- all items are said
-ended : {X : Type 0} (f : X → List ℕ) (xs : List X) (i : ℕ) (all out : List ℕ) → length xs ≤ i → out ++ flat_map f (drop i xs) ≡ all → out ≡ all
-ended f xs i all out past is = sym (append-nil out) ∙ ap (λ l. out ++ l) (sym (at_drop_all (flat_map f) xs i past)) ∙ is
 
 pub loop-value-init : goal.loop-value-init
 loop-value-init c = refl
@@ -26,11 +15,11 @@ loop-value-preserved c =
     let text = c.args.names.now in
     let value = get_or c.args.values.now c.loop-value.value-index (pos 0) in
     let fits : SFits w64 (get_or c.args.values.now c.loop-value.value-index (pos 0)) = search rules in
-    said (λ x. codes ", " ++ value_words c.args.names.now x) c.args.values.now c.loop-value.value-index (pos 0) _ c.loop-value.out.items c.say_value.new.out.items c.loop-value-test.true c.loop-value.invariant
+    item_said (λ x. codes ", " ++ value_words c.args.names.now x) c.args.values.now c.loop-value.value-index (pos 0) _ c.loop-value.out.items c.say_value.new.out.items c.loop-value-test.true c.loop-value.invariant
     (c.in_ok-say_value.ensures
     ∙ ap (λ z. c.say.new.out.items ++ value_words text z) (to_z-of_z w64 value fits)
     ∙ ap (λ l. l ++ value_words text value) c.in_ok-say.ensures
     ∙ append_assoc c.loop-value.out.items (codes ", ") (value_words text value))
 
 pub returns : goal.returns
-returns c = ended (λ x. codes ", " ++ value_words c.args.names.now x) c.args.values.now c.loop-value.value-index _ c.loop-value.out.items c.loop-value-test.false c.loop-value.invariant
+returns c = items_said (λ x. codes ", " ++ value_words c.args.names.now x) c.args.values.now c.loop-value.value-index _ c.loop-value.out.items c.loop-value-test.false c.loop-value.invariant

@@ -1,18 +1,13 @@
-use Rattle.std.proofs.Common.{◌≡◌, ℕ, List, ◌++◌, Bool, ap, ◌∙◌, append_assoc}
+use Rattle.std.proofs.Common.{◌≡◌, ℕ, List, ◌++◌, Bool, ap, ◌∙◌}
 use Rattle.std.proofs.lemmas.Result.{on_ok_weaker}
 use Rattle.std.specs.Prelude.{codes}
 use Rattle.std.specs.String.{string_bytes}
 use Rattle.sts_model.specs.World.{World, scope_at}
+use Rattle.look_text.proofs.LineLemmas.{three_said}
 use Rattle.look_lines.specs.Lines.{phase_word}
 use Rattle.look_picture.specs.Brackets as def
 use Rattle.look_picture.specs.declared.marks.Mark.TheVariants as mark
 use Rattle.look_picture.proofs.brackets.edges.Goals as goal
-
--- three texts are appended in a row
-three_said : (a b d before one two three : List ℕ) → one ≡ before ++ a → two ≡ one ++ b → three ≡ two ++ d → three ≡ before ++ (a ++ (b ++ d))
-three_said a b d before one two three e f g =
-    g ∙ ap (λ (x : List ℕ). x ++ d) (f ∙ ap (λ (x : List ℕ). x ++ b) e ∙ append_assoc before a b)
-    ∙ append_assoc before (a ++ b) d ∙ ap (λ (x : List ℕ). before ++ x) (append_assoc a b d)
 
 pub returns : goal.returns
 returns c =

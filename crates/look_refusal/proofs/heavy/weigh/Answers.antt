@@ -1,4 +1,4 @@
-use Rattle.std.proofs.Common.{◌≡◌, ℕ, ◌+◌, zero, suc, get_or, length, replicate, refl, ap, ◌∙◌, subst, arith}
+use Rattle.std.proofs.Common.{◌≡◌, ◌+◌, get_or, length, refl, ap, ◌∙◌, subst, arith}
 use Rattle.std.proofs.lemmas.List.{length-replicate}
 use Rattle.look_refusal.specs.declared.search.Spot.{Spot}
 use Rattle.look_refusal.specs.declared.shares.Shares.{Shares}
@@ -10,11 +10,7 @@ use Rattle.look_refusal.specs.Trail.{full_in, sum_in}
 use Rattle.look_refusal.specs.Walk.{rest_in}
 use Rattle.look_refusal.proofs.Walking.{whole_path}
 use Rattle.look_refusal.proofs.heavy.weigh.Goals as goal
-
-zeros : (n x : ℕ) → get_or {A = ℕ} (replicate n 0) x 0 ≡ 0
-zeros zero x = refl
-zeros (suc n) zero = refl
-zeros (suc n) (suc x) = zeros n x
+use Rattle.laws_words.proofs.ListLemmas.{zeros}
 
 pub back_to_beginning-requires-clause-parts : goal.back_to_beginning-requires-clause-parts
 back_to_beginning-requires-clause-parts c = λ x. (let z = ap (λ l. get_or l x 0) (c.in_ok-filled.ensures {u = tt}) ∙ zeros _ x in omega (arith, z))

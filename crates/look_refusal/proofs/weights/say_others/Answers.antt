@@ -4,7 +4,7 @@ use Rattle.std.specs.Fmt.{decimal}
 use Rattle.std.proofs.lemmas.Bool.{cond-false}
 use Rattle.std.proofs.lemmas.Bool.Decides.{nat_tests}
 use Rattle.std.proofs.lemmas.Result.{on_ok_weaker}
-use Rattle.look_text.proofs.LineLemmas.{said_on}
+use Rattle.laws_words.proofs.AppendLemmas.{two_parts}
 use Rattle.look_refusal.specs.Weights.{others_line}
 use Rattle.look_refusal.proofs.weights.say_others.Goals as goal
 
@@ -19,4 +19,4 @@ returns c =
     let two : List ℕ = c.say_number.new.out.items in
     let three : List ℕ = c.say.new.out.items in
     on_ok_weaker c.say.result
-    (λ (e : three ≡ two ++ codes "\n"). said_on before (words ++ number) (codes "\n") two three (c.in_ok-say_number.ensures ∙ append_assoc before words number) e ∙ ap (λ (x : List ℕ). before ++ x) (sym (some_others c.args.count c.if-count-eq0.false))) c.say.ensures
+    (λ (e : three ≡ two ++ codes "\n"). two_parts before (words ++ number) (codes "\n") two three (c.in_ok-say_number.ensures ∙ append_assoc before words number) e ∙ ap (λ (x : List ℕ). before ++ x) (sym (some_others c.args.count c.if-count-eq0.false))) c.say.ensures

@@ -1,7 +1,7 @@
 use Rattle.std.proofs.Common.{◌≡◌, ℕ, List, ◌++◌, ◌∙◌, ap}
 use Rattle.std.proofs.lemmas.Result.{on_ok_weaker}
 use Rattle.look_refusal.specs.Weights as def
-use Rattle.look_text.proofs.LineLemmas.{said_on}
+use Rattle.laws_words.proofs.AppendLemmas.{two_parts}
 use Rattle.look_refusal.proofs.weights.weight_lines.Goals as goal
 
 pub returns : goal.returns
@@ -17,7 +17,7 @@ returns c =
     let three : List ℕ = c.say_others.new.out.items in
     let four : List ℕ = c.say.new.out.items in
     let each : two ≡ one ++ shares = c.in_ok-say_shares.ensures ∙ ap (λ (x : List ℕ). one ++ def.share_lines c.args.outline.now c.args.function x) c.as_slice-shares.ensures.value in
-    let after_two : two ≡ before ++ (weight ++ shares) = said_on before weight shares one two c.in_ok-say_weight.ensures each in
+    let after_two : two ≡ before ++ (weight ++ shares) = two_parts before weight shares one two c.in_ok-say_weight.ensures each in
     let counted : three ≡ two ++ rest = c.in_ok-say_others.ensures ∙ ap (λ (x : ℕ). two ++ def.others_line x) c.others.ensures ∙ ap (λ (x : List ℕ). two ++ def.others_line (def.others x)) c.as_slice-shares.ensures.value in
-    let after_three : three ≡ before ++ ((weight ++ shares) ++ rest) = said_on before (weight ++ shares) rest two three after_two counted in
-    on_ok_weaker c.say.result (λ (e : four ≡ three ++ c.own_line.result.now). said_on before ((weight ++ shares) ++ rest) own three four after_three (e ∙ ap (λ (x : List ℕ). three ++ x) c.own_line.ensures)) c.say.ensures
+    let after_three : three ≡ before ++ ((weight ++ shares) ++ rest) = two_parts before (weight ++ shares) rest two three after_two counted in
+    on_ok_weaker c.say.result (λ (e : four ≡ three ++ c.own_line.result.now). two_parts before ((weight ++ shares) ++ rest) own three four after_three (e ∙ ap (λ (x : List ℕ). three ++ x) c.own_line.ensures)) c.say.ensures

@@ -4,17 +4,13 @@ use Rattle.std.specs.List.{range_with_len}
 use Rattle.std.proofs.lemmas.Bool.{eq-eqb, ne_eqb}
 use Rattle.sts_code.specs.declared.instr.Instr.{Instr}
 use Rattle.sts_code.specs.Loops as def
-use Rattle.sts_code.proofs.LoopLemmas.{counted_more, counts_on, find_next, find_here}
+use Rattle.sts_code.proofs.LoopLemmas.{as_count, counted_more, counts_on, find_next, find_here}
 use Rattle.sts_code.proofs.loops.match_of.Goals as goal
 
 -- past the end nothing is found
 find_past : (test : ℕ → Bool) (q n : ℕ) → n ≤ q → find test (range_with_len q (n - q)) ≡ None
 find_past test q n past =
     let none : n - q ≡ 0 = omega arith in ap (λ m. find test (range_with_len q m)) none
-
-as_count : (b : Bool) → bool_byte b ≡ cond b 1 0
-as_count true = refl
-as_count false = refl
 
 -- the first instruction is counted
 counts_one : (test : Instr → Bool) (code : List Instr) (at : ℕ) (d : Instr) (next : ℕ) (b : Bool) → at < length code → next ≡ bool_byte b → b ≡ test (slice_index_or code at d) → next ≡ count_by test (slice_range code at (at + 1))

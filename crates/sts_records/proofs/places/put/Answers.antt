@@ -4,7 +4,8 @@ use Rattle.std.proofs.lemmas.List.Elements.{All-push}
 use Rattle.sts_records.specs.Cells.{AreWhole, Lays, entry_of, slots_of}
 use Rattle.sts_records.specs.Places.{Entry}
 use Rattle.sts_records.specs.declared.places.Cell.{Cell}
-use Rattle.sts_records.proofs.Keys.{lays_push, lays_set, not_none, same_push, whole_set}
+use Rattle.sts_records.proofs.Keys.{lays_push, lays_set, same_push, whole_set}
+use Rattle.laws_words.proofs.OptionLemmas.{not_none}
 use Rattle.sts_records.proofs.places.put.Goals as goal
 
 slots_push : {T : Type 0} (cells new : List (Cell T)) (c : Cell T) → new ≡ cells ++ c ∷ [] → slots_of new ≡ slots_of cells ++ entry_of c ∷ []

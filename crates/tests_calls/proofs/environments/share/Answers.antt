@@ -1,5 +1,6 @@
 use Rattle.std.proofs.Common.{sym, subst}
-use Rattle.sts_env.specs.Environments.{Records, NotIn, keys_of, IsWhole, Stays, PutsRecord}
+use Rattle.sts_env.specs.Environments.{Records, keys_of, IsWhole, Stays, PutsRecord}
+use Rattle.laws_words.specs.Keys.{NotIn}
 use Rattle.sts_env.specs.declared.env.Env.{Env}
 use Rattle.sts_env.proofs.ChangeLemmas.{vacant_to}
 use Rattle.tests_calls.proofs.environments.share.Goals as goal

@@ -2,7 +2,7 @@ use Rattle.std.proofs.Common.{ℕ, List, ◌++◌}
 use Rattle.std.specs.Prelude.{codes}
 use Rattle.std.specs.String.{string_bytes}
 use Rattle.std.proofs.lemmas.Result.{on_ok_weaker}
-use Rattle.look_text.proofs.LineLemmas.{said_on}
+use Rattle.laws_words.proofs.AppendLemmas.{two_parts}
 use Rattle.look_refusal.specs.Differences.{part_words, way_words}
 use Rattle.look_refusal.proofs.differences.Compared.write_side.Goals as goal
 
@@ -16,4 +16,4 @@ returns-clause-words c =
     let two : List ℕ = string_bytes c.push_str.new.self in
     let three : List ℕ = string_bytes c.write_origin.new.out in
     on_ok_weaker c.write_origin.result
-    (said_on before (part ++ from) way two three (said_on before part from one two c.in_ok-write_part.ensures.words c.in_ok-push_str.ensures.bytes)) c.write_origin.ensures
+    (two_parts before (part ++ from) way two three (two_parts before part from one two c.in_ok-write_part.ensures.words c.in_ok-push_str.ensures.bytes)) c.write_origin.ensures

@@ -1,14 +1,10 @@
 use Rattle.std.proofs.Common.{◌≡◌, ℕ, List, ◌++◌, length, sym, ap, ◌∙◌, append_assoc, arith}
 use Rattle.std.proofs.lemmas.List.{at_drop_more}
+use Rattle.laws_words.proofs.AppendLemmas.{part_said}
 use Rattle.sts_model.specs.World.{World, no_task}
 use Rattle.sts_model.specs.declared.record.Task.{Task}
 use Rattle.look_run.specs.Lines.{living_line, living_lines}
 use Rattle.look_run.proofs.states.Told.say_living.Goals as goal
-
--- one line more is said
-said : (out next line rest left all : List ℕ) → out ++ left ≡ all → left ≡ line ++ rest → next ≡ out ++ line → next ++ rest ≡ all
-said out next line rest left all is step more =
-    ap (λ (l : List ℕ). l ++ rest) more ∙ append_assoc out line rest ∙ ap (λ (l : List ℕ). out ++ l) (sym step) ∙ is
 
 pub loop-t-preserved : goal.loop-t-preserved
 loop-t-preserved c =
@@ -16,6 +12,6 @@ loop-t-preserved c =
     let program = c.args.self.program.now in
     let world = c.args.world.now in
     let born = c.tasks_born-t-end.ensures.value ∙ ap (λ (w : World). length w.tasks) c.records.ensures in
-    said c.loop-t.out.items c.say_if_living.new.out.items (living_line text program world c.loop-t.t) _ _ _ c.loop-t.invariant
+    part_said c.loop-t.out.items c.say_if_living.new.out.items (living_line text program world c.loop-t.t) _ _ _ c.loop-t.invariant
     (at_drop_more (λ (xs : List Task). living_lines text program world xs c.loop-t.t) world.tasks c.loop-t.t no_task (omega (arith, born, c.loop-t-test.true)))
     c.in_ok-say_if_living.ensures

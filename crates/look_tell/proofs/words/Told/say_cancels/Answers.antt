@@ -1,6 +1,6 @@
 use Rattle.std.proofs.lemmas.Result.{on_ok_weaker}
 use Rattle.look_tell.specs.Outcome.{cancels_words}
-use Rattle.look_tell.proofs.Parts.{two_parts}
+use Rattle.laws_words.proofs.AppendLemmas.{two_parts}
 use Rattle.look_tell.proofs.words.Told.say_cancels.Goals as goal
 
 pub returns : goal.returns

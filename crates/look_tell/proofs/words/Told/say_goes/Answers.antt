@@ -1,7 +1,7 @@
 use Rattle.std.proofs.Common.{◌++◌, ◌∙◌, ap₂}
 use Rattle.std.proofs.lemmas.Result.{on_ok_weaker}
 use Rattle.look_tell.specs.Outcome.{goes_words, shown_place}
-use Rattle.look_tell.proofs.Parts.{two_parts}
+use Rattle.laws_words.proofs.AppendLemmas.{two_parts}
 use Rattle.look_tell.proofs.words.Told.say_goes.Goals as goal
 
 pub returns : goal.returns

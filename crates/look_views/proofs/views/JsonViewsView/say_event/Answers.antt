@@ -1,5 +1,5 @@
 use Rattle.look_views.proofs.Floats.{event_view_plain}
-use Rattle.look_views.proofs.Lines.{line_written}
+use Rattle.look_views.proofs.LineLemmas.{line_written}
 use Rattle.look_views.proofs.views.JsonViewsView.say_event.Goals as goal
 
 pub returns : goal.returns

@@ -2,8 +2,9 @@ use Rattle.std.proofs.Common.{Some, refl, sym, ◌∙◌}
 use Rattle.std.proofs.lemmas.List.{length-map, map-set}
 use Rattle.std.proofs.lemmas.Option.{same_Some}
 use Rattle.sts_records.specs.Cells.{entry_of, slots_of}
-use Rattle.sts_records.proofs.Keys.{inside_cells, parts, read, some_of, not_none, sound_rewrite, whole_set, with_other}
+use Rattle.sts_records.proofs.Keys.{inside_cells, parts, read, some_of, sound_rewrite, whole_set, with_other}
 use Rattle.sts_records.proofs.places.Places.at.Goals as goal
+use Rattle.laws_words.proofs.OptionLemmas.{not_none}
 
 pub index_mut-requires : goal.index_mut-requires
 index_mut-requires g c =

@@ -7,7 +7,8 @@ use Rattle.std.proofs.lemmas.List.Elements.{All-get_or}
 use Rattle.sts_records.specs.Cells.{AreWhole, entry_of, slots_of}
 use Rattle.sts_records.specs.Slots.{body_of}
 use Rattle.sts_records.specs.declared.places.Cell.{Cell}
-use Rattle.sts_records.proofs.Keys.{body_at, body_not, not_none, read}
+use Rattle.sts_records.proofs.Keys.{body_at, body_not, read}
+use Rattle.laws_words.proofs.OptionLemmas.{not_none}
 use Rattle.sts_records.proofs.places.Places.get.Goals.{in_default-via-in-Some+else-eq, in_default-via-in_default}
 use Rattle.sts_records.proofs.places.Places.get.Goals as goal
 

@@ -1,7 +1,8 @@
 use Rattle.std.proofs.Common.{◌∙◌}
 use Rattle.sts_records.specs.Cells.{entry_of}
-use Rattle.sts_records.proofs.Keys.{inside_cells, not_none, parts, read, some_of}
+use Rattle.sts_records.proofs.Keys.{inside_cells, parts, read, some_of}
 use Rattle.sts_records.proofs.places.Places.record.Goals as goal
+use Rattle.laws_words.proofs.OptionLemmas.{not_none}
 
 pub body_in-requires : goal.body_in-requires
 body_in-requires g c =

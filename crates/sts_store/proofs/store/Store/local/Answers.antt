@@ -4,7 +4,7 @@ use Rattle.sts_model.specs.Misuse.{breaks_loop, overflows}
 use Rattle.sts_model.specs.World.{code}
 use Rattle.sts_model.specs.declared.record.Frame.{Frame}
 use Rattle.sts_store.specs.contracts.store.Store.{the_view}
-use Rattle.sts_store.proofs.Local.{local_entries}
+use Rattle.laws_runs.proofs.EntryLemmas.{same-local}
 use Rattle.sts_store.proofs.Writing.{living, has_frame, at_hand, frame_is, frame_done, frame_kept}
 use Rattle.sts_store.proofs.store.Store.local.Goals as goal
 
@@ -39,7 +39,7 @@ local-requires-clause-loops c =
 pub invariant_of-self : goal.invariant_of-self
 invariant_of-self c =
     frame_kept (the_view c.self.inside) c.args.t c.at.result.now c.local.new.frame c.self.invariant c.at.ensures.value
-    (ap (λ (f : Frame). f.entries) c.local.ensures ∙ local_entries c.args.code.now c.args.instr c.at.result.now.frame)
+    (ap (λ (f : Frame). f.entries) c.local.ensures ∙ same-local c.args.code.now c.args.instr c.at.result.now.frame)
 
 pub returns-clause-live : goal.returns-clause-live
 returns-clause-live c =

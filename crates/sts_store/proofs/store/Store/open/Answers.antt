@@ -7,15 +7,16 @@ use Rattle.laws_live.specs.Effect.{live_open}
 use Rattle.sts_store.specs.contracts.store.Store.{the_view}
 use Rattle.sts_store.specs.Parts.{live_of, frame_of}
 use Rattle.sts_store.specs.Stored.{IsStore}
-use Rattle.sts_store.proofs.Views.{lived, same_frame, some_not, with_running}
+use Rattle.sts_store.proofs.Views.{lived, same_frame, with_running}
 use Rattle.sts_store.proofs.Entering.{with_run, entered, open_live, open_kept}
 use Rattle.sts_store.proofs.store.Store.open.Goals as goal
+use Rattle.laws_words.proofs.OptionLemmas.{not_none}
 
 pub at-running-requires : goal.at-running-requires
 at-running-requires c =
     let m = the_view c.self.inside in
     let l = lived m c.self.invariant c.args.t (rw (← c.self.view_is) at c.requires.lives) in
-    some_not (get_or m.frames.slots c.args.t None) l.run l.runs
+    not_none (get_or m.frames.slots c.args.t None) l.run l.runs
 
 pub enter_scope-requires-clause-more : goal.enter_scope-requires-clause-more
 enter_scope-requires-clause-more c =

@@ -10,19 +10,20 @@ use Rattle.sts_store.specs.Stored.{IsStore}
 use Rattle.sts_store.specs.declared.running.Running.{Running}
 use Rattle.sts_env.specs.declared.env.Env.{Env}
 use Rattle.sts_tree.specs.Forest.{Forest}
-use Rattle.sts_store.proofs.Views.{some_not, with_running}
+use Rattle.sts_store.proofs.Views.{with_running}
 use Rattle.sts_store.proofs.Clearing.{cleared_seen}
 use Rattle.sts_store.proofs.CloseLemmas.{gone_on}
 use Rattle.sts_store.proofs.Gone.{leaves, scope, none_left, free, gone_live, gone_rest, gone_kept}
 use Rattle.sts_store.proofs.Writing.{has_frame, at_hand, frame_is}
 use Rattle.sts_store.proofs.store.Store.take_out.Goals as goal
+use Rattle.laws_words.proofs.OptionLemmas.{not_none}
 
 pub close_scope-requires-clause-stands : goal.close_scope-requires-clause-stands
 close_scope-requires-clause-stands c =
     let m = the_view c.self.inside in
     let k = leaves m c.args.self.now c.self.invariant c.self.view_is c.args.t c.args.s c.requires.lives c.requires.order c.requires.entry c.requires.ended in
     let p = scope m c.args.t c.args.s k in
-    some_not (get_or m.tree.scopes c.args.s None) p.0 p.1
+    not_none (get_or m.tree.scopes c.args.s None) p.0 p.1
 
 pub close_scope-requires-clause-ended : goal.close_scope-requires-clause-ended
 close_scope-requires-clause-ended c =
