@@ -7,8 +7,9 @@ use Rattle.sts_output.specs.Output.{failure_output}
 use Rattle.sts_output.specs.Streams.{Streams, Tells, Written, most_of_a_text}
 use Rattle.sts_output.specs.Taking.{IsTakenOf}
 use Rattle.sts_output.specs.declared.taking.TakeError.{TakeError}
-use Rattle.look_ends.specs.Form.{EndsForm}
-use Rattle.look_ends.specs.Listing.{IsListingIn, Listing, ListingWrites, lines_form}
+use Rattle.look_end_lines.specs.Form.{EndsForm}
+use Rattle.look_end_lines.specs.InLines.{lines_form}
+use Rattle.look_ends.specs.Listing.{IsListingIn, Listing, ListingWrites}
 use Rattle.look_options.specs.declared.ends.EndsOptions.{EndsOptions}
 use Rattle.look_args.specs.declared.asked.Asked.{Asked}
 use Rattle.look_args.specs.declared.asked.Asked.TheVariants as asked

@@ -1,3 +1,2 @@
 mod CallsLemmas
 mod ListingLemmas
-mod Parts

@@ -11,11 +11,8 @@ use Rattle.sts_asm.specs.declared.fault.AsmError.{AsmError}
 use Rattle.sts_code.specs.Program.{Program}
 use Rattle.sts_output.specs.Output.{Output}
 use Rattle.look_options.specs.declared.ends.EndsOptions.{EndsOptions}
-use Rattle.look_refusal.specs.Stops.{Gives, IsTextFault}
-use Rattle.look_refusal.specs.declared.explanation.ExplainError.{ExplainError}
-use Rattle.look_refusal.proofs.StopLemmas.{says_less}
-use Rattle.look_ends.specs.Form.{EndsForm, IsFaultIn}
-use Rattle.look_ends.specs.Listing.{IsSearch, IsVerdict, Listing, ListsBy, ListsIn, alone, lines_form, searched_listing, setting}
+use Rattle.look_end_lines.specs.Form.{EndsForm, IsFaultIn}
+use Rattle.look_ends.specs.Listing.{IsSearch, IsVerdict, Listing, ListsBy, ListsIn, alone, searched_listing, setting}
 
 -- what was searched is what was asked for
 pub search_of : (form : EndsForm) (g x : Setting) (text : List ℕ) (number : Option ℕ) (is_refused : Bool) (found : List Found) (states : ℕ) (whole : Bool) (by_calls : Option ℕ) (r : Listing)
@@ -44,8 +41,3 @@ program_lists form text wanted number p r is h =
 pub fault_lists : (form : EndsForm) (text : List ℕ) (wanted : EndsOptions) (number : Option ℕ) (o : Output) (l : Listing) → l ≡ alone o → IsFaultIn form text o → ListsIn form (judged text) text wanted number l
 fault_lists form text wanted number o l is h =
     subst (λ (j : Result Program AsmError). ListsIn form j text wanted number l) (sym h.fault) (is ∙ ap alone h.printed)
-
--- the output for a fault is that of the form in lines
-pub faults_in_lines : (text : List ℕ) (r : Result Program ExplainError) (P : Program → Type 0) → Gives r P (IsTextFault text) → Gives r P (IsFaultIn lines_form text)
-faults_in_lines text (Ok p) P h = h
-faults_in_lines text (Err e) P h = says_less e (IsTextFault text) (IsFaultIn lines_form text) (λ o k. record { error = k.error; fault = k.fault; printed = k.printed }) h

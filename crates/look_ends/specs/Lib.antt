@@ -1,4 +1,1 @@
-pub mod Calls
-pub mod Form
-pub mod Lines
 pub mod Listing

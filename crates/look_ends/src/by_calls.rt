@@ -10,6 +10,7 @@ use crate::progress::Progress;
 use ends_faults::never_faults;
 use ends_plain::config::{EndsFound, Found, Setting};
 use ends_whole::{EndsByCalls, Room, ends_by_calls};
+use look_end_lines::Answer;
 use look_options::Limits;
 use std::alloc::{AllocError, Global};
 use sts_plain::PlainState;
@@ -36,20 +37,6 @@ const LONGEST_OF_REFUSED: usize = 100_000;
 /// The most states of a search over all schedules, times the events of the longest trace that is
 /// known, if no number of states is named. A state of a longer run is larger.
 const STATES_TIMES_EVENTS: usize = 10_000_000;
-
-/// The ends of a program, as far as they were found.
-#[derive(Drop)]
-pub struct Answer {
-    pub found: Vec<Found>,
-    /// How many states the search found. If a search over all schedules stopped, and one by calls
-    /// has all ends, these are the states of that one.
-    pub states: usize,
-    /// Are these the ends of all schedules?
-    pub whole: bool,
-    /// The states of a search by calls, if it found no other end, and it is not proved that there
-    /// is none.
-    pub by_calls: Option<usize>,
-}
 
 /// The most states that a search may keep.
 fn most_of(limits: Limits) -> u32 {

@@ -2,15 +2,14 @@
 
 ghost use Rattle.std.specs.Prelude.{◌≡◌, [], true, IfOk, option_map};
 ghost use Rattle.look_calls.specs.Calls.{AreCallEnds};
-ghost use Rattle.look_ends.specs.Calls as calls;
+ghost use Rattle.look_end_lines.specs.Calls as calls;
 ghost use Rattle.look_ends.specs.Listing as def;
 
-use crate::below::found_at;
 use crate::by_calls::MOST_STATES;
-use crate::form::EndsForm;
 use crate::listing::{Listing, STATUS_PART, listing_of};
 use ends_plain::config::Setting;
 use look_calls::{CallEnd, CallsFound, call_ends, no_calls};
+use look_end_lines::{EndsForm, found_at};
 use look_names::Names;
 use std::alloc::{AllocError, Global};
 use sts_model::Event;

@@ -6,19 +6,19 @@ ghost use Rattle.ends_whole.specs.Whole.{AreAllOf};
 ghost use Rattle.laws_runs.specs.Runs.{NeverFaults};
 ghost use Rattle.sts_asm.specs.Text.{judged};
 ghost use Rattle.sts_model.specs.declared.event.Event.{Event as AnyEvent};
+ghost use Rattle.look_end_lines.specs.InLines.{lines_form};
 ghost use Rattle.look_ends.specs.Listing as def;
 
-use crate::below::{found_at, has_number};
-use crate::by_calls::{Answer, answered, by_calls, room_after};
+use crate::by_calls::{answered, by_calls, room_after};
 use crate::calling::of_calls;
 use crate::exploring::explored;
-use crate::form::{EndLines, EndsForm};
 use crate::progress::Progress;
 use crate::verdict::{Judged, verdict};
 use ends_plain::config::{Found, Setting};
 use ends_plain::exploration::Exploration;
 use ends_plain::sample::{Sample, Sampling, sample_ends};
 use ends_whole::EndsByCalls;
+use look_end_lines::{Answer, EndLines, EndsForm, found_at, has_number};
 use look_names::Names;
 use look_options::{EndsOptions, Limits, Manner};
 use look_refusal::{ExplainError, Explanation};
@@ -303,7 +303,7 @@ pub fn listed<P: Progress>(
     text: &[u8],
     progress: &mut P,
 ) -> Result<Listing, AllocError>
-    ensures { IfOk result (def.ListsIn def.lines_form (judged text.now) text.now wanted number) }
+    ensures { IfOk result (def.ListsIn lines_form (judged text.now) text.now wanted number) }
 {
     listed_in(alloc, &EndLines, wanted, number, text, progress)
 }

@@ -12,8 +12,8 @@ use Rattle.look_cases.specs.Answer.{version}
 use Rattle.look_cases.specs.Json.{count, count_or_null, object_of}
 use Rattle.look_views.specs.Named.{line_at, placed}
 use Rattle.look_views.specs.Views.{faulty, line, text_line}
-use Rattle.look_ends.specs.Form.{EndsForm}
-use Rattle.look_ends.specs.Lines.{times_at}
+use Rattle.look_end_lines.specs.Form.{EndsForm}
+use Rattle.look_end_lines.specs.Lines.{times_at}
 use Rattle.look_ends_json.specs.Calls.{calls_lines}
 use Rattle.look_ends_json.specs.Outcome.{ended, missing}
 

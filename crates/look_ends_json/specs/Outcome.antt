@@ -6,7 +6,7 @@ use Rattle.sts_model.specs.declared.event.End.{End}
 use Rattle.sts_model.specs.declared.event.End.TheVariants.{Success, Failed}
 use Rattle.look_names.specs.Names.{value_name}
 use Rattle.look_cases.specs.Json.{integer, object_of}
-use Rattle.look_ends.specs.Lines.{has_number}
+use Rattle.look_end_lines.specs.Lines.{has_number}
 use Rattle.look_views.specs.Named.{named}
 
 -- a value or a code, and its name

@@ -16,7 +16,7 @@ use ends_plain::config::{Found, Setting};
 use ends_plain::sample::Sample;
 use look_calls::CallsFound;
 use look_cases::{Scalar, object_of, widened, with_member};
-use look_ends::{Answer, EndsForm, times_at};
+use look_end_lines::{Answer, EndsForm, times_at};
 use look_names::Names;
 use look_refusal::{ExplainError, Explanation};
 use look_views::{VERSION, faulty_text, line_at, placed};

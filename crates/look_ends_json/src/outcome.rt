@@ -10,7 +10,7 @@ ghost use Rattle.look_views.specs.Views.{line};
 ghost use Rattle.look_ends_json.specs.Outcome as def;
 
 use look_cases::{Scalar, object_of};
-use look_ends::has_number;
+use look_end_lines::has_number;
 use look_names::Names;
 use look_views::{push_line, with_name};
 use serde_json::Value;

@@ -1,6 +1,6 @@
 use Rattle.std.proofs.Common.{subst}
 use Rattle.look_refusal.specs.Stops.{Says}
-use Rattle.look_ends.specs.Form.{IsFaultIn}
+use Rattle.look_end_lines.specs.Form.{IsFaultIn}
 use Rattle.look_ends.proofs.ListingLemmas.{fault_lists, program_lists}
 use Rattle.look_ends.proofs.listing.listed_in.Goals as goal
 

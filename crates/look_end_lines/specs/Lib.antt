@@ -1,0 +1,4 @@
+pub mod Calls
+pub mod Form
+pub mod InLines
+pub mod Lines

@@ -1,7 +1,0 @@
-use Rattle.std.proofs.Common.{◌≡◌, ◌++◌, drop}
-use Rattle.look_ends.specs.Calls as def
-use Rattle.look_ends.proofs.calls.say_calls.Given as goal
-
--- what is written, and the lines of the rest
-abbrev pub invariant-loop-k : goal.invariant-loop-k
-invariant-loop-k l = l.out.items ++ def.call_lines l.told.names.now l.told.program.now (drop l.k l.found) l.k ≡ l.fn.out.items ++ def.call_lines l.told.names.now l.told.program.now l.found 0

@@ -1,5 +1,0 @@
-use Rattle.look_ends.proofs.ListingLemmas.{faults_in_lines}
-use Rattle.look_ends.proofs.form.EndLinesEndsForm.program_of.Goals as goal
-
-pub returns : goal.returns
-returns c = faults_in_lines c.args.text.now c.program_of.result _ c.program_of.ensures
