@@ -80,7 +80,7 @@ MIDDLE = (
     f"func main 0 / open s0 awaitok / fork s0 mid _ / fork s0 boom _ / join s0 bad - intr / close s0 / push 0 / ret / {FAILS}"
 )
 MANY = KID + (
-    "func main 0 / push 1000 / times 1000 / open s0 awaitall / fork s0 kid _ / join s0 - - intr / close s0 / jmp go / intr: / close s0 / "
+    "func main 0 / push 200 / times 200 / open s0 awaitall / fork s0 kid _ / join s0 - - intr / close s0 / jmp go / intr: / close s0 / "
     "go: / next / push 5 / ret / end"
 )
 BOUND = (
@@ -92,7 +92,7 @@ RUNS = [
     ("two subtasks", WORK, "0*5 1*4 2*4 0*7", "success 42 / steps 20", 0),
     ("a timeout", TIMED, "0*2 1*2 x0 0*4", "success 2 / steps 8", 0),
     ("a failure", MIDDLE, "0*3 1*3 2*2 3*1 1*3 3*3 1*2 0*3", "failed 8 / steps 19", 1),
-    ("many scopes", MANY, "0*2 " + " ".join(f"0*2 {task}*2 0*4" for task in range(1, 1001)) + " 0*2", "success 5 / steps 8004", 0),
+    ("many scopes", MANY, "0*2 " + " ".join(f"0*2 {task}*2 0*4" for task in range(1, 201)) + " 0*2", "success 5 / steps 1604", 0),
     ("a binding", BOUND, "0*4 1*2 0*4", "success 6 / steps 10", 0),
 ]
 REFUSED_TEXTS = [
@@ -105,7 +105,7 @@ ROWS = {
     "two subtasks": ("work 4 1 0 0 / main 21 3 1 0", "success 42"),
     "a timeout": ("kid 2 1 0 0 / main 9 2 1 0", "success 1"),
     "a failure": ("leaf 5 1 0 0 / boom 2 1 0 0 / mid 12 2 1 0 / main 22 4 2 0", "failed 8"),
-    "many scopes": ("kid 2 1 0 0 / main 9004 2 1 0", "success 5"),
+    "many scopes": ("kid 2 1 0 0 / main 1804 2 1 0", "success 5"),
     "a binding": ("kid 2 1 0 0 / main 12 2 1 1", "success 6"),
 }
 # no task of a text that is run with these has the first number, and no scope the second: they change nothing
@@ -117,7 +117,7 @@ ENDS = {
     "two subtasks": ("success 42", [20]),
     "a timeout": ("success 1", [8]),
     "a failure": ("failed 8", range(18, 22)),
-    "many scopes": ("success 5", [8004]),
+    "many scopes": ("success 5", [1604]),
     "a binding": ("success 6", [10]),
 }
 # What `look` says after these events of "a timeout". Its subtask is at its `ret` when the time is up.
@@ -228,7 +228,7 @@ def cases():
     for name, text, trace, answer, status in RUNS:
         for mode in ("plain", "replay"):
             yield Case(f"{mode}: {name}", [mode, "text", "trace"], lines(text), events(trace), lines(answer), status)
-        if name != "many scopes":  # (its 6,000 requests are those of `plain`)
+        if name != "many scopes":  # (its requests are those of `plain`, one for each scope and more)
             yield Case(f"joined: {name}", [], None, lines(text) + b"%\n" + events(trace), lines(answer), status)
         yield from runs(name, text, status)
         yield Case(f"verify: {name}", ["verify", "text"], lines(text), None, budgets(name), 0)
