@@ -1,5 +1,5 @@
 -- What is printed of ends, whether their trace is written or not.
-use Rattle.std.proofs.Common.{◌≡◌, ℕ, List, Option, refl}
+use Rattle.std.proofs.Common.{ℕ, List, refl}
 use Rattle.std.specs.Prelude.{option_map}
 use Rattle.sts_output.specs.Output.{Output, Writes, file_output}
 use Rattle.sts_output.specs.declared.taking.TakeError.TheVariants.{Read}

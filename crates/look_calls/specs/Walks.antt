@@ -2,7 +2,6 @@
 use Rattle.std.specs.Prelude.{◌≡◌, ℕ, List, [], ◌∷◌, ◌++◌, true}
 use Rattle.sts_model.specs.declared.event.Event.{Event}
 use Rattle.ends_search.specs.Search.{IsWay}
-use Rattle.ends_plain.specs.declared.config.Config.{Config}
 use Rattle.ends_plain.specs.declared.config.Setting.{Setting}
 use Rattle.ends_plain.specs.Configs.{next, can, start}
 use Rattle.look_calls.specs.Calls.{IsForked}

@@ -1,6 +1,6 @@
 -- The story of a run as lines of JSON (this project's own; docs/IMPLEMENTERS.md has the schema).
 use Rattle.std.specs.Prelude.{◌≡◌, ◌≢◌, ◌⊎◌, ℕ, ◌-◌, ◌==◌, List, [], ◌∷◌, codes, slice_get}
-use Rattle.std.specs.Prelude.{Option, Some, None, option_and_then, Result, Ok, Err, if◌then◌else◌}
+use Rattle.std.specs.Prelude.{Option, Some, None, Result, Ok, Err, if◌then◌else◌}
 use Rattle.std.specs.List.{after_first, before_first, flat_map}
 use Rattle.serde_json.specs.Data.{Data, string}
 use Rattle.sts_code.specs.Program.{Program}

@@ -3,7 +3,7 @@ use Rattle.std.specs.Prelude.{ℕ, ◌+◌, ◌-◌, ◌==◌, List, ◌++◌, c
 use Rattle.std.specs.Prelude.{Option, Some, None, is_some, if◌then◌else◌}
 use Rattle.std.specs.Fmt.{decimal}
 use Rattle.std.specs.List.{after_first, before_first, position}
-use Rattle.sts_asm.specs.Outline.{Outline, Sentence}
+use Rattle.sts_asm.specs.Outline.{Sentence}
 use Rattle.sts_asm.specs.Source.{line_at, sentence_at}
 use Rattle.sts_text.specs.Number.{digits_up_to}
 use Rattle.sts_text.specs.Words.{is_blank, is_filled}

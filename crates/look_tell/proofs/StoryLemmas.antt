@@ -1,5 +1,5 @@
 -- For callers: the machine of a story that goes on whether events count or not.
-use Rattle.std.proofs.Common.{◌≡◌, ℕ, ◌+◌, ◌<◌, ◌≤◌, ◌-◌, ◌^◌, List, [], ◌∷◌, ◌++◌, fold, Bool, true, false, cond, refl, sym, ap, ◌∙◌, arith, take, get_or, length, append_assoc, length-append, subst}
+use Rattle.std.proofs.Common.{◌≡◌, ℕ, ◌+◌, ◌<◌, ◌≤◌, ◌-◌, ◌^◌, List, [], ◌∷◌, ◌++◌, fold, Bool, false, cond, refl, sym, ap, ◌∙◌, arith, take, get_or, length, append_assoc, length-append, subst}
 use Rattle.std.proofs.lemmas.List.{append-nil, length-take-le, take_more}
 use Rattle.std.proofs.lemmas.List.Sums.{fold-append}
 use Rattle.sts_code.specs.Program.{Program}

@@ -6,7 +6,7 @@ use Rattle.std.specs.List.{after_first, before_first, flat_map, range_with_len}
 use Rattle.sts_model.specs.declared.event.Event.{Event}
 use Rattle.sts_model.specs.declared.event.Event.TheVariants as event
 use Rattle.sts_text.specs.Number.{numeral}
-use Rattle.sts_text.specs.Words.{is_filled, lines, words}
+use Rattle.sts_text.specs.Words.{lines, words}
 use Rattle.sts_trace.specs.Spelling.{trace_text}
 use Rattle.look_traces.specs.declared.part.Part.{Part}
 use Rattle.look_traces.specs.declared.part.Part.TheVariants.{Steps, Interrupt, Expire}

@@ -1,5 +1,5 @@
 -- The output for the bytes that were read.
-use Rattle.std.proofs.Common.{◌≡◌, List, [], ℕ, Option, inl, inr}
+use Rattle.std.proofs.Common.{List, [], ℕ, Option, inl, inr}
 use Rattle.sts_output.specs.Joined.{halves_of}
 use Rattle.sts_output.specs.Output.{Output, IsOutputOf}
 use Rattle.sts_output.specs.Taking.{IsTakenOf}

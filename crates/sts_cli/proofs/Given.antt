@@ -1,16 +1,15 @@
 -- The journal has the events that the dues gave.
-use Rattle.std.proofs.Common.{◌≡◌, ℕ, zero, suc, ◌+◌, ◌≤◌, ◌<◌, List, [], ◌∷◌, ◌++◌, length, take, drop, Bool, true, false, Option, Some, None, ◌⊎◌, inl, inr, refl, sym, ap, ◌∙◌, subst, length-append, arith}
+use Rattle.std.proofs.Common.{◌≡◌, ℕ, zero, suc, ◌+◌, ◌≤◌, ◌<◌, List, [], ◌∷◌, ◌++◌, length, take, drop, Bool, true, false, Some, None, ◌⊎◌, inl, inr, refl, sym, ap, ◌∙◌, subst, arith}
 use Rattle.std.proofs.lemmas.Bool.Decides.{nat_tests}
 use Rattle.std.proofs.lemmas.Option.{slice_get_past}
 use Rattle.std.specs.Prelude.{IfSome, IsSomeAnd, nat_le, if◌then◌else◌, slice_get}
 use Rattle.sts_model.specs.declared.event.Event.{Event}
-use Rattle.sts_model.specs.declared.event.Event.TheVariants.{Step, Interrupt, Expire}
-use Rattle.sts_model.specs.Run.{is_step}
+use Rattle.sts_model.specs.declared.event.Event.TheVariants.{Step}
 use Rattle.sts_trace.specs.declared.outside.Due.{Due}
 use Rattle.sts_pool.specs.Outside as outside
 use Rattle.sts_pool.specs.Outside.{Gave, IsGiven, IsOutside, outside_entries}
 use Rattle.sts_pool.proofs.OutsideLemmas.{entries_more, one_outside}
-use Rattle.sts_cli.specs.Dues.{AreGiven, due_event, dues_give, dues_left}
+use Rattle.sts_cli.specs.Dues.{AreGiven, dues_give}
 
 -- ---- an entry more
 

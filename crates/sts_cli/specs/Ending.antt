@@ -11,7 +11,7 @@ use Rattle.sts_args.specs.Refused.{AsksForHelp, IsMistaken}
 use Rattle.sts_args.specs.declared.asked.Line.{Line}
 use Rattle.sts_args.specs.declared.asked.Line.TheVariants as line
 use Rattle.sts_output.specs.Joined.{halves_of}
-use Rattle.sts_output.specs.Output.{Output, Shows, Writes, failure_output, memory_output}
+use Rattle.sts_output.specs.Output.{Output, Shows, failure_output, memory_output}
 use Rattle.sts_cli.specs.Running.{IsOutcomeOf, Outcome}
 use Rattle.sts_output.specs.Streams.{Differ, DifferFrom, Files, NoneIsYes, Prints, SameFile}
 use Rattle.sts_output.specs.Streams.{Streams, Tells}

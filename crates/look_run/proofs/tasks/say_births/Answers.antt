@@ -1,6 +1,4 @@
-use Rattle.std.proofs.Common.{◌≡◌, ℕ, ◌+◌, ◌<◌, ◌≤◌, List, ◌++◌, length, get_or, drop, refl, sym, ap, ◌∙◌, append_assoc}
-use Rattle.std.specs.List.{flat_map}
-use Rattle.std.proofs.lemmas.List.{append-nil, at_drop_all, at_drop_more}
+use Rattle.std.proofs.Common.{refl}
 use Rattle.laws_words.proofs.AppendLemmas.{item_said, items_said}
 use Rattle.look_run.specs.Lines.{subtask_word}
 use Rattle.look_run.proofs.tasks.say_births.Goals as goal
