@@ -1,5 +1,4 @@
-use Rattle.std.proofs.Common.{◌≡◌, ℕ, ◌+◌, List, [], ◌∷◌, ◌++◌, None, replicate, ap, ◌∙◌, arith}
-use Rattle.std.proofs.lemmas.List.{replicate_more}
+use Rattle.std.proofs.Common.{None, arith}
 use Rattle.laws_words.proofs.AppendLemmas.{one_more, all_there}
 use Rattle.look_accepted.proofs.notes.no_rules.Goals as goal
 

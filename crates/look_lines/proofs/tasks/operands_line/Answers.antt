@@ -1,4 +1,4 @@
-use Rattle.std.proofs.Common.{◌≡◌, ℕ, ℤ, List, ◌++◌, get_or, pos, sym, ap, ◌∙◌, append_assoc, rules, w64}
+use Rattle.std.proofs.Common.{ℤ, ◌++◌, get_or, pos, ap, ◌∙◌, rules, w64}
 use mir.Val.{SFits}
 use Rattle.std.specs.List.{flat_map}
 use Rattle.std.specs.String.{string_bytes}

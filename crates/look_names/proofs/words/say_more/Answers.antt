@@ -1,8 +1,6 @@
-use Rattle.std.proofs.Common.{◌≡◌, ℕ, ◌+◌, ◌<◌, ◌≤◌, List, ◌++◌, length, get_or, drop, codes, pos, refl, sym, ap, ◌∙◌, append_assoc, rules, w64}
+use Rattle.std.proofs.Common.{◌+◌, ◌++◌, get_or, codes, pos, refl, ap, ◌∙◌, append_assoc, rules, w64}
 use mir.Val.{SFits}
-use Rattle.std.specs.List.{flat_map}
 use Rattle.std.proofs.lemmas.Int.{to_z-of_z}
-use Rattle.std.proofs.lemmas.List.{append-nil, at_drop_all, at_drop_more}
 use Rattle.laws_words.proofs.AppendLemmas.{item_said, items_said}
 use Rattle.look_names.specs.Words.{value_words}
 use Rattle.look_names.proofs.words.say_more.Goals as goal

@@ -1,4 +1,4 @@
-use Rattle.std.proofs.Common.{◌≡◌, ℕ, ◌+◌, ◌≤◌, List, [], ◌∷◌, ◌++◌, length, drop, map, sym, ap, ◌∙◌, append_assoc}
+use Rattle.std.proofs.Common.{◌≡◌, ℕ, ◌+◌, ◌≤◌, List, [], ◌∷◌, ◌++◌, length, drop, map, sym, ap, ◌∙◌}
 use Rattle.std.proofs.lemmas.List.{append-nil, at_drop_all, at_drop_more}
 use Rattle.laws_words.proofs.AppendLemmas.{part_said}
 use Rattle.sts_output.specs.Shown.{shown_byte}
