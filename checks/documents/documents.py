@@ -19,14 +19,15 @@ The subjects are modules of this folder:
 - `crates`: floors in crates/README.md that don't fit crates.txt; a crate there without the crates that it uses;
   an edit that doesn't say what it makes wrong; decisions next to a page that doesn't link to them; proofs used of another
   crate from a file that isn't called `*Lemmas`;
-- `figures`: a table of SPEED.md that doesn't show the last figures of bench/figures.csv.
+- `figures`: a table of SPEED.md that doesn't show the last figures of bench/figures.csv;
+- `answers`: more long answers in proofs than checks/answers.most allows.
 """
 import importlib
 import sys
 
 from checks.documents.pages import Wrong
 
-SUBJECTS = ("tables", "links", "instructions", "codes", "contracts", "java", "constants", "crates", "figures")
+SUBJECTS = ("tables", "links", "instructions", "codes", "contracts", "java", "constants", "crates", "figures", "answers")
 
 
 def wrong(subject, is_writing):
