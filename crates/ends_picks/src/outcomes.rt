@@ -24,7 +24,7 @@ pub const MOST_OUTCOMES: usize = 8_192;
 
 /// How many ends count towards a cancel, how many subtasks are of the kinds that the owner asked
 /// for, and the sum of the values. A tally that was not asked for is 0.
-#[derive(Clone, Copy, Debug, PartialEq, Eq)]
+#[derive(Clone, Copy, PartialEq, Eq)]
 pub struct Outcome {
     pub triggers: u32,
     pub successes: u32,
@@ -34,7 +34,7 @@ pub struct Outcome {
 }
 
 /// Why there is no list of outcomes.
-#[derive(Clone, Copy, Debug, Drop)]
+#[derive(Clone, Copy, Drop)]
 pub enum Failure {
     /// There is no memory.
     NoMemory(AllocError),

@@ -29,7 +29,7 @@ pub struct Sample {
 }
 
 /// How many schedules are tried, from which seed, and the limit for the events of one schedule.
-#[derive(Clone, Copy, Debug)]
+#[derive(Clone, Copy)]
 pub struct Sampling {
     pub schedules: u64,
     pub seed: u64,

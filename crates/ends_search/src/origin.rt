@@ -4,7 +4,7 @@ use sts_model::Event;
 
 /// Where a state came from: an event, and the place of the state before it. `is_last` says whether
 /// the state is one of those that the search is for.
-#[derive(Clone, Copy, Debug, PartialEq, Eq)]
+#[derive(Clone, Copy, PartialEq, Eq)]
 pub struct Origin {
     pub parent: usize,
     pub event: Event,

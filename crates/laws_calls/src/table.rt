@@ -9,7 +9,7 @@ use sts_model::{Bound, End, Frame, Items, Phase};
 use sts_repeats::repeats::Repeats;
 
 /// What may come to a task from outside.
-#[derive(Clone, Copy, Debug, PartialEq, Eq)]
+#[derive(Clone, Copy, PartialEq, Eq)]
 pub struct Outside {
     /// The most interrupts that come, to all tasks together.
     pub interrupts: u32,
@@ -36,7 +36,7 @@ impl Outside {
 /// What a slot of a task holds, under local names. An open scope goes by its place among the open
 /// scopes of the task, the outermost first. A subtask goes by its place among those of its scope,
 /// in fork order.
-#[derive(Clone, Copy, Debug, PartialEq, Eq)]
+#[derive(Clone, Copy, PartialEq, Eq)]
 pub enum Held {
     Empty,
     Lent,
@@ -54,7 +54,7 @@ pub struct Call {
 }
 
 /// A way that a task may come to its end.
-#[derive(Clone, Copy, Debug, PartialEq, Eq)]
+#[derive(Clone, Copy, PartialEq, Eq)]
 pub struct Way {
     pub end: End,
 }
@@ -71,7 +71,7 @@ pub struct Part {
 }
 
 /// What an owner knows of a cancel of its scope.
-#[derive(Clone, Copy, Debug, PartialEq, Eq)]
+#[derive(Clone, Copy, PartialEq, Eq)]
 pub enum Knowledge {
     /// It knows nothing.
     Unseen,
@@ -85,7 +85,7 @@ pub enum Knowledge {
 
 /// The answers that an owner got to `tally` and `total`: how many succeeded, failed and are
 /// unavailable, and the sum.
-#[derive(Clone, Copy, Debug, PartialEq, Eq)]
+#[derive(Clone, Copy, PartialEq, Eq)]
 pub struct Asked {
     pub successes: Option<u32>,
     pub failures: Option<u32>,

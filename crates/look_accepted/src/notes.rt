@@ -15,7 +15,7 @@ use std::alloc::{AllocError, Global};
 use sts_code::{Instr, Program, code_of};
 
 /// An instruction that relies on such a rule.
-#[derive(Clone, Copy, Debug, PartialEq, Eq)]
+#[derive(Clone, Copy, PartialEq, Eq)]
 pub struct Note {
     pub function: u32,
     pub place: u32,

@@ -9,7 +9,7 @@ use sts_rules::{SlotKind, TypedEntry, TypedPhase, TypedScope};
 use sts_types::TypeState;
 
 /// A rule that an instruction relies on, and that JDK 25 doesn't share.
-#[derive(Clone, Copy, Debug, PartialEq, Eq)]
+#[derive(Clone, Copy, PartialEq, Eq)]
 pub enum Reliance {
     /// A `join` comes after an interrupted one.
     SecondJoin,

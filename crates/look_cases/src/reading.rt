@@ -7,7 +7,7 @@ ghost use Rattle.look_cases.specs.Case as def;
 use serde_json::Value;
 
 /// A text, and a trace if a run is asked for.
-#[derive(Clone, Copy, Debug)]
+#[derive(Clone, Copy)]
 pub struct Case<'a> {
     pub text: &'a [u8],
     pub trace: Option<&'a [u8]>,

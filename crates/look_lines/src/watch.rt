@@ -15,7 +15,7 @@ use sts_plain::{Misstep, Plain, PlainState, can_step, misuse};
 use sts_world::World;
 
 /// An event that was applied: its number, counted from 1, and whether it counted.
-#[derive(Clone, Copy, Debug, PartialEq, Eq)]
+#[derive(Clone, Copy, PartialEq, Eq)]
 pub struct Applied {
     pub number: usize,
     pub event: Event,

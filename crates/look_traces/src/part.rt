@@ -10,7 +10,7 @@ use sts_text::numeral;
 pub const MOST_EVENTS: u32 = 1_000_000;
 
 /// What a word means.
-#[derive(Clone, Copy, Debug, PartialEq, Eq)]
+#[derive(Clone, Copy, PartialEq, Eq)]
 pub enum Part {
     /// Each task from the first to the last takes steps: the third number of them.
     Steps(u32, u32, u32),

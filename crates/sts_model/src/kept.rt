@@ -9,7 +9,7 @@ use crate::stack::Stack;
 use std::marker::Model;
 
 /// A slot as bytes: what it holds, and the birth number.
-#[derive(Clone, Copy, Debug, PartialEq, Eq)]
+#[derive(Clone, Copy, PartialEq, Eq)]
 pub enum SlotBytes {
     Empty,
     Own([u8; 4]),
@@ -18,14 +18,14 @@ pub enum SlotBytes {
 }
 
 /// An entry as bytes: the birth number of a scope, or a key and its value.
-#[derive(Clone, Copy, Debug, PartialEq, Eq)]
+#[derive(Clone, Copy, PartialEq, Eq)]
 pub enum EntryBytes {
     Scope([u8; 4]),
     Binding(u8, [u8; 8]),
 }
 
 /// A slot in five bytes. Contracts see the slot.
-#[derive(Clone, Copy, Debug, PartialEq, Eq)]
+#[derive(Clone, Copy, PartialEq, Eq)]
 pub struct KeptSlot {
     bytes: SlotBytes,
 }
@@ -78,7 +78,7 @@ impl KeptSlot {
 }
 
 /// An entry in ten bytes. Contracts see the entry.
-#[derive(Clone, Copy, Debug, PartialEq, Eq)]
+#[derive(Clone, Copy, PartialEq, Eq)]
 pub struct KeptEntry {
     bytes: EntryBytes,
 }

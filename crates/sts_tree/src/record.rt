@@ -5,7 +5,7 @@ use sts_links::{Ends, Link};
 use sts_model::{End, Phase, Stand};
 
 /// A task that still counts. It names others by birth number.
-#[derive(Clone, Copy, Debug)]
+#[derive(Clone, Copy)]
 pub struct TaskNode {
     /// The scope that it is a subtask of; the root has none.
     pub scope: Option<u32>,

@@ -4,7 +4,7 @@
 pub const LOOKS: u32 = 64;
 
 /// The numbers of the rule.
-#[derive(Clone, Copy, Debug, PartialEq, Eq, Hash)]
+#[derive(Clone, Copy, PartialEq, Eq, Hash)]
 pub struct Limits {
     /// This many local instructions in a row are long enough to justify waking another worker.
     pub worth: u32,

@@ -1,7 +1,7 @@
 //! The calls that a worker makes under the lock to the tasks of a run.
 
 /// A slice that is back: its task, and how many local instructions of it were done.
-#[derive(Clone, Copy, Debug, PartialEq, Eq)]
+#[derive(Clone, Copy, PartialEq, Eq)]
 pub struct Back {
     pub task: u32,
     pub done: u32,

@@ -35,7 +35,7 @@ use crate::worker::Wake;
 /// and are awake with no slice out. How many tasks several workers may still claim at once. The longest
 /// row of local instructions that was seen since the last claim, and a mean of late rows. The task that
 /// was born behind those of the last slices. And whether the run is stopped.
-#[derive(Clone, Copy, Debug, PartialEq, Eq, Hash)]
+#[derive(Clone, Copy, PartialEq, Eq, Hash)]
 pub struct Waits {
     pub(crate) limits: Limits,
     workers: u32,

@@ -3,7 +3,7 @@
 ghost use Rattle.std.specs.Prelude.{◌≡◌};
 
 /// Where a worker is between two holds of the lock.
-#[derive(Clone, Copy, Debug, PartialEq, Eq, Hash)]
+#[derive(Clone, Copy, PartialEq, Eq, Hash)]
 pub enum Worker {
     /// It comes to the lock for the first time.
     New,
@@ -20,7 +20,7 @@ pub enum Worker {
 }
 
 /// Whom a worker wakes at a hold.
-#[derive(Clone, Copy, Debug, PartialEq, Eq)]
+#[derive(Clone, Copy, PartialEq, Eq)]
 pub enum Wake {
     Nobody,
     /// One of the workers that sleep.
@@ -29,7 +29,7 @@ pub enum Wake {
 }
 
 /// What comes of a hold: where the worker is then, and whom it wakes before it gives the lock up.
-#[derive(Clone, Copy, Debug, PartialEq, Eq)]
+#[derive(Clone, Copy, PartialEq, Eq)]
 pub struct Held {
     pub worker: Worker,
     pub wake: Wake,
