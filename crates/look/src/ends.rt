@@ -6,8 +6,9 @@ ghost use Rattle.sts_output.specs.Output.{Writes};
 ghost use Rattle.look_ends.specs.Listing.{IsListingIn, Listing as AnyListing, ListsIn};
 ghost use Rattle.look.specs.Piping.{form_of};
 
-use look_ends::{Listing, Progress, listed, listed_in, write_ends, write_ends_in};
+use look_ends::{Listing, listed, listed_in, write_ends, write_ends_in};
 use look_ends_json::JsonEnds;
+use look_host::Progress;
 use look_options::EndsOptions;
 use std::alloc::{AllocError, Global};
 use std::io::Write;

@@ -2,14 +2,12 @@
 //! a program.
 #![tactic(auto)]
 
-pub mod dashed;
 pub mod ends;
 pub mod piped;
 pub mod program;
-pub mod terminal;
 
 use crate::program::start;
-use crate::terminal::Terminal;
+use look_host::Terminal;
 use std::io::IsTerminal;
 use std::process::ExitCode;
 

@@ -5,7 +5,8 @@ ghost use Rattle.look.specs.Piping as def;
 
 use crate::ends::listed_by;
 use look_args::asked::{Asked, Kept};
-use look_ends::{Progress, write_listing};
+use look_ends::write_listing;
+use look_host::Progress;
 use look_options::EndsOptions;
 use std::alloc::Global;
 use std::io::Write;

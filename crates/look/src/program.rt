@@ -8,13 +8,13 @@ ghost use Rattle.look_cases.specs.Lines.{IsRepliesTo};
 ghost use Rattle.look_shows.specs.Showing.{IsExplainedIn, ShowsInFull};
 ghost use Rattle.look.specs.Ending as def;
 
-use crate::dashed::Dashed;
 use crate::ends::{listed_by, write_ends_by};
 use crate::piped::{on_piped, piped_of};
 use look_args::asked::{Asked, AskedEnds, ExplainForm};
 use look_args::line;
 use look_cases::write_answers;
-use look_ends::{Listing, Progress, write_listing};
+use look_ends::{Listing, write_listing};
+use look_host::{Dashed, Progress};
 use look_picture::FileNames;
 use look_shows::{Showing, explain_in, show_in_full};
 use std::alloc::Global;

@@ -6,11 +6,11 @@ ghost use Rattle.ends_plain.specs.Listed.{AreEnds, IsEndOf};
 ghost use Rattle.ends_plain.specs.declared.config.Setting.{Setting};
 ghost use Rattle.laws_runs.specs.Runs.{NeverFaults};
 
-use crate::progress::Progress;
 use ends_faults::never_faults;
 use ends_plain::config::{EndsFound, Found, Setting};
 use ends_whole::{EndsByCalls, Room, ends_by_calls};
 use look_end_lines::Answer;
+use look_host::Progress;
 use look_options::Limits;
 use std::alloc::{AllocError, Global};
 use sts_plain::PlainState;

@@ -2,10 +2,10 @@
 
 ghost use Rattle.std.specs.Prelude.{◌≡◌, IfOk};
 
-use crate::progress::Progress;
 use ends_plain::config::{Found, Setting};
 use ends_plain::exploration::Exploration;
 use look_end_lines::say_found;
+use look_host::Progress;
 use look_names::Names;
 use look_run::Told;
 use look_text::Said;

@@ -5,10 +5,8 @@ mod by_calls;
 mod calling;
 mod exploring;
 mod listing;
-mod progress;
 mod verdict;
 mod writing;
 
 pub use listing::{Listing, listed, listed_in};
-pub use progress::{Progress, Silent};
 pub use writing::{write_ends, write_ends_in, write_listing};

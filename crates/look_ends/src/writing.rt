@@ -7,8 +7,8 @@ ghost use Rattle.sts_trace.specs.Spelling.{trace_text};
 ghost use Rattle.look_ends.specs.Listing as def;
 
 use crate::listing::{Listing, listed_in};
-use crate::progress::Progress;
 use look_end_lines::{EndLines, EndsForm};
+use look_host::Progress;
 use look_options::EndsOptions;
 use std::alloc::Global;
 use std::io;

@@ -5,7 +5,8 @@ ghost use Rattle.sts_trace.specs.Spelling.{trace_text};
 ghost use Rattle.look_ends.specs.Listing.{IsListingOf, Listing};
 ghost use Rattle.look_page.specs.Ends.{ends_wanted};
 
-use look_ends::{Listing, Silent, listed};
+use look_ends::{Listing, listed};
+use look_host::Silent;
 use look_options::{EndsOptions, Limits, Manner};
 use std::alloc::{AllocError, Global};
 use sts_trace::write_trace;

@@ -4,7 +4,8 @@ ghost use Rattle.std.specs.Prelude.{IfOk, Some};
 ghost use Rattle.sts_output.specs.Output.{Output, Writes};
 ghost use Rattle.look_page.specs.Printed.{Prints};
 
-use look_ends::{Silent, write_ends};
+use look_ends::write_ends;
+use look_host::Silent;
 use look_lines::write_run;
 use look_options::{DrawOptions, EndsOptions, ViewOptions, Window};
 use look_picture::draw;

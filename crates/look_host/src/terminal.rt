@@ -1,6 +1,6 @@
 //! How far a search is, on a terminal, and how long it may last.
 
-use look_ends::Progress;
+use crate::progress::Progress;
 use std::alloc::Global;
 use std::io::Write;
 use std::rt::Clock;
