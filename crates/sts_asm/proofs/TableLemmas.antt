@@ -279,6 +279,10 @@ abbrev left_over : Mnemonic → List Operand
 left_over (Plain instr) = (shape instr).operands
 left_over _ = []
 
+-- one word that is right; it is named here, so that a proof doesn't write it out
+one_word : {P : List ℕ → Type 0} (w : List ℕ) → P w → IsWord P (w ∷ [])
+one_word w h = (w, refl, h)
+
 right : (m : Mnemonic) → left_over m ≡ [] → IsRight m
 right (Plain x) none names rest instr e = let f = finished_ok x instr rest e in rw (← f.1) (rest, refl, rw none f.0)
 right (WithNumber m) none names rest instr e =
@@ -300,12 +304,12 @@ right Push none names rest instr e =
     let b = bind_ok (value_at rest) (λ k. finished (i.Push k.0) k.1) instr e in
     let n = value_found rest b.0 b.1 in
     let f = finished_ok (i.Push b.0.0) instr b.0.1 b.2 in
-    rw (← f.1) (rest, refl, (n.0 ∷ [], b.0.1, n.1, (n.0, refl, n.2), f.0))
+    rw (← f.1) (rest, refl, (n.0 ∷ [], b.0.1, n.1, one_word n.0 n.2, f.0))
 right Times none names rest instr e =
     let b = bind_ok (number_at (2 ^ 16 - 1) rest) (λ n. finished (i.Times n.0) n.1) instr e in
     let n = number_found (2 ^ 16 - 1) rest b.0 b.1 in
     let f = finished_ok (i.Times b.0.0) instr b.0.1 b.2 in
-    rw (← f.1) (rest, refl, (n.0 ∷ [], b.0.1, n.1, (n.0, refl, n.2), f.0))
+    rw (← f.1) (rest, refl, (n.0 ∷ [], b.0.1, n.1, one_word n.0 n.2, f.0))
 right Open none names rest instr e =
     let a = bind_ok (slot_at rest) (λ s. joiner_at s.1 >>= λ j. timed_at j.1 >>= λ t. finished (i.Open s.0 t.0 j.0) t.1) instr e in
     let b = bind_ok (joiner_at a.0.1) (λ j. timed_at j.1 >>= λ t. finished (i.Open a.0.0 t.0 j.0) t.1) instr a.2 in
@@ -314,7 +318,7 @@ right Open none names rest instr e =
     let j = joiner_found a.0.1 b.0 b.1 in
     let f = finished_ok (i.Open a.0.0 c.0.0 b.0.0) instr c.0.1 c.2 in
     let t = timed_found b.0.1 c.0 c.1 f.0 in
-    rw (← f.1) (rest, refl, (s.0 ∷ [], a.0.1, s.1, (s.0, refl, s.2), (j.front, b.0.1, j.whole, j.is, (b.0.1, [], sym (append-nil b.0.1), t, refl))))
+    rw (← f.1) (rest, refl, (s.0 ∷ [], a.0.1, s.1, one_word s.0 s.2, (j.front, b.0.1, j.whole, j.is, (b.0.1, [], sym (append-nil b.0.1), t, refl))))
 right Fork none names rest instr e =
     let a = bind_ok (slot_at rest) (λ s. function_at names s.1 >>= λ f. handle_at f.1 >>= λ h. finished (i.Fork s.0 f.0 h.0) h.1) instr e in
     let b = bind_ok (function_at names a.0.1) (λ f. handle_at f.1 >>= λ h. finished (i.Fork a.0.0 f.0 h.0) h.1) instr a.2 in
@@ -323,7 +327,7 @@ right Fork none names rest instr e =
     let g = function_found names a.0.1 b.0 b.1 in
     let h = handle_found b.0.1 c.0 c.1 in
     let f = finished_ok (i.Fork a.0.0 b.0.0 c.0.0) instr c.0.1 c.2 in
-    rw (← f.1) (rest, refl, (s.0 ∷ [], a.0.1, s.1, (s.0, refl, s.2), (g.0 ∷ [], b.0.1, g.1, (g.0, refl, g.2), (h.0 ∷ [], c.0.1, h.1, (h.0, refl, h.2), f.0))))
+    rw (← f.1) (rest, refl, (s.0 ∷ [], a.0.1, s.1, one_word s.0 s.2, (g.0 ∷ [], b.0.1, g.1, one_word {P = IsFunction names b.0.0} g.0 g.2, (h.0 ∷ [], c.0.1, h.1, one_word {P = IsHandle c.0.0} h.0 h.2, f.0))))
 right Join none names rest instr e =
     let a = bind_ok (slot_at rest) (λ s. maybe_target_at names s.1 >>= λ f. maybe_target_at names f.1 >>= λ t. target_at names t.1 >>= λ r. finished (i.Join s.0 f.0 t.0 r.0) r.1) instr e in
     let b = bind_ok (maybe_target_at names a.0.1) (λ f. maybe_target_at names f.1 >>= λ t. target_at names t.1 >>= λ r. finished (i.Join a.0.0 f.0 t.0 r.0) r.1) instr a.2 in
@@ -334,7 +338,7 @@ right Join none names rest instr e =
     let y = maybe_found names b.0.1 c.0 c.1 in
     let z = target_found names c.0.1 d.0 d.1 in
     let f = finished_ok (i.Join a.0.0 b.0.0 c.0.0 d.0.0) instr d.0.1 d.2 in
-    rw (← f.1) (rest, refl, (s.0 ∷ [], a.0.1, s.1, (s.0, refl, s.2), (x.0 ∷ [], b.0.1, x.1, (x.0, refl, x.2), (y.0 ∷ [], c.0.1, y.1, (y.0, refl, y.2), (z.0 ∷ [], d.0.1, z.1, (z.0, refl, z.2), f.0)))))
+    rw (← f.1) (rest, refl, (s.0 ∷ [], a.0.1, s.1, one_word s.0 s.2, (x.0 ∷ [], b.0.1, x.1, one_word {P = IsMaybeLabel names b.0.0} x.0 x.2, (y.0 ∷ [], c.0.1, y.1, one_word {P = IsMaybeLabel names c.0.0} y.0 y.2, (z.0 ∷ [], d.0.1, z.1, one_word {P = IsLabel names d.0.0} z.0 z.2, f.0)))))
 right Case none names rest instr e =
     let a = bind_ok (slot_at rest) (λ h. target_at names h.1 >>= λ s. target_at names s.1 >>= λ f. finished (i.Case h.0 s.0 f.0) f.1) instr e in
     let b = bind_ok (target_at names a.0.1) (λ s. target_at names s.1 >>= λ f. finished (i.Case a.0.0 s.0 f.0) f.1) instr a.2 in
@@ -343,14 +347,14 @@ right Case none names rest instr e =
     let x = target_found names a.0.1 b.0 b.1 in
     let y = target_found names b.0.1 c.0 c.1 in
     let f = finished_ok (i.Case a.0.0 b.0.0 c.0.0) instr c.0.1 c.2 in
-    rw (← f.1) (rest, refl, (s.0 ∷ [], a.0.1, s.1, (s.0, refl, s.2), (x.0 ∷ [], b.0.1, x.1, (x.0, refl, x.2), (y.0 ∷ [], c.0.1, y.1, (y.0, refl, y.2), f.0))))
+    rw (← f.1) (rest, refl, (s.0 ∷ [], a.0.1, s.1, one_word s.0 s.2, (x.0 ∷ [], b.0.1, x.1, one_word {P = IsLabel names b.0.0} x.0 x.2, (y.0 ∷ [], c.0.1, y.1, one_word {P = IsLabel names c.0.0} y.0 y.2, f.0))))
 right Tally none names rest instr e =
     let a = bind_ok (slot_at rest) (λ s. kind_at s.1 >>= λ k. finished (i.Tally s.0 k.0) k.1) instr e in
     let b = bind_ok (kind_at a.0.1) (λ k. finished (i.Tally a.0.0 k.0) k.1) instr a.2 in
     let s = slot_found rest a.0 a.1 in
     let k = kind_found a.0.1 b.0 b.1 in
     let f = finished_ok (i.Tally a.0.0 b.0.0) instr b.0.1 b.2 in
-    rw (← f.1) (rest, refl, (s.0 ∷ [], a.0.1, s.1, (s.0, refl, s.2), (k.0 ∷ [], b.0.1, k.1, (k.0, refl, k.2), f.0)))
+    rw (← f.1) (rest, refl, (s.0 ∷ [], a.0.1, s.1, one_word s.0 s.2, (k.0 ∷ [], b.0.1, k.1, one_word {P = IsKind b.0.0} k.0 k.2, f.0)))
 
 -- the word of an instruction without operands is no other instruction's word
 no_other : (word : List ℕ) (m : Mnemonic) → looked_up plain_words word ≡ Some m → looked_up other_words word ≡ None

@@ -1,4 +1,5 @@
 -- The fault of a line (this project's own).
+use Rattle.std.proofs.Common.{◌≡◌, refl}
 use Rattle.sts_asm.specs.declared.fault.AsmKind.{AsmKind}
 use Rattle.sts_asm.specs.declared.fault.AsmKind.TheVariants as kind
 use Rattle.sts_asm.specs.declared.fault.LineKind.{LineKind}
@@ -16,3 +17,25 @@ kind_of UnknownLabel = kind.UnknownLabel
 kind_of DuplicateLabel = kind.DuplicateLabel
 kind_of Unclosed = kind.Unclosed
 kind_of Memory = kind.Memory
+
+-- the fault of a line that has this kind; no line has the other kinds
+abbrev pub line_kind : AsmKind → LineKind
+line_kind kind.NotAscii = NotAscii
+line_kind kind.UnknownWord = UnknownWord
+line_kind kind.BadNumber = BadNumber
+line_kind kind.BadOperands = BadOperands
+line_kind kind.UnknownLabel = UnknownLabel
+line_kind kind.DuplicateLabel = DuplicateLabel
+line_kind kind.Unclosed = Unclosed
+line_kind _ = Memory
+
+-- a fault is found by its kind
+pub line_kind_of : (fault : LineKind) → line_kind (kind_of fault) ≡ fault
+line_kind_of NotAscii = refl
+line_kind_of UnknownWord = refl
+line_kind_of BadNumber = refl
+line_kind_of BadOperands = refl
+line_kind_of UnknownLabel = refl
+line_kind_of DuplicateLabel = refl
+line_kind_of Unclosed = refl
+line_kind_of Memory = refl

@@ -86,16 +86,21 @@ pub enum LineKind {
 }
 
 /// What is wrong with a line, or that memory ran out, in one byte: contracts see an `AsmKind`.
-#[derive(Drop)]
+#[derive(Clone, Copy)]
 pub struct LineFault(pub(crate) LineKind);
 
 impl Model for LineFault {
     ghost use Rattle.sts_asm.specs.declared.fault.AsmKind.{AsmKind};
-    ghost use Rattle.sts_asm.specs.LineFault.{kind_of};
+    ghost use Rattle.sts_asm.specs.LineFault.{kind_of, line_kind, line_kind_of};
+    ghost use Rattle.std.proofs.Common.{ap};
 
     ghost Value = { AsmKind };
 
     ghost view = { λ f. kind_of f.0 };
+
+    ghost inverse = { λ kind. record { 0 = line_kind kind } };
+
+    ghost inverse_ok = { λ f h. ap (λ kind. record { 0 = kind }) (line_kind_of f.0) };
 }
 
 impl LineFault {

@@ -67,7 +67,10 @@ pub fn value_at(words: &mut Words<'_>) -> Result<i64, LineFault>
     let Some(word) = words.word() else {
         return Err(LineFault(LineKind::BadOperands));
     };
-    number(word).ok_or(LineFault(LineKind::BadNumber))
+    match number(word) {
+        Some(value) => Ok(value),
+        None => Err(LineFault(LineKind::BadNumber)),
+    }
 }
 
 /// The slot that a word spells: `s` and digits up to 255.
@@ -94,7 +97,10 @@ pub fn slot_at(words: &mut Words<'_>) -> Result<u8, LineFault>
     let Some(word) = words.word() else {
         return Err(LineFault(LineKind::BadOperands));
     };
-    slot(word).ok_or(LineFault(LineKind::BadOperands))
+    match slot(word) {
+        Some(slot) => Ok(slot),
+        None => Err(LineFault(LineKind::BadOperands)),
+    }
 }
 
 /// The slot of a subtask that a word spells; `_` spells none.
@@ -121,7 +127,10 @@ pub fn handle_at(words: &mut Words<'_>) -> Result<Option<u8>, LineFault>
     let Some(word) = words.word() else {
         return Err(LineFault(LineKind::BadOperands));
     };
-    handle(word).ok_or(LineFault(LineKind::BadOperands))
+    match handle(word) {
+        Some(handle) => Ok(handle),
+        None => Err(LineFault(LineKind::BadOperands)),
+    }
 }
 
 /// A name.
@@ -164,7 +173,10 @@ pub fn target_at(words: &mut Words<'_>, names: Option<&Names<'_, '_>>) -> Result
     ensures { Reads (λ to. to) result words.new (target_at (option_copied names.entry) words.old) }
 {
     let name = name_at(words)?;
-    label_in(names, name).ok_or(LineFault(LineKind::UnknownLabel))
+    match label_in(names, name) {
+        Some(to) => Ok(to),
+        None => Err(LineFault(LineKind::UnknownLabel)),
+    }
 }
 
 /// The index of the function that a name names.
@@ -176,7 +188,10 @@ pub fn function_at(words: &mut Words<'_>, names: Option<&Names<'_, '_>>) -> Resu
     ensures { Reads (λ f. f) result words.new (function_at (option_copied names.entry) words.old) }
 {
     let name = name_at(words)?;
-    function_in(names, name).ok_or(LineFault(LineKind::UnknownLabel))
+    match function_in(names, name) {
+        Some(function) => Ok(function),
+        None => Err(LineFault(LineKind::UnknownLabel)),
+    }
 }
 
 /// A label, or `-` for none.
@@ -275,7 +290,10 @@ pub fn joiner_at(words: &mut Words<'_>) -> Result<Joiner, LineFault>
     if is_word(word, b"until") {
         return until_at(words);
     }
-    one_word_joiner(word).ok_or(LineFault(LineKind::BadOperands))
+    match one_word_joiner(word) {
+        Some(joiner) => Ok(joiner),
+        None => Err(LineFault(LineKind::BadOperands)),
+    }
 }
 
 /// `timed`, or nothing.
@@ -322,7 +340,10 @@ pub fn kind_at(words: &mut Words<'_>) -> Result<Kind, LineFault>
     let Some(word) = words.word() else {
         return Err(LineFault(LineKind::BadOperands));
     };
-    kind_counted(word).ok_or(LineFault(LineKind::BadOperands))
+    match kind_counted(word) {
+        Some(kind) => Ok(kind),
+        None => Err(LineFault(LineKind::BadOperands)),
+    }
 }
 
 /// The instruction, if no word is left over.
