@@ -1,4 +1,4 @@
-//! One book or two, act by act: what each answers, and what it has recorded at the end.
+//! Two books, act by act: what each answers, and what it has recorded at the end.
 
 use crate::journals::one_by_one;
 use crate::rows::compare;
@@ -9,7 +9,7 @@ use sts_machine::Turned::{Idle, Stepped};
 use sts_machine::{Slice, Turned};
 use sts_model::Event::{Expire, Interrupt, Step};
 use sts_model::{End, Event};
-use sts_pool::{Book, OutsideFull};
+use sts_pool::Book;
 use sts_verify::Verified;
 
 /// Which of the two books.
@@ -17,33 +17,24 @@ use sts_verify::Verified;
 enum Which {
     First,
     Second,
-    /// The first book, and then the second one.
-    Each,
-}
-
-/// The book from which a slice was taken.
-#[derive(Clone, Copy)]
-enum Whose {
-    Own,
-    Others,
 }
 
 /// A call on a book, and its answer.
 #[derive(Clone, Copy)]
 enum Act {
-    /// A turn of a task, which is idle.
-    Idle(u32),
-    /// So many turns of a task, each of which is a step.
-    Steps(u32, u32),
-    Interrupt(u32, Turned),
-    Expire(u32, Turned),
+    /// This many turns of a task, each with this effect.
+    Turns(u32, u32, Turned),
+    /// An interrupt or an expiry, this many times, each with this effect. Or the book is full.
+    Tells(Event, u32, Option<Turned>),
     /// A slice is taken out, and this is its task, if there is one.
     Out(Option<u32>),
     /// The slice that is out does local instructions, at most the first number. The second number
     /// of them were done.
     Local(u32, u32),
-    /// A slice is given back: whether the book takes it.
-    In(Whose, bool),
+    /// The slice that was taken out of the book is given back to it: whether the book takes it.
+    In(bool),
+    /// The slice that was taken out of the other book is given to it: whether the book takes it.
+    Strange(bool),
 }
 
 /// A book, and the slice that was taken out of it last.
@@ -54,90 +45,95 @@ struct Desk<'p> {
 }
 
 /// How a book's root has ended, and its journal: each event with how often it comes in a row.
-struct Record {
-    end: Option<End>,
-    journal: &'static [(Event, u32)],
-}
-
-/// The text of a book, the calls on it in turn, and what it has recorded then.
-struct Alone {
-    name: &'static str,
-    text: &'static str,
-    acts: &'static [Act],
-    record: Record,
-}
+struct Record(Option<End>, &'static [(Event, u32)]);
 
 /// The texts of two books, the calls on them in turn, and what they have recorded then.
-struct Pair {
+struct Row {
     name: &'static str,
     texts: (&'static str, &'static str),
     acts: &'static [(Which, Act)],
-    of_first: Record,
-    of_second: Record,
+    first: Record,
+    second: Record,
 }
 
-const NOTHING: Record = Record {
-    end: None,
-    journal: &[],
-};
+const NOTHING: Record = Record(None, &[]);
 
-static ALONE: [Alone; 3] = [
-    Alone {
+/// The calls of a row on its first book alone.
+macro_rules! alone {
+    ($($act:expr,)*) => { &[$((Which::First, $act),)*] };
+}
+
+static ROWS: [Row; 7] = [
+    Row {
+        name: "a full book",
+        texts: (SEVEN, SEVEN),
+        acts: alone![
+            Act::Tells(Interrupt(77), 4096, Some(Idle)),
+            Act::Tells(Interrupt(0), 1, None),
+            Act::Tells(Expire(0), 1, None),
+            Act::Turns(0, 2, Stepped),
+        ],
+        first: Record(
+            Some(End::Success(7)),
+            &[(Interrupt(77), 4096), (Step(0), 2)],
+        ),
+        second: NOTHING,
+    },
+    Row {
         name: "a task that is out takes an interrupt and no turn",
-        text: SEVEN,
-        acts: &[
+        texts: (SEVEN, SEVEN),
+        acts: alone![
             Act::Out(Some(0)),
             Act::Out(None),
-            Act::Idle(0),
-            Act::Interrupt(0, Stepped),
+            Act::Turns(0, 1, Idle),
+            Act::Tells(Interrupt(0), 1, Some(Stepped)),
             Act::Local(0, 0),
             Act::Local(5, 1),
-            Act::In(Whose::Own, true),
-            Act::Steps(0, 1),
+            Act::In(true),
+            Act::Turns(0, 1, Stepped),
         ],
-        record: Record {
-            end: Some(End::Success(7)),
-            journal: &[(Interrupt(0), 1), (Step(0), 2)],
-        },
+        first: Record(Some(End::Success(7)), &[(Interrupt(0), 1), (Step(0), 2)]),
+        second: NOTHING,
     },
-    Alone {
+    Row {
         name: "a scope expires while a subtask of it is out",
-        text: TIMED,
-        acts: &[
-            Act::Steps(0, 2),
+        texts: (TIMED, SEVEN),
+        acts: alone![
+            Act::Turns(0, 2, Stepped),
             Act::Out(Some(1)),
             Act::Local(9, 1),
-            Act::Expire(0, Stepped),
-            Act::In(Whose::Own, true),
-            Act::Steps(1, 1),
-            Act::Steps(0, 4),
+            Act::Tells(Expire(0), 1, Some(Stepped)),
+            Act::In(true),
+            Act::Turns(1, 1, Stepped),
+            Act::Turns(0, 4, Stepped),
         ],
-        record: Record {
-            end: Some(End::Success(2)),
-            journal: &[(Step(0), 2), (Expire(0), 1), (Step(1), 2), (Step(0), 4)],
-        },
+        first: Record(
+            Some(End::Success(2)),
+            &[(Step(0), 2), (Expire(0), 1), (Step(1), 2), (Step(0), 4)],
+        ),
+        second: NOTHING,
     },
-    Alone {
+    Row {
         name: "a task that waits, and tasks and scopes unborn, ended and closed",
-        text: TIMED,
-        acts: &[
-            Act::Steps(0, 2),
-            Act::Idle(0),
-            Act::Idle(9),
-            Act::Interrupt(9, Idle),
-            Act::Expire(4, Idle),
-            Act::Steps(1, 2),
-            Act::Interrupt(1, Idle),
-            Act::Idle(1),
-            Act::Steps(0, 2),
-            Act::Expire(0, Idle),
-            Act::Steps(0, 2),
-            Act::Interrupt(0, Idle),
-            Act::Idle(0),
+        texts: (TIMED, SEVEN),
+        acts: alone![
+            Act::Turns(0, 2, Stepped),
+            Act::Turns(0, 1, Idle),
+            Act::Turns(9, 1, Idle),
+            Act::Tells(Interrupt(9), 1, Some(Idle)),
+            Act::Tells(Expire(4), 1, Some(Idle)),
+            Act::Turns(1, 2, Stepped),
+            Act::Tells(Interrupt(1), 1, Some(Idle)),
+            Act::Turns(1, 1, Idle),
+            Act::Turns(0, 2, Stepped),
+            Act::Tells(Expire(0), 1, Some(Idle)),
+            Act::Turns(0, 2, Stepped),
+            Act::Tells(Interrupt(0), 1, Some(Idle)),
+            Act::Turns(0, 1, Idle),
         ],
-        record: Record {
-            end: Some(End::Success(1)),
-            journal: &[
+        first: Record(
+            Some(End::Success(1)),
+            &[
                 (Step(0), 2),
                 (Interrupt(9), 1),
                 (Expire(4), 1),
@@ -148,65 +144,86 @@ static ALONE: [Alone; 3] = [
                 (Step(0), 2),
                 (Interrupt(0), 1),
             ],
-        },
+        ),
+        second: NOTHING,
     },
-];
-
-static PAIRS: [Pair; 3] = [
-    Pair {
+    Row {
         name: "a slice of the other book is taken where the task is out at the same frame",
         texts: (SEVEN, SEVEN),
         acts: &[
             (Which::First, Act::Out(Some(0))),
             (Which::First, Act::Local(9, 1)),
-            (Which::Second, Act::In(Whose::Others, false)),
+            (Which::Second, Act::Strange(false)),
             (Which::Second, Act::Out(Some(0))),
-            (Which::Second, Act::In(Whose::Others, true)),
-            (Which::Second, Act::In(Whose::Own, false)),
-            (Which::Second, Act::Steps(0, 1)),
-            (Which::Second, Act::In(Whose::Own, false)),
-            (Which::First, Act::Idle(0)),
+            (Which::Second, Act::Strange(true)),
+            (Which::Second, Act::In(false)),
+            (Which::Second, Act::Turns(0, 1, Stepped)),
+            (Which::Second, Act::In(false)),
+            (Which::First, Act::Turns(0, 1, Idle)),
         ],
-        of_first: NOTHING,
-        of_second: Record {
-            end: Some(End::Success(7)),
-            journal: &[(Step(0), 2)],
-        },
+        first: NOTHING,
+        second: Record(Some(End::Success(7)), &[(Step(0), 2)]),
     },
-    Pair {
+    Row {
         name: "a slice of another program",
         texts: (SEVEN, TURNS),
         acts: &[
-            (Which::Each, Act::Out(Some(0))),
-            (Which::Each, Act::In(Whose::Others, false)),
-            (Which::Each, Act::In(Whose::Own, true)),
+            (Which::First, Act::Out(Some(0))),
+            (Which::Second, Act::Out(Some(0))),
+            (Which::First, Act::Strange(false)),
+            (Which::Second, Act::Strange(false)),
+            (Which::First, Act::In(true)),
+            (Which::Second, Act::In(true)),
         ],
-        of_first: NOTHING,
-        of_second: NOTHING,
+        first: NOTHING,
+        second: NOTHING,
     },
-    Pair {
+    Row {
         name: "a slice at another frame of the same program",
         texts: (SEVEN, SEVEN),
         acts: &[
-            (Which::First, Act::Steps(0, 1)),
-            (Which::Each, Act::Out(Some(0))),
-            (Which::Each, Act::In(Whose::Others, false)),
-            (Which::Each, Act::In(Whose::Own, true)),
+            (Which::First, Act::Turns(0, 1, Stepped)),
+            (Which::First, Act::Out(Some(0))),
+            (Which::Second, Act::Out(Some(0))),
+            (Which::First, Act::Strange(false)),
+            (Which::Second, Act::Strange(false)),
+            (Which::First, Act::In(true)),
+            (Which::Second, Act::In(true)),
         ],
-        of_first: Record {
-            end: None,
-            journal: &[(Step(0), 1)],
-        },
-        of_second: NOTHING,
+        first: Record(None, &[(Step(0), 1)]),
+        second: NOTHING,
     },
 ];
 
-/// Returns whether an event from outside was taken, and what came of it is what is wanted.
-fn is_turned(answer: Result<Turned, OutsideFull>, wanted: Turned) -> bool {
-    match answer {
-        Ok(turned) => turned == wanted,
-        Err(OutsideFull) => false,
+/// Takes turns of a task, and returns whether each has this effect.
+fn turns(book: &mut Book<'_>, task: u32, times: u32, effect: Turned) -> bool {
+    for _ in 0..times {
+        if book.turn(task) != effect {
+            return false;
+        }
     }
+    true
+}
+
+/// Gives an event that is no step, and returns whether it has this effect each time.
+fn tells(book: &mut Book<'_>, event: Event, times: u32, effect: Option<Turned>) -> bool {
+    if matches!(event, Step(_)) {
+        return false;
+    }
+    for _ in 0..times {
+        if book.outside(event).ok() != effect {
+            return false;
+        }
+    }
+    true
+}
+
+/// Takes a slice out, if there is one, and returns its task.
+fn takes_out(desk: &mut Desk<'_>) -> Option<u32> {
+    let slice = desk.book.check_out()?;
+    let task = slice.task();
+    desk.slice = Some(slice);
+    Some(task)
 }
 
 /// Gives the slice back that is there, and returns whether the book takes it or not as expected. What
@@ -224,97 +241,33 @@ fn gives_back<'p>(book: &mut Book<'p>, from: &mut Option<Slice<'p>>, taken: bool
     }
 }
 
-impl<'p> Desk<'p> {
-    /// Takes turns of a task, and returns whether each is a step.
-    fn steps(&mut self, task: u32, turns: u32) -> bool {
-        for _ in 0..turns {
-            if self.book.turn(task) != Stepped {
-                return false;
-            }
-        }
-        true
-    }
-
-    /// Takes a slice out, if there is one, and returns its task.
-    fn takes_out(&mut self) -> Option<u32> {
-        let slice = self.book.check_out()?;
-        let task = slice.task();
-        self.slice = Some(slice);
-        Some(task)
-    }
-
-    /// Does local instructions of the slice that is out, and returns whether this many were done.
-    fn goes_on(&mut self, limit: u32, wanted: u32) -> bool {
-        match &mut self.slice {
-            Some(slice) => slice.run_local(limit) == wanted,
+/// Does an act on the first of two books, and returns whether the answer is the one that it has.
+fn does<'p>(desk: &mut Desk<'p>, other: &mut Desk<'p>, act: Act) -> bool {
+    match act {
+        Act::Turns(task, times, effect) => turns(&mut desk.book, task, times, effect),
+        Act::Tells(event, times, effect) => tells(&mut desk.book, event, times, effect),
+        Act::Out(task) => takes_out(desk) == task,
+        Act::Local(limit, count) => match &mut desk.slice {
+            Some(slice) => slice.run_local(limit) == count,
             None => false,
-        }
-    }
-
-    /// Does an act on the book, and returns whether the answer is the one that it has. An act with a
-    /// slice does nothing.
-    fn turns(&mut self, act: Act) -> bool {
-        match act {
-            Act::Idle(task) => self.book.turn(task) == Idle,
-            Act::Steps(task, turns) => self.steps(task, turns),
-            Act::Interrupt(task, wanted) => is_turned(self.book.outside(Interrupt(task)), wanted),
-            Act::Expire(scope, wanted) => is_turned(self.book.outside(Expire(scope)), wanted),
-            _ => true,
-        }
-    }
-
-    /// Does an act with a slice, and returns whether the answer is the one that it has. Any other act
-    /// does nothing.
-    fn moves(&mut self, others: &mut Option<Slice<'p>>, act: Act) -> bool {
-        match act {
-            Act::Out(wanted) => self.takes_out() == wanted,
-            Act::Local(limit, wanted) => self.goes_on(limit, wanted),
-            Act::In(Whose::Own, taken) => gives_back(&mut self.book, &mut self.slice, taken),
-            Act::In(Whose::Others, taken) => gives_back(&mut self.book, others, taken),
-            _ => true,
-        }
-    }
-
-    /// Does one act, and returns whether the answer is the one that it has. The other book's slice may
-    /// be there, too.
-    fn does(&mut self, others: &mut Option<Slice<'p>>, act: Act) -> bool {
-        self.turns(act) && self.moves(others, act)
-    }
-
-    /// Ends the book, and returns whether it has recorded this end and these events.
-    fn recorded<R: Abort>(self, rt: &R, alloc: Global, record: &Record) -> bool {
-        has_recorded(rt, alloc, &self.book, record)
+        },
+        Act::In(taken) => gives_back(&mut desk.book, &mut desk.slice, taken),
+        Act::Strange(taken) => gives_back(&mut desk.book, &mut other.slice, taken),
     }
 }
 
 /// Does the acts of a row in turn, and returns the place of the first whose answer is another one.
-fn first_wrong<'p>(desk: &mut Desk<'p>, acts: &[Act]) -> Option<usize> {
-    let mut no_slice = None;
-    for (i, act) in acts.iter().enumerate() {
-        if !desk.does(&mut no_slice, *act) {
-            return Some(i);
-        }
-    }
-    None
-}
-
-/// Does an act with one book or with each.
-fn do_both<'p>(first: &mut Desk<'p>, second: &mut Desk<'p>, which: Which, act: Act) -> bool {
-    match which {
-        Which::First => first.does(&mut second.slice, act),
-        Which::Second => second.does(&mut first.slice, act),
-        Which::Each => { first.does(&mut second.slice, act) && second.does(&mut first.slice, act) }
-    }
-}
-
-/// Does the acts of a row in turn, and returns the place of the first whose answer is another one.
-fn first_wrong_of_both<'p>(
+fn first_wrong<'p>(
     first: &mut Desk<'p>,
     second: &mut Desk<'p>,
     acts: &[(Which, Act)],
 ) -> Option<usize> {
     for (i, (which, act)) in acts.iter().enumerate() {
-        if !do_both(first, second, *which, *act) {
+        let is_right = match which {
+            Which::First => does(first, second, *act),
+            Which::Second => does(second, first, *act),
+        };
+        if !is_right {
             return Some(i);
         }
     }
@@ -323,8 +276,8 @@ fn first_wrong_of_both<'p>(
 
 /// Returns whether a book has recorded this end and these events.
 fn has_recorded<R: Abort>(rt: &R, alloc: Global, book: &Book<'_>, record: &Record) -> bool {
-    let journal = one_by_one(rt, alloc, record.journal);
-    book.root_end() == record.end && book.journal() == journal.as_slice()
+    let journal = one_by_one(rt, alloc, record.1);
+    book.root_end() == record.0 && book.journal() == journal.as_slice()
 }
 
 fn start<'p, R: Abort>(rt: &R, alloc: Global, verified: &'p Verified) -> Desk<'p> {
@@ -334,50 +287,32 @@ fn start<'p, R: Abort>(rt: &R, alloc: Global, verified: &'p Verified) -> Desk<'p
     }
 }
 
-/// Does the acts of a row with a book of its program. Returns the place of the first act whose answer
-/// is another one, and whether the book has recorded what it should.
-fn plays_alone<R: Abort>(rt: &R, alloc: Global, row: &Alone) -> (Option<usize>, bool) {
-    let verified = accepted(rt, alloc, row.text);
-    let mut desk = start(rt, alloc, &verified);
-    let wrong = first_wrong(&mut desk, row.acts);
-    (wrong, desk.recorded(rt, alloc, &row.record))
-}
-
-/// Does the same with a book of each of these programs. Returns whether each has recorded what it
-/// should.
+/// Does the acts of a row with a book of each of these programs. Returns the place of the first act
+/// whose answer is another one, and whether each book has recorded what it should.
 fn plays<'p, R: Abort>(
     rt: &R,
     alloc: Global,
-    row: &Pair,
+    row: &Row,
     one: &'p Verified,
     other: &'p Verified,
 ) -> (Option<usize>, bool, bool) {
     let mut first = start(rt, alloc, one);
     let mut second = start(rt, alloc, other);
-    let wrong = first_wrong_of_both(&mut first, &mut second, row.acts);
-    let has_first = first.recorded(rt, alloc, &row.of_first);
-    (wrong, has_first, second.recorded(rt, alloc, &row.of_second))
-}
-
-/// Does the same with a book of each of these texts.
-fn plays_both<R: Abort>(rt: &R, alloc: Global, row: &Pair) -> (Option<usize>, bool, bool) {
-    let one = accepted(rt, alloc, row.texts.0);
-    let other = accepted(rt, alloc, row.texts.1);
-    plays(rt, alloc, row, &one, &other)
+    let wrong = first_wrong(&mut first, &mut second, row.acts);
+    let has_first = has_recorded(rt, alloc, &first.book, &row.first);
+    (
+        wrong,
+        has_first,
+        has_recorded(rt, alloc, &second.book, &row.second),
+    )
 }
 
 #[test]
-fn a_book_answers_and_records(rt: HostRuntime) {
-    for row in &ALONE {
-        let found = plays_alone(&rt, rt.alloc(), row);
-        compare(&rt, row.name, found, (None, true));
-    }
-}
-
-#[test]
-fn two_books_answer_and_record(rt: HostRuntime) {
-    for row in &PAIRS {
-        let found = plays_both(&rt, rt.alloc(), row);
+fn books_answer_and_record(rt: HostRuntime) {
+    for row in &ROWS {
+        let one = accepted(&rt, rt.alloc(), row.texts.0);
+        let other = accepted(&rt, rt.alloc(), row.texts.1);
+        let found = plays(&rt, rt.alloc(), row, &one, &other);
         compare(&rt, row.name, found, (None, true, true));
     }
 }

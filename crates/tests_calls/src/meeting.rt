@@ -3,7 +3,7 @@
 ghost use Rattle.std.specs.Prelude.{IfSome};
 
 use crate::outsides::Weather;
-use crate::paths::{PATHS, Path, compare_replay, count, ending};
+use crate::paths::{PATHS, Path, count, ending};
 use crate::rows::compare;
 use crate::texts::{DOUBLES, GREETED, LOOP, TIMED, WIDE, accepted};
 use std::alloc::Global;
@@ -26,13 +26,6 @@ struct Meeting {
 }
 
 impl Meeting {
-    fn of(workers: u32) -> Meeting {
-        Meeting {
-            workers,
-            entered: AtomicU64::new(0),
-        }
-    }
-
     fn has_met(&self) -> bool {
         self.entered.load(Ordering::SeqCst).count_ones() >= self.workers
     }
@@ -64,19 +57,6 @@ struct Herald<'g> {
     told: bool,
 }
 
-impl<'g> Herald<'g> {
-    /// A herald that interrupts these two tasks.
-    fn of(meeting: &'g Meeting, before: u32, after: u32) -> Herald<'g> {
-        Herald {
-            meeting,
-            before,
-            after,
-            asked: false,
-            told: false,
-        }
-    }
-}
-
 impl Outside for Herald<'_> {
     ghost use Rattle.std.specs.Prelude.{⊤};
 
@@ -106,8 +86,17 @@ impl Outside for Herald<'_> {
 #[test]
 fn two_workers_meet(rt: HostRuntime) {
     let verified = accepted(&rt, rt.alloc(), DOUBLES);
-    let meeting = Meeting::of(2);
-    let herald = Herald::of(&meeting, 76, 77);
+    let meeting = Meeting {
+        workers: 2,
+        entered: AtomicU64::new(0),
+    };
+    let herald = Herald {
+        meeting: &meeting,
+        before: 76,
+        after: 77,
+        asked: false,
+        told: false,
+    };
     let report = run(&rt, rt.alloc(), &verified, 2, &meeting, herald).expect(&rt, "a run");
     let journal = report.journal.as_slice();
     let came = [
@@ -116,15 +105,23 @@ fn two_workers_meet(rt: HostRuntime) {
     ];
     let found = (meeting.has_met(), report.end, came);
     compare(&rt, "two workers", found, (true, End::Success(42), [1, 1]));
-    compare_replay(&rt, rt.alloc(), &verified, &report);
 }
 
 /// Tests the same with an end that shows both events, so that no journal is needed.
 #[test]
 fn two_workers_meet_and_the_end_tells_of_it(rt: HostRuntime) {
     for path in PATHS {
-        let meeting = Meeting::of(2);
-        let herald = Herald::of(&meeting, 0, 0);
+        let meeting = Meeting {
+            workers: 2,
+            entered: AtomicU64::new(0),
+        };
+        let herald = Herald {
+            meeting: &meeting,
+            before: 0,
+            after: 0,
+            asked: false,
+            told: false,
+        };
         let ended = ending(&rt, rt.alloc(), path, GREETED, 2, &meeting, herald);
         let found = (meeting.has_met(), ended.end);
         compare(&rt, path, found, (true, End::Success(11)));
@@ -136,7 +133,10 @@ fn two_workers_meet_and_the_end_tells_of_it(rt: HostRuntime) {
 fn all_workers_meet(rt: HostRuntime) {
     for path in PATHS {
         for workers in [1, 2, 3, 5, 16] {
-            let meeting = Meeting::of(workers);
+            let meeting = Meeting {
+                workers,
+                entered: AtomicU64::new(0),
+            };
             let ended = ending(
                 &rt,
                 rt.alloc(),

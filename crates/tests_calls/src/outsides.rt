@@ -27,22 +27,6 @@ pub enum Weather {
     Due { idle: u32, at: u64, scope: u32 },
 }
 
-impl Weather {
-    /// How many entries of the journal come of it.
-    pub fn entries(self) -> u64 {
-        match self {
-            Weather::Calm => 0,
-            Weather::Storm { task: _ } => 4096,
-            Weather::Gust { task: _ } => 1,
-            Weather::Due {
-                idle,
-                at: _,
-                scope: _,
-            } => u64::from(idle).saturating_add(1),
-        }
-    }
-}
-
 impl Outside for Weather {
     ghost use Rattle.std.specs.Prelude.{⊤};
 

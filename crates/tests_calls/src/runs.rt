@@ -1,7 +1,7 @@
-//! Runs with several workers, and their journals replayed.
+//! Runs with several workers, with a journal and with none.
 
 use crate::outsides::{Open, Weather};
-use crate::paths::{Outcome, Path, ending};
+use crate::paths::{Path, ending};
 use crate::rows::compare;
 use crate::texts::{BOUND, DOUBLES, LATE, LOOPED, ROWS, SEVEN, THOUSAND, TIMED, TURNS};
 use std::alloc::Global;
@@ -13,18 +13,18 @@ use sts_model::End;
 /// The numbers of workers with which each text runs.
 static WORKERS: [u32; 4] = [1, 2, 8, 16];
 
-/// A text, the events from outside, the ends that it may have, and the number of its steps, if that
-/// is the same in each run.
-struct Run(&'static str, Weather, &'static [End], Option<u64>);
+/// A text, the events from outside, and how many of them there are. Then come the ends that it may
+/// have, and the number of its steps, if that is the same in each run.
+struct Run(&'static str, Weather, u64, &'static [End], Option<u64>);
 
 static RUNS: [Run; 14] = [
-    Run(SEVEN, Weather::Calm, &[End::Success(7)], Some(2)),
-    Run(DOUBLES, Weather::Calm, &[End::Success(42)], Some(20)),
-    Run(THOUSAND, Weather::Calm, &[End::Success(5)], Some(8004)),
-    Run(BOUND, Weather::Calm, &[End::Success(6)], Some(10)),
-    Run(LOOPED, Weather::Calm, &[End::Success(1)], Some(15)),
-    Run(ROWS, Weather::Calm, &[End::Success(1)], Some(30_367)),
-    Run(TURNS, Weather::Calm, &[End::Success(0)], Some(500_034)),
+    Run(SEVEN, Weather::Calm, 0, &[End::Success(7)], Some(2)),
+    Run(DOUBLES, Weather::Calm, 0, &[End::Success(42)], Some(20)),
+    Run(THOUSAND, Weather::Calm, 0, &[End::Success(5)], Some(8004)),
+    Run(BOUND, Weather::Calm, 0, &[End::Success(6)], Some(10)),
+    Run(LOOPED, Weather::Calm, 0, &[End::Success(1)], Some(15)),
+    Run(ROWS, Weather::Calm, 0, &[End::Success(1)], Some(30_367)),
+    Run(TURNS, Weather::Calm, 0, &[End::Success(0)], Some(500_034)),
     Run(
         TIMED,
         Weather::Due {
@@ -32,6 +32,7 @@ static RUNS: [Run; 14] = [
             at: 1,
             scope: 0,
         },
+        1,
         &[End::Success(2)],
         Some(6),
     ),
@@ -43,6 +44,7 @@ static RUNS: [Run; 14] = [
             at: 6,
             scope: 0,
         },
+        6,
         &[End::Success(2)],
         Some(6),
     ),
@@ -54,10 +56,11 @@ static RUNS: [Run; 14] = [
             at: 70_000,
             scope: 0,
         },
+        1,
         &[End::Success(2)],
         None,
     ),
-    Run(TIMED, Weather::Gust { task: 0 }, &[End::Failed(0)], None),
+    Run(TIMED, Weather::Gust { task: 0 }, 1, &[End::Failed(0)], None),
     // events that are due when the root ends are recorded after its last step
     Run(
         SEVEN,
@@ -66,32 +69,28 @@ static RUNS: [Run; 14] = [
             at: 2,
             scope: 0,
         },
+        1,
         &[End::Success(7)],
         Some(2),
     ),
     Run(
         DOUBLES,
         Weather::Storm { task: 77 },
+        4096,
         &[End::Success(42)],
         Some(20),
     ),
     Run(
         DOUBLES,
         Weather::Storm { task: 0 },
+        4096,
         &[End::Success(42), End::Failed(0)],
         None,
     ),
 ];
 
-/// Returns whether a run of a row ended as it may, in as many steps. Its journal has these steps and
-/// what came from outside.
-fn fits(row: &Run, outcome: Outcome) -> bool {
-    row.2.contains(&outcome.end)
-        && outcome.steps == row.3.unwrap_or(outcome.steps)
-        && outcome.entries == outcome.steps.saturating_add(row.1.entries())
-}
-
-/// Runs a text with so many workers on a path.
+/// Runs a text with so many workers on a path. It has to end as it may, in as many steps. Its journal
+/// has these steps and what came from outside.
 fn ends<R: Abort + Threads + Wait + Sync>(
     rt: &R,
     alloc: Global,
@@ -101,8 +100,10 @@ fn ends<R: Abort + Threads + Wait + Sync>(
 ) {
     let name = row.0;
     let outcome = ending(rt, alloc, path, name, workers, &Open, row.1);
-    let found = (outcome, fits(row, outcome));
-    compare(rt, (path, workers, name), found, (outcome, true));
+    let fits = row.3.contains(&outcome.end)
+        && outcome.steps == row.4.unwrap_or(outcome.steps)
+        && outcome.entries == outcome.steps.saturating_add(row.2);
+    compare(rt, (path, workers, name, outcome), fits, true);
 }
 
 fn all_end<R: Abort + Threads + Wait + Sync>(rt: &R, alloc: Global, path: Path) {

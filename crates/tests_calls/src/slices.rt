@@ -71,22 +71,6 @@ struct Both {
     missed: AtomicU64,
 }
 
-impl Both {
-    fn entries_of(&self, subtask: usize) -> &AtomicU64 {
-        let [first, second] = &self.entries;
-        if subtask == 0 { first } else { second }
-    }
-
-    fn has_second(&self, subtask: usize) -> bool {
-        self.entries_of(subtask).load(Ordering::SeqCst) > 1
-    }
-
-    /// Returns whether both had a second entry in time.
-    fn have_met(&self) -> bool {
-        self.has_second(0) && self.has_second(1) && self.missed.load(Ordering::SeqCst) == 0
-    }
-}
-
 impl Gate for Both {
     fn enter(&self, _worker: u32, task: u32) {
         if task == 0 || task > 2 {
@@ -96,7 +80,7 @@ impl Gate for Both {
         if self.entries[subtask].fetch_add(1, Ordering::SeqCst) != 1 {
             return;
         }
-        hold(self.entries_of(1 - subtask), 1, &self.missed);
+        hold(&self.entries[1 - subtask], 1, &self.missed);
     }
 }
 
@@ -110,8 +94,11 @@ fn two_slices_are_out_at_once(rt: HostRuntime) {
             missed: AtomicU64::new(0),
         };
         let ended = ending(&rt, rt.alloc(), path, LOOPS, 2, &both, Weather::Calm);
-        let found = (ended.end, both.have_met());
-        compare(&rt, path, found, (End::Success(20_000), true));
+        let first = both.entries[0].load(Ordering::SeqCst) > 1;
+        let second = both.entries[1].load(Ordering::SeqCst) > 1;
+        let missed = both.missed.load(Ordering::SeqCst);
+        let found = (ended.end, first, second, missed);
+        compare(&rt, path, found, (End::Success(20_000), true, true, 0));
     }
 }
 
@@ -196,17 +183,7 @@ struct Meter<'r, R> {
     behind: AtomicU64,
 }
 
-impl<'r, R: CpuClock> Meter<'r, R> {
-    fn new(rt: &'r R) -> Meter<'r, R> {
-        Meter {
-            rt,
-            last: AtomicU64::new(0),
-            has_entered: AtomicU64::new(0),
-            before: AtomicU64::new(0),
-            behind: AtomicU64::new(0),
-        }
-    }
-
+impl<R: CpuClock> Meter<'_, R> {
     /// The time that has passed since the last call.
     fn passed(&self) -> u64 {
         let now = self.rt.thread_cpu_time().map_or(0, |time| {
@@ -252,7 +229,13 @@ impl<R: CpuClock> Outside for Questions<'_, '_, R> {
 #[test]
 fn the_gate_is_before_a_slice(rt: HostRuntime) {
     for path in PATHS {
-        let meter = Meter::new(&rt);
+        let meter = Meter {
+            rt: &rt,
+            last: AtomicU64::new(0),
+            has_entered: AtomicU64::new(0),
+            before: AtomicU64::new(0),
+            behind: AtomicU64::new(0),
+        };
         let questions = Questions { meter: &meter };
         let ended = ending(&rt, rt.alloc(), path, LATE, 1, &meter, questions);
         let before = meter.before.load(Ordering::SeqCst);
