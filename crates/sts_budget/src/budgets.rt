@@ -22,7 +22,7 @@ use sts_rules::{Budgets, Cause};
 use sts_types::{Typing, typing_of};
 
 /// Why a function has no budgets.
-#[derive(Clone, Copy, Debug, PartialEq, Eq)]
+#[derive(Clone, Copy)]
 pub enum BudgetError {
     /// Memory ran out.
     Memory,

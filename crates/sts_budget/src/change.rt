@@ -10,7 +10,7 @@ use sts_model::Stack;
 use sts_rules::{Budgets, TypedEntry};
 
 /// The resources with a budget.
-#[derive(Clone, Copy, Debug, PartialEq, Eq)]
+#[derive(Clone, Copy)]
 pub enum Resource {
     Steps,
     Tasks,
@@ -19,7 +19,7 @@ pub enum Resource {
 }
 
 /// How an instruction changes the sums over the first open entries, the outermost first.
-#[derive(Clone, Copy, Debug, PartialEq, Eq)]
+#[derive(Clone, Copy)]
 pub enum SumChange {
     /// Each sum rises by this amount.
     Rises(u64),
