@@ -1,2 +1,1 @@
-mod Adding
 pub mod Refusing

@@ -1,17 +1,8 @@
 -- The commands that `look` knows, as `clap` sees them (this project's own).
-use Rattle.std.specs.Prelude.{codes, List, [], ◌∷◌, Some, true, Result}
-use Rattle.std.specs.declared.alloc.AllocError.{AllocError}
+use Rattle.std.specs.Prelude.{codes, Some, true}
 use Rattle.clap.specs.Words.{App, Rule, Text, new_app, new_rule, with_rule, with_subcommand}
 use Rattle.clap.specs.declared.builder.action.ArgAction.TheVariants.{SetTrue}
-use Rattle.clap.specs.declared.builder.command.Command.{Command}
-use Rattle.look_args.specs.declared.command.Argument.{Argument}
-use Rattle.look_args.specs.declared.command.Argument.TheVariants.{File, Word, Flag, Valued, Kept}
-use Rattle.sts_args.specs.Command.{IsLocal, Makes, file_rule, option_rule, required, trace_rule}
-
--- if memory was enough, it is this command, and no argument of it is global
-pub record IsMade (a : App) (made : Result Command AllocError) : Type 0 where
-  pub app : Makes a made
-  pub local : IsLocal made
+use Rattle.sts_args.specs.Command.{file_rule, option_rule, required, trace_rule}
 
 abbrev pub long_rule : Text → Rule
 long_rule name = record (new_rule name) { long = Some name }
@@ -23,18 +14,6 @@ flag_rule name = record (long_rule name) { action = Some SetTrue }
 -- the number and the file of a trace that is kept
 abbrev pub kept_rule : Rule
 kept_rule = record (long_rule (codes "trace")) { value_names = 2 }
-
-abbrev pub argument_rule : Argument → Rule
-argument_rule (File help) = file_rule
-argument_rule (Word name help) = new_rule name.now
-argument_rule (Flag name help) = flag_rule name.now
-argument_rule (Valued name value help) = option_rule name.now
-argument_rule (Kept help) = kept_rule
-
--- with these arguments too
-abbrev pub with_arguments : App → List Argument → App
-with_arguments a [] = a
-with_arguments a (x ∷ xs) = with_arguments (with_rule a (argument_rule x)) xs
 
 abbrev pub view : App
 view = with_rule (with_rule (with_rule (with_rule (with_rule (with_rule (new_app (codes "view"))

@@ -22,7 +22,7 @@ use clap::error::ErrorKind;
 use clap::{ArgMatches, Error};
 use look_options::{DrawOptions, EndsOptions, Limits, Manner, TellOptions, ViewOptions, Window};
 use std::alloc::{AllocError, Global};
-use sts_args::{LineError, text_of, told, unknown};
+use sts_args::{LineError, NO_COMMAND, text_of, told, usage};
 use sts_text::digits_up_to;
 
 /// The error for an option whose value is no number.
@@ -92,7 +92,7 @@ fn chosen<'a>(alloc: Global, matches: &ArgMatches<'a>) -> Result<Asked<'a>, Line
 {
     match matches.subcommand() {
         Some((name, inner)) => asked_of(alloc, name, inner),
-        None => Err(unknown(alloc)),
+        None => Err(usage(alloc, NO_COMMAND)),
     }
 }
 
@@ -170,7 +170,7 @@ fn mistake(alloc: Global, name: &str, inner: &ArgMatches<'_>) -> LineError
     } else if name == "tell" {
         usage(alloc, NO_EVENT)
     } else {
-        unknown(alloc)
+        usage(alloc, NO_COMMAND)
     }
 }
 
@@ -391,14 +391,4 @@ fn asked_ends<'a>(inner: &ArgMatches<'a>) -> Option<AskedEnds<'a>>
     };
     let json = is_set(inner, "json");
     Some(AskedEnds { wanted, kept, json })
-}
-
-/// The error for an option whose value is mistaken.
-fn usage(alloc: Global, message: &str) -> LineError
-    ensures { (whole : Bool) → whole ≡ false → BlamesUnless whole result }
-{
-    match message.to_string(alloc) {
-        Ok(text) => LineError::Usage(text),
-        Err(AllocError) => LineError::Memory,
-    }
 }

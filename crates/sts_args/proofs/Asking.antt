@@ -1,6 +1,6 @@
 -- The request of a command with a known name.
-use Rattle.std.proofs.Common.{◌≡◌, ◌∙◌, ◌&&◌, ◌||◌, Bool, true, false, List, ◌∷◌, [], Some, sym, subst, codes, refl}
-use Rattle.std.specs.Prelude.{Result, Ok, Err, IfOk, is_some, if◌then◌else◌}
+use Rattle.std.proofs.Common.{◌≡◌, ◌∙◌, ◌&&◌, ◌||◌, Bool, true, false, List, ◌∷◌, [], Some, None, option_map, ap, sym, subst, codes, refl}
+use Rattle.std.specs.Prelude.{Option, IfSome, is_some, if◌then◌else◌}
 use Rattle.std.specs.List.{list_all}
 use Rattle.std.specs.Borrow.{Bor}
 use Rattle.std.specs.Str.{bytes_eq}
@@ -8,10 +8,8 @@ use Rattle.std.proofs.lemmas.Slice.Eq.{bytes_eq-Decides}
 use Rattle.clap.specs.Words.{Row, Text, first_of}
 use Rattle.sts_args.specs.declared.asked.Line.{Line}
 use Rattle.sts_args.specs.declared.asked.Line.TheVariants as line
-use Rattle.sts_args.specs.declared.asked.LineError.{LineError}
-use Rattle.sts_args.specs.declared.asked.LineError.TheVariants as error
 use Rattle.sts_args.specs.Asked.{IsGiven, asked, options, options_at, takes_trace, workers_at}
-use Rattle.sts_args.specs.Refused.{BlamesUnless, has_workers, is_whole}
+use Rattle.sts_args.specs.Refused.{has_workers, is_whole}
 
 -- what holds of the written name holds of the given name
 of_name : (P : Text → Type 0) (name word : Text) → true ≡ bytes_eq name word → P word → P name
@@ -27,25 +25,16 @@ pub list_given : (name : Text) (rows : List Row) (file : Bor Text) → true ≡ 
 list_given name rows file same h =
     of_name (λ n. IsGiven (n, rows) (line.List file)) name (codes "list") same record { files = rw h refl; options = refl }
 
-pub run_given : (r : Result Line LineError) (name : Text) (rows : List Row) (file : Text) → true ≡ bytes_eq name (codes "run")
-    → first_of (codes "FILE") rows ≡ Some file → IfOk r (λ l. asked l ≡ Some (codes "run", file ∷ []))
-    → IfOk r (λ l. options l ≡ options_at rows) → IfOk r (IsGiven (name, rows))
-run_given (Ok l) name rows file same h files given =
+pub run_given : (r : Option Line) (name : Text) (rows : List Row) (file : Text) → true ≡ bytes_eq name (codes "run")
+    → first_of (codes "FILE") rows ≡ Some file → IfSome r (λ l. asked l ≡ Some (codes "run", file ∷ []))
+    → IfSome r (λ l. options l ≡ options_at rows) → IfSome r (IsGiven (name, rows))
+run_given (Some l) name rows file same h files given =
     of_name (λ n. IsGiven (n, rows) l) name (codes "run") same record { files = files ∙ rw h refl; options = given }
-run_given (Err e) name rows file same h files given = tt
+run_given None name rows file same h files given = tt
 
--- a refusal for one reason is also one for each reason that follows from it
-blames_more : (whole more : Bool) (e : LineError) → (whole ≡ false → more ≡ false) → BlamesUnless whole e → BlamesUnless more e
-blames_more whole more error.Memory f h = tt
-blames_more whole more (error.Help text) f h = h
-blames_more whole more (error.Usage text) f h = f h
-
-pub run_lacks : (name : Text) (rows : List Row) (file : Text) (e : LineError) → true ≡ bytes_eq name (codes "run")
-    → first_of (codes "FILE") rows ≡ Some file → BlamesUnless (is_some (workers_at rows)) e
-    → BlamesUnless (is_whole (Some (name, rows))) e
-run_lacks name rows file e same h lacks =
-    of_name (λ n. BlamesUnless (is_whole (Some (n, rows))) e) name (codes "run") same
-    (blames_more (is_some (workers_at rows)) (is_whole (Some (codes "run", rows))) e (λ none. rw h none) lacks)
+pub run_lacks : (name : Text) (rows : List Row) (file : Text) → true ≡ bytes_eq name (codes "run")
+    → first_of (codes "FILE") rows ≡ Some file → is_some (workers_at rows) ≡ false → is_whole (Some (name, rows)) ≡ false
+run_lacks name rows file same h lacks = of_name (λ n. is_whole (Some (n, rows)) ≡ false) name (codes "run") same (rw h lacks)
 
 -- with a part missing
 lacks_part : (x y w : Bool) → y ≡ false → ((x && (y && true)) && w) ≡ false
@@ -62,12 +51,15 @@ lacks_trace false false t true w p a b not_v not_l not_r h = cc
 lacks_trace false false true false w p a b not_v not_l not_r h = lacks_part (p a) (p b) w h
 lacks_trace false false false false w p a b not_v not_l not_r h = refl
 
-pub replay_lacks : (name : Text) (rows : List Row) (e : LineError) → false ≡ bytes_eq name (codes "verify")
+is_some_now : (trace : Option (Bor Text)) → is_some (option_map (λ t. t.now) trace) ≡ is_some trace
+is_some_now None = refl
+is_some_now (Some t) = refl
+
+pub replay_lacks : (name : Text) (rows : List Row) (trace : Option (Bor Text)) → false ≡ bytes_eq name (codes "verify")
     → false ≡ bytes_eq name (codes "list") → false ≡ bytes_eq name (codes "run")
-    → BlamesUnless (takes_trace name && is_some (first_of (codes "TRACE") rows)) e
-    → BlamesUnless (is_whole (Some (name, rows))) e
-replay_lacks name rows e not_v not_l not_r lacks =
-    blames_more (takes_trace name && is_some (first_of (codes "TRACE") rows)) (is_whole (Some (name, rows))) e
-    (lacks_trace (bytes_eq name (codes "verify")) (bytes_eq name (codes "list")) (takes_trace name) (bytes_eq name (codes "run"))
-    (has_workers name rows) (λ id. is_some (first_of id rows)) (codes "FILE") (codes "TRACE") not_v not_l not_r)
-    lacks
+    → option_map (λ t. t.now) trace ≡ first_of (codes "TRACE") rows
+    → (takes_trace name && is_some trace) ≡ false → is_whole (Some (name, rows)) ≡ false
+replay_lacks name rows trace not_v not_l not_r given lacks =
+    lacks_trace (bytes_eq name (codes "verify")) (bytes_eq name (codes "list")) (takes_trace name) (bytes_eq name (codes "run"))
+    (has_workers name rows) (λ id. is_some (first_of id rows)) (codes "FILE") (codes "TRACE") not_v not_l not_r
+    (ap (λ (t : Option Text). takes_trace name && is_some t) (sym given) ∙ ap (λ b. takes_trace name && b) (is_some_now trace) ∙ lacks)

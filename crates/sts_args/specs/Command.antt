@@ -1,9 +1,11 @@
 -- The commands that the program knows, as `clap` sees them (this project's own).
-use Rattle.std.specs.Prelude.{◌≡◌, true, false, codes, Some, Result, IfOk}
-use Rattle.std.specs.declared.alloc.AllocError.{AllocError}
-use Rattle.clap.specs.declared.builder.command.Command.{Command}
-use Rattle.clap.specs.declared.builder.command.Command.TheViews.{out-Command}
-use Rattle.clap.specs.Words.{App, app_of, Rule, Text, new_app, new_rule, with_rule, with_subcommand}
+use Rattle.std.specs.Prelude.{true, codes, Some, List, [], ◌∷◌, length}
+use Rattle.clap.specs.Words.{App, Rule, Text, new_app, new_rule, with_rule, with_subcommand}
+use Rattle.clap.specs.declared.builder.action.ArgAction.TheVariants.{SetTrue}
+use Rattle.sts_args.specs.declared.command.Argument.{Argument}
+use Rattle.sts_args.specs.declared.command.ArgumentForm.{ArgumentForm}
+use Rattle.sts_args.specs.declared.command.ArgumentForm.TheVariants.{Word, Flag, Values}
+use Rattle.sts_args.specs.declared.command.Subcommand.{Subcommand}
 
 abbrev pub file_rule : Rule
 file_rule = record (new_rule (codes "FILE")) { required = true }
@@ -43,10 +45,30 @@ abbrev pub program : App
 program = with_subcommand (with_subcommand (with_subcommand (with_subcommand (with_subcommand
     (required (new_app (codes "sts"))) verify.top) list.top) plain.top) replay.top) run.top
 
--- if memory was enough, it is this command
-abbrev pub Makes : App → Result Command AllocError → Type 0
-Makes a made = IfOk made (λ c. app_of c ≡ a)
+-- ---- commands as data
 
--- if memory was enough, the command has no global argument
-abbrev pub IsLocal : Result Command AllocError → Type 0
-IsLocal made = IfOk made (λ c. (out-Command c).has_globals ≡ false)
+-- the rule of an option of this name
+abbrev pub long_rule : Text → Rule → Rule
+long_rule name r = record r { long = Some name }
+
+abbrev pub form_rule : Text → ArgumentForm → Rule → Rule
+form_rule name Word r = r
+form_rule name Flag r = record (long_rule name r) { action = Some SetTrue }
+form_rule name (Values names) r = record (long_rule name r) { value_names = length names.now }
+
+abbrev pub argument_rule : Argument → Rule
+argument_rule a =
+    form_rule a.name.now a.form (record (new_rule a.name.now) { required = a.required })
+
+-- with these arguments too
+abbrev pub with_arguments : App → List Argument → App
+with_arguments a [] = a
+with_arguments a (x ∷ xs) = with_arguments (with_rule a (argument_rule x)) xs
+
+abbrev pub subcommand_app : Subcommand → App
+subcommand_app s = with_arguments (new_app s.name.now) s.arguments.now
+
+-- with these commands too
+abbrev pub with_subcommands : App → List Subcommand → App
+with_subcommands a [] = a
+with_subcommands a (s ∷ ss) = with_subcommands (with_subcommand a (subcommand_app s).top) ss

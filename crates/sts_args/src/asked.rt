@@ -3,7 +3,7 @@
 use std::alloc::AllocError;
 
 /// The task that a command line gives the program. Names of files are kept as they were written.
-#[derive(Clone, Copy, Debug)]
+#[derive(Clone, Copy)]
 pub enum Line<'a> {
     /// No word after the program's name: a text, a line `%` and a trace come on standard input.
     Joined,
@@ -32,7 +32,7 @@ pub enum Line<'a> {
 }
 
 /// Why a command line has no request. The text is for the person who wrote it.
-#[derive(Debug, Drop)]
+#[derive(Drop)]
 pub enum LineError {
     Memory,
     /// Help was asked for, which is no failure.

@@ -2,9 +2,10 @@
 #![tactic(auto)]
 
 pub mod asked;
-mod command;
+pub mod command;
+mod program;
 mod reading;
 
 pub use asked::LineError;
-pub use command::{on_file, on_trace, with_argument, with_subcommand};
-pub use reading::{line, text_of, told, trace_of, unknown};
+pub use command::with_subcommands;
+pub use reading::{NO_COMMAND, line, text_of, told, usage};

@@ -10,7 +10,7 @@ ghost use Rattle.sts_args.specs.Refused.{BlamesUnless, Refuses, TellsKind, is_wh
 
 use crate::asked;
 use crate::asked::LineError;
-use crate::command::program;
+use crate::program::program;
 use clap::error::ErrorKind;
 use clap::{ArgMatches, Error};
 use std::alloc::{AllocError, Global};
@@ -18,6 +18,9 @@ use sts_text::digits_up_to;
 
 /// As many workers as may be asked for.
 const MOST_WORKERS: u32 = 16;
+
+/// The message where `clap` found no command of the program with its files. It never comes.
+pub const NO_COMMAND: &str = "a command is missing";
 
 /// What follows the message about a trace that is missing.
 const TRACE_HINT: &str =
@@ -81,16 +84,15 @@ fn chosen<'a>(alloc: Global, matches: &ArgMatches<'a>) -> Result<asked::Line<'a>
 {
     match matches.subcommand() {
         Some((name, inner)) => asked_of(alloc, name, inner),
-        None => Err(unknown(alloc)),
+        None => Err(usage(alloc, NO_COMMAND)),
     }
 }
 
-/// The message for a command line where `clap` found no command of the program with its files. It
-/// never comes.
-pub fn unknown(alloc: Global) -> LineError
+/// The message for a command line that is mistaken.
+pub fn usage(alloc: Global, message: &str) -> LineError
     ensures { (whole : Bool) → whole ≡ false → BlamesUnless whole result }
 {
-    match "a command is missing".to_string(alloc) {
+    match message.to_string(alloc) {
         Ok(text) => LineError::Usage(text),
         Err(AllocError) => LineError::Memory,
     }
@@ -114,28 +116,41 @@ fn asked_of<'a>(
     ensures lacks { IfErr result (BlamesUnless
         (is_whole (Some (name.now, rows_of (found_of inner.now))))) }
 {
-    let Some(file) = text_of(inner, "FILE") else {
-        return Err(unknown(alloc));
-    };
-    if name == "verify" {
-        Ok(asked::Line::Verify { file })
-    } else if name == "list" {
-        Ok(asked::Line::List { file })
-    } else if name == "run" {
-        run_of(alloc, file, inner)
-    } else {
-        replay_of(alloc, name, file, inner)
+    match request_of(name, inner) {
+        Some(line) => Ok(line),
+        None => Err(mistake(alloc, inner)),
     }
 }
 
-/// `plain` or `replay` of a text and a trace, if that is the name of the command.
-fn with_trace<'a>(name: &'a str, file: &'a str, trace: &'a str) -> Option<asked::Line<'a>>
+/// The request of a command of this name; nothing if it lacks a file, or a number of workers.
+fn request_of<'a>(name: &'a str, inner: &ArgMatches<'a>) -> Option<asked::Line<'a>>
+    ensures asked { IfSome result (IsGiven (name.now, rows_of (found_of inner.now))) }
+    ensures workers { IfSome result HasWorkers }
+    ensures lacks { result ≡ None
+        → is_whole (Some (name.now, rows_of (found_of inner.now))) ≡ false }
+{
+    let file = text_of(inner, "FILE")?;
+    if name == "verify" {
+        Some(asked::Line::Verify { file })
+    } else if name == "list" {
+        Some(asked::Line::List { file })
+    } else if name == "run" {
+        run_of(file, inner)
+    } else {
+        with_trace(name, file, text_of(inner, "TRACE"))
+    }
+}
+
+/// `plain` or `replay` of a text and a trace, if that is the name of the command and there is a trace.
+fn with_trace<'a>(name: &'a str, file: &'a str, trace: Option<&'a str>) -> Option<asked::Line<'a>>
     ensures given { IfSome result (λ l. (rows : List Row)
         → first_of (codes "FILE") rows ≡ Some file.now
-        → first_of (codes "TRACE") rows ≡ Some trace.now → IsGiven (name.now, rows) l) }
+        → option_map (λ t. t.now) trace.entry ≡ first_of (codes "TRACE") rows
+        → IsGiven (name.now, rows) l) }
     ensures workers { IfSome result HasWorkers }
-    ensures lacks { result ≡ None → takes_trace name.now ≡ false }
+    ensures lacks { result ≡ None → (takes_trace name.now && is_some trace.entry) ≡ false }
 {
+    let trace = trace?;
     if name == "plain" {
         Some(asked::Line::Plain { file, trace })
     } else if name == "replay" {
@@ -145,69 +160,20 @@ fn with_trace<'a>(name: &'a str, file: &'a str, trace: &'a str) -> Option<asked:
     }
 }
 
-/// `plain` or `replay` of a text, with the trace that it was given.
-fn replay_of<'a>(
-    alloc: Global,
-    name: &'a str,
-    file: &'a str,
-    inner: &ArgMatches<'a>,
-) -> Result<asked::Line<'a>, LineError>
-    ensures asked { first_of (codes "FILE") (rows_of (found_of inner.now)) ≡ Some file.now
-        → IfOk result (IsGiven (name.now, rows_of (found_of inner.now))) }
-    ensures workers { IfOk result HasWorkers }
-    ensures lacks { IfErr result (BlamesUnless (takes_trace name.now
-        && is_some (first_of (codes "TRACE") (rows_of (found_of inner.now))))) }
+/// `run` of a text, with the options that it was given; nothing without a number of workers.
+fn run_of<'a>(file: &'a str, inner: &ArgMatches<'a>) -> Option<asked::Line<'a>>
+    ensures files { IfSome result (λ l. asked l ≡ Some (codes "run", file.now ∷ [])) }
+    ensures options { IfSome result (λ l. options l ≡ options_at (rows_of (found_of inner.now))) }
+    ensures workers { IfSome result HasWorkers }
+    ensures lacks { result ≡ None → is_some (workers_at (rows_of (found_of inner.now))) ≡ false }
 {
-    let Some(trace) = text_of(inner, "TRACE") else {
-        return Err(unknown(alloc));
-    };
-    match with_trace(name, file, trace) {
-        Some(line) => Ok(line),
-        None => Err(unknown(alloc)),
-    }
-}
-
-/// The trace that the command was given.
-///
-/// # Errors
-///
-/// It was given none, or memory was refused.
-pub fn trace_of<'a>(alloc: Global, inner: &ArgMatches<'a>) -> Result<&'a str, LineError>
-    ensures given { IfOk result (λ t.
-        first_of (codes "TRACE") (rows_of (found_of inner.now)) ≡ Some t.now) }
-    ensures lacks { IfErr result (BlamesUnless
-        (is_some (first_of (codes "TRACE") (rows_of (found_of inner.now))))) }
-{
-    match text_of(inner, "TRACE") {
-        Some(trace) => Ok(trace),
-        None => Err(unknown(alloc)),
-    }
-}
-
-/// `run` of a text, with the options that it was given.
-fn run_of<'a>(
-    alloc: Global,
-    file: &'a str,
-    inner: &ArgMatches<'a>,
-) -> Result<asked::Line<'a>, LineError>
-    ensures files { IfOk result (λ l. asked l ≡ Some (codes "run", file.now ∷ [])) }
-    ensures options { IfOk result (λ l. options l ≡ options_at (rows_of (found_of inner.now))) }
-    ensures workers { IfOk result HasWorkers }
-    ensures lacks { IfErr result (BlamesUnless
-        (is_some (workers_at (rows_of (found_of inner.now))))) }
-{
-    let Some(text) = text_of(inner, "workers") else {
-        return Err(unknown(alloc));
-    };
-    match workers_written(text) {
-        Some(workers) => Ok(asked::Line::Run {
-            file,
-            workers,
-            outside: text_of(inner, "outside"),
-            trace: text_of(inner, "trace"),
-        }),
-        None => Err(no_workers(alloc, text)),
-    }
+    let workers = workers_written(text_of(inner, "workers")?)?;
+    Some(asked::Line::Run {
+        file,
+        workers,
+        outside: text_of(inner, "outside"),
+        trace: text_of(inner, "trace"),
+    })
 }
 
 /// The number of workers, from 1 to 16, that digits write.
@@ -218,6 +184,17 @@ fn workers_written(text: &str) -> Option<u32>
     match digits_up_to(text.as_bytes(), MOST_WORKERS) {
         Some(workers) if workers > 0 => Some(workers),
         _ => None,
+    }
+}
+
+/// The message for a command that asks for nothing: it has a text that is no number of workers.
+/// `clap` refuses a command without its files.
+fn mistake(alloc: Global, inner: &ArgMatches<'_>) -> LineError
+    ensures { (whole : Bool) → whole ≡ false → BlamesUnless whole result }
+{
+    match text_of(inner, "workers") {
+        Some(text) => no_workers(alloc, text),
+        None => usage(alloc, NO_COMMAND),
     }
 }
 

@@ -7,7 +7,7 @@ mod search;
 mod searches;
 mod state;
 
-use searches::{Case, Verdict, large, small};
+use searches::{Case, LARGE, SMALL};
 use std::process::ExitCode;
 use std::{env, io};
 
@@ -21,14 +21,10 @@ const NO_WORD: u8 = 2;
 fn tell(rt: &HostRuntime, cases: &[Case]) -> io::Result<bool> {
     let mut is_well = true;
     for case in cases {
-        let (states, verdict) = case.run(rt.alloc())?;
-        let name = case.name;
-        if verdict == Verdict::Well {
-            println!(rt; "{name}: {states} states, well")?;
-        } else {
-            println!(rt; "{name}: {states} states, {verdict:?}")?;
-            is_well = false;
-        }
+        let (states, wrong) = case.run(rt.alloc())?;
+        is_well &= wrong.is_none();
+        let (name, verdict) = (case.name, wrong.unwrap_or("well"));
+        println!(rt; "{name}: {states} states, {verdict}")?;
     }
     Ok(is_well)
 }
@@ -47,8 +43,8 @@ fn main(rt: HostRuntime) -> ExitCode {
     let mut done = NO_WORD;
     for word in words.skip(1) {
         done = match word.as_str() {
-            "small" => status(&rt, &small()),
-            "large" => status(&rt, &large()),
+            "small" => status(&rt, SMALL),
+            "large" => status(&rt, LARGE),
             _ => NO_WORD,
         };
     }

@@ -11,7 +11,6 @@ const SLICES: usize = 2;
 /// What the tasks do. The root does `row` local instructions, forks the subtasks, joins, closes and
 /// ends. The join waits for the subtasks or for an event from outside, and the close for the subtasks.
 /// A subtask does `rounds` rows of `row` local instructions, and another step behind each.
-#[derive(Clone, Copy, PartialEq, Eq, Hash)]
 pub struct Program {
     /// At most 3.
     pub subtasks: u32,
@@ -22,7 +21,7 @@ pub struct Program {
 }
 
 /// What a task does next.
-#[derive(Clone, Copy, PartialEq, Eq)]
+#[derive(Clone, Copy)]
 enum Step {
     Local,
     Join,
@@ -31,64 +30,56 @@ enum Step {
     Ended,
 }
 
-/// The state of a run: how many steps each task has taken, and which tasks are out. And whether the
-/// event from outside has come.
+/// Slices of tasks, with how many local instructions of each were done.
+pub type Batch = [Option<(u32, u32)>; SLICES];
+
+/// A batch of no slice.
+pub const EMPTY: Batch = [None; SLICES];
+
+/// The state of a run: what its tasks do, how many steps each has taken, and which tasks are out. And
+/// whether the event from outside has come.
 #[derive(Clone, Copy, PartialEq, Eq, Hash)]
 pub struct Run {
-    program: Program,
+    subtasks: u32,
+    rounds: u32,
+    row: u32,
+    due: u32,
     taken: [u32; TASKS],
     out: [bool; TASKS],
     has_come: bool,
 }
 
-/// Slices of tasks, with how many local instructions of each were done.
-#[derive(Clone, Copy, PartialEq, Eq, Hash)]
-pub struct Batch {
-    slices: [Option<(u32, u32)>; SLICES],
-}
-
-impl Batch {
-    /// A batch of no slice.
-    pub fn new() -> Batch {
-        Batch {
-            slices: [None; SLICES],
-        }
-    }
-
-    /// Does up to `limit` local instructions of each slice, as a worker does with no lock held.
-    pub fn work(&mut self, run: &Run, limit: u32) {
-        for place in &mut self.slices {
-            if let Some((task, _)) = *place {
-                *place = Some((task, run.row_of(task).min(limit)));
-            }
-        }
-    }
-
-    /// Adds a slice with nothing done, if there is room. Answers whether it did.
-    fn add(&mut self, task: u32) -> bool {
-        let Some(free) = self.slices.iter().position(|place| place.is_none()) else {
-            return false;
-        };
-        if let Some(place) = self.slices.get_mut(free) {
+/// Adds a slice with nothing done, if there is room. Answers whether it did.
+fn add(batch: &mut Batch, task: u32) -> bool {
+    for place in batch {
+        if place.is_none() {
             *place = Some((task, 0));
+            return true;
         }
-        true
     }
-
-    /// How many slices it has.
-    pub fn len(&self) -> usize {
-        self.slices.iter().filter(|place| place.is_some()).count()
-    }
+    false
 }
 
 impl Run {
     /// The state before the first step.
-    pub fn new(program: Program) -> Run {
+    pub fn new(program: &Program) -> Run {
         Run {
-            program,
+            subtasks: program.subtasks,
+            rounds: program.rounds,
+            row: program.row,
+            due: program.due,
             taken: [0; TASKS],
             out: [false; TASKS],
             has_come: false,
+        }
+    }
+
+    /// Does up to `limit` local instructions of each slice, as a worker does with no lock held.
+    pub fn work(&self, batch: &mut Batch, limit: u32) {
+        for place in batch {
+            if let Some((task, _)) = *place {
+                *place = Some((task, self.row_of(task).min(limit)));
+            }
         }
     }
 
@@ -115,17 +106,15 @@ impl Run {
 
     /// How many subtasks are forked.
     fn forked(&self) -> u32 {
-        self.taken(0)
-            .saturating_sub(self.program.row)
-            .min(self.program.subtasks)
+        self.taken(0).saturating_sub(self.row).min(self.subtasks)
     }
 
     /// The next step of the root, which has taken `taken`.
     fn step_of_root(&self, taken: u32) -> Step {
-        let Some(taken) = taken.checked_sub(self.program.row) else {
+        let Some(taken) = taken.checked_sub(self.row) else {
             return Step::Local;
         };
-        match taken.checked_sub(self.program.subtasks) {
+        match taken.checked_sub(self.subtasks) {
             None => Step::Other,
             Some(0) => Step::Join,
             Some(1) => Step::Close,
@@ -136,10 +125,10 @@ impl Run {
 
     /// The next step of a subtask that has taken `taken`.
     fn step_of_subtask(&self, taken: u32) -> Step {
-        let round = self.program.row.saturating_add(1);
-        if taken >= round.saturating_mul(self.program.rounds) {
+        let round = self.row.saturating_add(1);
+        if taken >= round.saturating_mul(self.rounds) {
             Step::Ended
-        } else if taken % round < self.program.row {
+        } else if taken % round < self.row {
             Step::Local
         } else {
             Step::Other
@@ -155,9 +144,18 @@ impl Run {
         }
     }
 
+    fn has_ended_at(&self, task: u32) -> bool {
+        matches!(self.step(task), Step::Ended)
+    }
+
     /// Have all subtasks ended?
     fn is_alone(&self) -> bool {
-        (1..=self.program.subtasks).all(|task| self.step(task) == Step::Ended)
+        for task in 1..=self.subtasks {
+            if !self.has_ended_at(task) {
+                return false;
+            }
+        }
+        true
     }
 
     /// Can the task step, out or not?
@@ -175,16 +173,21 @@ impl Run {
 
     /// The task of this number or a later one that can step and isn't out.
     fn first_at_hand(&self) -> Option<u32> {
-        (0..=self.program.subtasks).find(|task| self.is_at_hand(*task))
+        for task in 0..=self.subtasks {
+            if self.is_at_hand(task) {
+                return Some(task);
+            }
+        }
+        None
     }
 
     /// How many local instructions are ahead of the task.
     fn row_of(&self, task: u32) -> u32 {
         let taken = self.taken(task);
-        let round = self.program.row.saturating_add(1);
+        let round = self.row.saturating_add(1);
         match self.step(task) {
-            Step::Local if task == 0 => self.program.row.saturating_sub(taken),
-            Step::Local => self.program.row.saturating_sub(taken % round),
+            Step::Local if task == 0 => self.row.saturating_sub(taken),
+            Step::Local => self.row.saturating_sub(taken % round),
             _ => 0,
         }
     }
@@ -194,17 +197,15 @@ impl Tasks for Run {
     type Batch = Batch;
 
     fn ask(&mut self) {
-        let steps = self
-            .taken
-            .iter()
-            .fold(0u32, |sum, taken| sum.saturating_add(*taken));
-        if steps >= self.program.due {
-            self.has_come = true;
+        let mut steps = 0u32;
+        for taken in &self.taken {
+            steps = steps.saturating_add(*taken);
         }
+        self.has_come |= steps >= self.due;
     }
 
     fn has_ended(&self) -> bool {
-        self.step(0) == Step::Ended
+        self.has_ended_at(0)
     }
 
     fn has_more(&self) -> bool {
@@ -212,8 +213,11 @@ impl Tasks for Run {
     }
 
     fn has_other(&self, task: u32) -> bool {
-        self.out.contains(&true)
-            || (0..=self.program.subtasks).any(|other| other != task && self.can_step(other))
+        let mut has_other = self.out.contains(&true);
+        for other in 0..=self.subtasks {
+            has_other |= other != task && self.can_step(other);
+        }
+        has_other
     }
 
     fn is_at_hand(&self, task: u32) -> bool {
@@ -252,7 +256,7 @@ impl Tasks for Run {
     }
 
     fn lend(&mut self, task: u32, batch: &mut Batch) -> bool {
-        let is_lent = self.is_at_hand(task) && batch.add(task);
+        let is_lent = self.is_at_hand(task) && add(batch, task);
         if is_lent {
             self.set_out(task, true);
         }
@@ -260,13 +264,13 @@ impl Tasks for Run {
     }
 
     fn take_in(&mut self, batch: &Batch, place: u32) -> Option<Back> {
-        let (task, done) = batch.slices.get(place as usize).copied().flatten()?;
+        let (task, done) = batch.get(place as usize).copied().flatten()?;
         self.takes(task, done);
         self.set_out(task, false);
         Some(Back { task, done })
     }
 
     fn clear(&self, batch: &mut Batch) {
-        batch.slices = [None; SLICES];
+        *batch = EMPTY;
     }
 }

@@ -1,11 +1,10 @@
 //! A run with its workers, and what each hold of the lock leads to.
 
-use crate::run::{Batch, Program, Run};
-use std::alloc::{AllocError, Global};
-use sts_waits::{Limits, Tasks, Waits, Wake, Worker};
+use crate::run::{Batch, EMPTY, Program, Run};
+use sts_waits::{Held, Limits, Tasks, Waits, Wake, Worker};
 
 /// How many workers there are at most.
-const WORKERS: usize = 3;
+pub const WORKERS: usize = 3;
 
 /// The numbers of the rule, so small that short runs meet each of them.
 const SMALL: Limits = Limits {
@@ -38,36 +37,48 @@ impl Seat {
     fn new(worker: Worker) -> Seat {
         Seat {
             worker,
-            batch: Batch::new(),
+            batch: EMPTY,
             is_woken: false,
         }
     }
 
     /// Does it sleep, and nobody has woken it?
     fn sleeps(&self) -> bool {
-        self.worker == Worker::Asleep && !self.is_woken
-    }
-
-    fn is_out(&self) -> bool {
-        matches!(self.worker, Worker::Out { .. })
+        matches!(self.worker, Worker::Asleep) && !self.is_woken
     }
 
     fn has_ended(&self) -> bool {
-        self.worker == Worker::Ended
+        matches!(self.worker, Worker::Ended)
     }
+}
 
-    fn is_idle(&self) -> bool {
-        self.sleeps() || self.has_ended()
-    }
+/// What some schedule comes to.
+#[derive(Clone, Copy)]
+pub struct Seen {
+    /// A worker wakes another one.
+    pub wakes: bool,
+    /// A worker sleeps and leaves a task to another.
+    pub leaves: bool,
+    /// Two workers are out with slices at once.
+    pub together: bool,
+    /// A worker has two slices.
+    pub batch: bool,
+}
 
-    /// Does it sleep, or is it out, or has it ended?
-    fn is_away(&self) -> bool {
-        self.is_idle() || self.is_out()
-    }
-
-    /// Does it count as awake?
-    fn is_awake(&self) -> bool {
-        matches!(self.worker, Worker::Looking(_) | Worker::Claiming(_))
+impl Seen {
+    /// In what it differs from what is expected, if it does.
+    pub fn differs(&self, expected: &Seen) -> Option<&'static str> {
+        if self.wakes != expected.wakes {
+            Some("it differs in whether a worker wakes another one")
+        } else if self.leaves != expected.leaves {
+            Some("it differs in whether a worker leaves a task to another")
+        } else if self.together != expected.together {
+            Some("it differs in whether two workers are out with slices at once")
+        } else if self.batch != expected.batch {
+            Some("it differs in whether a worker has two slices")
+        } else {
+            None
+        }
     }
 }
 
@@ -80,38 +91,48 @@ pub struct State {
     may_stop: bool,
 }
 
-/// What is wrong with a state, or with a hold.
-#[derive(Clone, Copy, Debug, PartialEq, Eq)]
-pub enum Bad {
-    /// All workers sleep or have ended, and one of them sleeps.
-    AllSleep,
-    /// A task is left and several workers are to claim tasks. A worker sleeps, and all others sleep,
-    /// have ended, or are out with slices.
-    NobodyComes,
-    /// The number of workers that are awake isn't right, before the end or a stop.
-    Miscounted,
-    /// A worker was woken, and would claim no task if it came to the lock at once.
-    WokenForNothing,
-    /// All were woken, and a worker that came to the lock at once wouldn't end.
-    WokenForNoEnd,
-    /// The run has ended or is stopped, and a worker doesn't end at its next hold.
-    GoesOn,
-    /// No holds lead to the end of all workers, unless one wakes up for no reason.
-    NoEnd,
+/// All workers sleep or have ended, and one of them sleeps.
+const ALL_SLEEP: &str = "all workers sleep";
+
+/// A task is left and several workers are to claim tasks. A worker sleeps, and all others sleep, have
+/// ended, or are out with slices.
+const NOBODY_COMES: &str = "a task is left, and nobody comes";
+
+/// The number of workers that are awake isn't right, before the end or a stop.
+const MISCOUNTED: &str = "workers are miscounted";
+
+/// A worker was woken, and would claim no task if it came to the lock at once.
+const WOKEN_FOR_NOTHING: &str = "a worker is woken for nothing";
+
+/// All were woken, and a worker that came to the lock at once wouldn't end.
+const WOKEN_FOR_NO_END: &str = "all are woken for no end";
+
+/// The run has ended or is stopped, and a worker doesn't end at its next hold.
+const GOES_ON: &str = "a worker goes on";
+
+/// How many workers are where.
+#[derive(Clone, Copy)]
+struct Places {
+    asleep: u32,
+    awake: u32,
+    out: u32,
+    ended: u32,
 }
 
-/// What a hold leads to.
+/// What a hold leads to, before the wake-up is sent.
 #[derive(Clone, Copy)]
 pub struct Move {
     pub state: State,
     /// The worker woke up for no reason.
     pub is_false: bool,
     pub wake: Wake,
+    /// What is wrong with the hold, if something is.
+    pub bad: Option<&'static str>,
 }
 
 impl State {
     /// The state before the first worker has come to the lock.
-    pub fn new(program: Program, workers: u32, may_stop: bool) -> State {
+    pub fn new(program: &Program, workers: u32, may_stop: bool) -> State {
         let mut seats = [Seat::new(Worker::Ended); WORKERS];
         for seat in seats.iter_mut().take(workers as usize) {
             *seat = Seat::new(Worker::New);
@@ -124,149 +145,65 @@ impl State {
         }
     }
 
+    fn places(&self) -> Places {
+        let mut places = Places {
+            asleep: 0,
+            awake: 0,
+            out: 0,
+            ended: 0,
+        };
+        for seat in &self.seats {
+            let place = match seat.worker {
+                Worker::Asleep if !seat.is_woken => &mut places.asleep,
+                Worker::Looking(_) | Worker::Claiming(_) => &mut places.awake,
+                Worker::Out { .. } => &mut places.out,
+                Worker::Ended => &mut places.ended,
+                _ => continue,
+            };
+            *place = place.saturating_add(1);
+        }
+        places
+    }
+
     /// Have all workers ended?
     pub fn has_ended(&self) -> bool {
-        self.seats.iter().all(|seat| seat.has_ended())
+        self.places().ended as usize == WORKERS
     }
 
-    /// How many workers are out with slices, and the most slices of one.
-    pub fn out(&self) -> (usize, usize) {
-        let out = self.seats.iter().filter(|seat| seat.is_out()).count();
-        let most = self.seats.iter().map(|seat| seat.batch.len()).max();
-        (out, most.unwrap_or(0))
+    /// Has a worker two slices?
+    fn has_batch(&self) -> bool {
+        let mut has_batch = false;
+        for seat in &self.seats {
+            has_batch |= matches!(seat.batch, [Some(_), Some(_)]);
+        }
+        has_batch
     }
 
-    /// Is one of the workers asleep although a task is left?
-    pub fn has_left(&self) -> bool {
-        self.run.has_more() && self.seats.iter().any(|seat| seat.sleeps())
+    /// Notes what the state shows. Returns what is wrong with it, if something is.
+    pub fn notes(&self, seen: &mut Seen) -> Option<&'static str> {
+        let places = self.places();
+        seen.together |= places.out > 1;
+        seen.batch |= self.has_batch();
+        seen.leaves |= places.asleep > 0 && self.run.has_more();
+        self.fault(&places)
     }
 
     /// What is wrong with the state, if something is.
-    pub fn fault(&self) -> Option<Bad> {
-        let awake = self.seats.iter().filter(|seat| seat.is_awake()).count();
-        let sleeps = self.seats.iter().any(|seat| seat.sleeps());
-        if sleeps && self.seats.iter().all(|seat| seat.is_idle()) {
-            return Some(Bad::AllSleep);
-        }
-        let is_wanted = self.waits.wants_another(&self.run);
-        if sleeps && is_wanted && self.seats.iter().all(|seat| seat.is_away()) {
-            return Some(Bad::NobodyComes);
-        }
-        if !self.is_over() && self.waits.awake() as usize != awake {
-            return Some(Bad::Miscounted);
-        }
-        None
-    }
-}
-
-impl State {
-    /// The state in which all workers that sleep are woken.
-    fn all_woken(&self) -> State {
-        let mut state = *self;
-        for seat in &mut state.seats {
-            seat.is_woken |= seat.worker == Worker::Asleep;
-        }
-        state
-    }
-
-    /// The states in which one of the workers that sleep is woken; this state if none sleeps.
-    fn each_woken(&self, alloc: Global) -> Result<Vec<State>, AllocError> {
-        let mut states = Vec::new(alloc);
-        for (number, seat) in self.seats.iter().enumerate() {
-            let mut state = *self;
-            if let Some(woken) = state.seats.get_mut(number) {
-                woken.is_woken = true;
-            }
-            if seat.sleeps() {
-                states.push(state)?;
-            }
-        }
-        if states.is_empty() {
-            states.push(*self)?;
-        }
-        Ok(states)
-    }
-
-    /// Lets a worker have the lock once. Returns whom it wakes.
-    fn hold(&mut self, number: usize) -> Wake {
-        let Some(seat) = self.seats.get_mut(number) else {
-            return Wake::Nobody;
-        };
-        if let Worker::Out { limit, .. } = seat.worker {
-            seat.batch.work(&self.run, limit);
-        }
-        let held = self.waits.hold(&mut self.run, seat.worker, &mut seat.batch);
-        seat.worker = held.worker;
-        seat.is_woken = false;
-        held.wake
-    }
-
-    /// Where a worker that sleeps would be, if it had the lock now.
-    fn woken_at_once(&self) -> Worker {
-        let mut state = *self;
-        state
-            .waits
-            .hold(&mut state.run, Worker::Asleep, &mut Batch::new())
-            .worker
-    }
-
-    /// What is wrong with a wake-up that was sent in this state.
-    fn fault_of(&self, wake: Wake) -> Option<Bad> {
-        let worker = self.woken_at_once();
-        match wake {
-            Wake::Another if !matches!(worker, Worker::Claiming(_)) => Some(Bad::WokenForNothing),
-            Wake::All if worker != Worker::Ended => Some(Bad::WokenForNoEnd),
-            _ => None,
-        }
-    }
-
-    /// Adds what comes of this state when the wake-up is sent.
-    fn add(
-        &self,
-        alloc: Global,
-        wake: Wake,
-        is_false: bool,
-        moves: &mut Vec<Move>,
-    ) -> Result<(), AllocError> {
-        let states = match wake {
-            Wake::Nobody => vec![in alloc; *self]?,
-            Wake::Another => self.each_woken(alloc)?,
-            Wake::All => vec![in alloc; self.all_woken()]?,
-        };
-        for state in states {
-            moves.push(Move {
-                state,
-                is_false,
-                wake,
-            })?;
-        }
-        Ok(())
-    }
-
-    /// Adds what the next hold of a worker leads to. Returns what is wrong with it.
-    fn add_hold(
-        &self,
-        alloc: Global,
-        number: usize,
-        seat: &Seat,
-        moves: &mut Vec<Move>,
-    ) -> Result<Option<Bad>, AllocError> {
-        if seat.has_ended() {
-            return Ok(None);
-        }
-        let is_over = self.is_over();
-        let mut state = *self;
-        let wake = state.hold(number);
-        state.add(alloc, wake, seat.sleeps(), moves)?;
-        if is_over
-            && state
-                .seats
-                .get(number)
-                .is_some_and(|seat| !seat.has_ended())
+    fn fault(&self, places: &Places) -> Option<&'static str> {
+        let idle = places.asleep.saturating_add(places.ended);
+        let away = idle.saturating_add(places.out);
+        if places.asleep > 0 && idle as usize == WORKERS {
+            Some(ALL_SLEEP)
+        } else if places.asleep > 0
+            && away as usize == WORKERS
+            && self.waits.wants_another(&self.run)
         {
-            return Ok(Some(Bad::GoesOn));
+            Some(NOBODY_COMES)
+        } else if !self.is_over() && self.waits.awake() != places.awake {
+            Some(MISCOUNTED)
+        } else {
+            None
         }
-        Ok(state.fault_of(wake))
     }
 
     /// Has the run ended, or was it stopped?
@@ -274,20 +211,102 @@ impl State {
         self.run.has_ended() || self.waits.has_stopped()
     }
 
-    /// All that one hold, or a stop, leads to, and what is wrong with one of them.
-    pub fn moves(&self, alloc: Global) -> Result<(Vec<Move>, Option<Bad>), AllocError> {
-        let (mut moves, mut bad) = (Vec::new(alloc), None);
-        for (number, seat) in self.seats.iter().enumerate() {
-            let wrong = self.add_hold(alloc, number, seat, &mut moves)?;
-            bad = bad.or(wrong);
+    /// Wakes this worker, if it sleeps. Answers whether it did.
+    fn wakes(&mut self, number: usize) -> bool {
+        match self.seats.get_mut(number) {
+            Some(seat) if seat.sleeps() => {
+                seat.is_woken = true;
+                true
+            }
+            _ => false,
         }
-        if self.may_stop {
-            let mut state = *self;
-            state.may_stop = false;
-            let wake = state.waits.stop();
-            state.add(alloc, wake, false, &mut moves)?;
-            bad = bad.or(state.fault_of(wake));
+    }
+
+    /// One of the states that a wake-up leads to. If a worker of those that sleep is to be woken, there
+    /// is one for each of them; this state if none sleeps.
+    pub fn woken(&self, wake: Wake, number: usize) -> Option<State> {
+        let mut state = *self;
+        let is_there = match wake {
+            Wake::Nobody => number == 0,
+            Wake::Another => { state.wakes(number) || (number == 0 && self.places().asleep == 0) }
+            Wake::All => {
+                for each in 0..WORKERS {
+                    state.wakes(each);
+                }
+                number == 0
+            }
+        };
+        is_there.then_some(state)
+    }
+
+    /// Lets a worker have the lock once, if it hasn't ended.
+    fn hold(&mut self, number: usize) -> Option<Held> {
+        let seat = self.seats.get_mut(number)?;
+        if seat.has_ended() {
+            return None;
         }
-        Ok((moves, bad))
+        if let Worker::Out { limit, .. } = seat.worker {
+            self.run.work(&mut seat.batch, limit);
+        }
+        let held = self.waits.hold(&mut self.run, seat.worker, &mut seat.batch);
+        seat.worker = held.worker;
+        seat.is_woken = false;
+        Some(held)
+    }
+
+    /// What is wrong with a wake-up that was sent in this state.
+    fn fault_of(&self, wake: Wake) -> Option<&'static str> {
+        let mut state = *self;
+        let mut batch = EMPTY;
+        let held = state.waits.hold(&mut state.run, Worker::Asleep, &mut batch);
+        match (wake, held.worker) {
+            (Wake::Nobody, _) | (Wake::Another, Worker::Claiming(_)) => None,
+            (Wake::All, Worker::Ended) => None,
+            (Wake::Another, _) => Some(WOKEN_FOR_NOTHING),
+            (Wake::All, _) => Some(WOKEN_FOR_NO_END),
+        }
+    }
+
+    /// What the next hold of this worker leads to.
+    fn held(&self, number: usize) -> Option<Move> {
+        let mut state = *self;
+        let held = state.hold(number)?;
+        let goes_on = self.is_over() && !matches!(held.worker, Worker::Ended);
+        Some(Move {
+            state,
+            is_false: self.seats.get(number)?.sleeps(),
+            wake: held.wake,
+            bad: if goes_on {
+                Some(GOES_ON)
+            } else {
+                state.fault_of(held.wake)
+            },
+        })
+    }
+
+    /// What a stop leads to, if there may be one.
+    fn stopped(&self) -> Option<Move> {
+        if !self.may_stop {
+            return None;
+        }
+        let mut state = *self;
+        state.may_stop = false;
+        let wake = state.waits.stop();
+        Some(Move {
+            state,
+            is_false: false,
+            wake,
+            bad: state.fault_of(wake),
+        })
+    }
+
+    /// What the next hold of the worker of this number leads to. A stop has the number after the last
+    /// worker's.
+    pub fn turn(&self, number: usize) -> Option<Move> {
+        if number < WORKERS {
+            self.held(number)
+        } else {
+            self.stopped()
+        }
     }
 }

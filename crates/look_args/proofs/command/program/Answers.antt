@@ -1,10 +1,13 @@
+use Rattle.std.proofs.Common.{ap, ◌∙◌}
+use Rattle.clap.specs.Simple.{app_of_fields}
+use Rattle.sts_args.specs.Command.{required}
+use Rattle.look_args.specs.Command.{versioned}
 use Rattle.look_args.proofs.command.program.Goals as goal
 
 pub returns : goal.returns
 returns c =
-    let one = c.with_subcommand-program.ensures _ _ c.bare.ensures c.view.ensures.app c.view.ensures.local in
-    let two = c.with_subcommand-program-2.ensures _ _ one c.explain.ensures.app c.explain.ensures.local in
-    let three = c.with_subcommand-program-3.ensures _ _ two c.draw.ensures.app c.draw.ensures.local in
-    let four = c.with_subcommand-program-4.ensures _ _ three c.tell.ensures.app c.tell.ensures.local in
-    let five = c.with_subcommand-program-5.ensures _ _ four c.ends.ensures.app c.ends.ensures.local in
-    c.with_subcommand.ensures _ _ five c.cases.ensures.app c.cases.ensures.local
+    let bare = ap app_of_fields c.subcommand_required-bare.ensures
+    ∙ ap (λ f. required (app_of_fields f)) c.version.ensures
+    ∙ ap (λ f. required (versioned (app_of_fields f))) c.about.ensures
+    ∙ ap (λ a. required (versioned a)) c.new.ensures.app in
+    c.with_subcommands.ensures _ bare
