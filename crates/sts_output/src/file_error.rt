@@ -11,7 +11,7 @@ use std::io;
 use std::io::ErrorKind;
 
 /// A file that was not read or written, and why.
-#[derive(Clone, Copy, Debug)]
+#[derive(Clone, Copy)]
 pub enum FileError<'a> {
     /// The file could not be opened or read.
     Unread { path: &'a str, kind: ErrorKind },

@@ -1,7 +1,7 @@
 //! The modes: what the program can do with a text.
 
 /// The modes for a text. `Plain` and `Replay` also read the trace.
-#[derive(Clone, Copy, Debug, PartialEq, Eq)]
+#[derive(Clone, Copy)]
 pub enum Mode {
     Verify,
     List,

@@ -7,7 +7,7 @@ use std::io::ErrorKind;
 use std::rt::Env;
 
 /// Why the words could not be read.
-#[derive(Clone, Copy, Debug, PartialEq, Eq)]
+#[derive(Clone, Copy)]
 pub enum WordsError {
     /// Memory ran out.
     Memory,

@@ -12,7 +12,7 @@ use std::io;
 use std::io::{ErrorKind, Read};
 
 /// Why a reader's bytes could not be taken.
-#[derive(Clone, Copy, Debug, PartialEq, Eq)]
+#[derive(Clone, Copy)]
 pub enum TakeError {
     /// Memory ran out.
     Memory,

@@ -13,7 +13,7 @@ use std::alloc::Global;
 use std::io::Write;
 
 /// The modes for a text. `Plain` also reads the trace.
-#[derive(Clone, Copy, Debug, PartialEq, Eq)]
+#[derive(Clone, Copy)]
 pub enum TextMode {
     Verify,
     List,

@@ -10,7 +10,7 @@ use crate::taking::TakeError;
 use std::io::Write;
 
 /// Writing what is printed failed; some of it may have been written.
-#[derive(Clone, Copy, Debug, PartialEq, Eq)]
+#[derive(Clone, Copy)]
 pub struct WriteFailed;
 
 /// The status if memory, a file or a stream failed.

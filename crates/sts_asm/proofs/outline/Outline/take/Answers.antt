@@ -13,4 +13,5 @@ returns-clause-taken c =
     slice_get-get_or c.args.self.now.done c.args.number here c.requires ∙ ap (λ (d : Draft). Some d) (sym is)
 
 pub returns-clause-left : goal.returns-clause-left
-returns-clause-left c = rw (c.replace.ensures.after, c.new-empty.ensures) (ap (λ (o : Outline). record o { done = slice_set o.done c.args.number no_draft }) c.self.view_is)
+returns-clause-left c =
+    rw (c.replace.ensures.after, c.new-empty.ensures) (ap (λ (o : Outline). record o { done = slice_set o.done c.args.number no_draft }) c.self.view_is)
