@@ -1,6 +1,5 @@
 //! Memory for large trees, and a discarded record that is used again.
 
-use std::alloc::AllocError;
 use sts_records::Held;
 use sts_tree::Tree;
 
@@ -9,23 +8,21 @@ static ROOMS: [(u32, u32); 4] = [(65_536, 1), (1, 65_536), (1, 65_537), (1, 200_
 
 /// No contract refuses a tree that finds no memory. No later call of a tree takes any.
 #[test]
-fn there_is_memory_for_large_trees(rt: HostRuntime) -> Result<(), AllocError> {
+fn there_is_memory_for_large_trees(rt: HostRuntime) {
     for (tasks, scopes) in ROOMS {
         assert!(rt; 0 < tasks && tasks <= 65_536);
-        let tree: Tree<u8> = Tree::with_room(rt.alloc(), tasks, scopes)?;
+        let tree: Tree<u8> = Tree::with_room(rt.alloc(), tasks, scopes).expect(&rt, "a tree");
         drop(tree);
     }
-    Ok(())
 }
 
 /// No contract refuses records that are never used again.
 #[test]
-fn a_discarded_record_is_used_again(rt: HostRuntime) -> Result<(), AllocError> {
-    let mut held = Held::with_room(rt.alloc(), 2)?;
+fn a_discarded_record_is_used_again(rt: HostRuntime) {
+    let mut held = Held::with_room(rt.alloc(), 2).expect(&rt, "records");
     assert!(rt; !held.reuse());
     let birth = held.push(10u32);
     held.push(20);
     held.discard(birth);
     assert!(rt; held.reuse());
-    Ok(())
 }

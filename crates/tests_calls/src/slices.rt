@@ -67,7 +67,8 @@ fn hold(counter: &AtomicU64, over: u64, missed: &AtomicU64) {
 /// Holds the second entry for each of two subtasks until both have had a second entry.
 #[derive(Drop)]
 struct Both {
-    entries: [AtomicU64; 2],
+    first: AtomicU64,
+    second: AtomicU64,
     missed: AtomicU64,
 }
 
@@ -76,11 +77,14 @@ impl Gate for Both {
         if task == 0 || task > 2 {
             return;
         }
-        let subtask = (task - 1) as usize;
-        if self.entries[subtask].fetch_add(1, Ordering::SeqCst) != 1 {
-            return;
+        let (own, other) = if task == 1 {
+            (&self.first, &self.second)
+        } else {
+            (&self.second, &self.first)
+        };
+        if own.fetch_add(1, Ordering::SeqCst) == 1 {
+            hold(other, 1, &self.missed);
         }
-        hold(&self.entries[1 - subtask], 1, &self.missed);
     }
 }
 
@@ -90,15 +94,20 @@ impl Gate for Both {
 fn two_slices_are_out_at_once(rt: HostRuntime) {
     for path in PATHS {
         let both = Both {
-            entries: [AtomicU64::new(0), AtomicU64::new(0)],
+            first: AtomicU64::new(0),
+            second: AtomicU64::new(0),
             missed: AtomicU64::new(0),
         };
         let ended = ending(&rt, rt.alloc(), path, LOOPS, 2, &both, Weather::Calm);
-        let first = both.entries[0].load(Ordering::SeqCst) > 1;
-        let second = both.entries[1].load(Ordering::SeqCst) > 1;
-        let missed = both.missed.load(Ordering::SeqCst);
-        let found = (ended.end, first, second, missed);
-        compare(&rt, path, found, (End::Success(20_000), true, true, 0));
+        let first = both.first.load(Ordering::SeqCst);
+        let second = both.second.load(Ordering::SeqCst);
+        let have_met = first > 1 && second > 1 && both.missed.load(Ordering::SeqCst) == 0;
+        compare(
+            &rt,
+            path,
+            (ended.end, have_met),
+            (End::Success(20_000), true),
+        );
     }
 }
 
