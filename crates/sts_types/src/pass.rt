@@ -25,7 +25,7 @@ use sts_code::{Instr, MAX_INSTRUCTIONS, MAX_OPERANDS, Program, code_of};
 use sts_rules::Cause;
 
 /// Why a function is refused.
-#[derive(Clone, Copy, Debug, PartialEq, Eq)]
+#[derive(Clone, Copy)]
 pub enum TypeError {
     /// Memory ran out.
     Memory,
