@@ -16,12 +16,13 @@ In `threads_of_sts` the start of each worker is refused in turn. Then a run by w
 this if the refused memory was for such a start, and never otherwise. It starts as many workers as it is asked for, with a
 journal and without. Where one isn't started, the others stop: in a program of 480,052 steps this takes less than half the
 processor time of a whole run.
-In `single_calls`, calls are tried with refused memory, by the parts `calls` and `workers` of the program `tests_rows`, which
-prints what each answers:
+In `single_calls`, calls that the programs don't make, or make only once, are tried with refused memory, by the part `calls`
+of the program `tests_rows`, which prints what each answers:
 - each call that leads to the one that is tried, and this one, finds no memory in turn; otherwise the answer is right;
 - `verify` gives a program back if memory runs out, and a machine is as it was before such an event. The same program, or
   the same event, then gives the right answer;
-- between `prepare`, or the start of a book, and the end of a whole run there is no request for memory.
+- between the start of a book and the end of a whole run there is no request for memory. `run_alone` makes as many as
+  `prepare` alone, so there is none between `prepare` and the end of a whole run.
 refuse.c makes the refusals. A C compiler makes a library of it, which is loaded before the program as it was built. If
 there is no compiler, or the library can't be loaded, the script says that, and the status is 1. It refuses no memory to the
 slow program that `rt try` builds, since AddressSanitizer replaces the requests: there only `threads_of_sts` works.
@@ -173,6 +174,16 @@ EXPLAINED = [
         4,
     ),
     (
+        "too many steps after other functions",  # (their budgets are found first)
+        f"{MIDDLE.partition('func main')[0]}"
+        "func main 0 / push 499 / times 499 / push 2001 / times 2001 / next / next / push 0 / push 0 / ret / end",
+        "refused V17 in main, at its end / some path takes more than 1000000 steps: lower a bound of times, or fork fewer subtasks / "
+        "1000001 steps on a path that ends here, line 36: ret / adds 1, line 28: push 499 / adds 1, line 29: times 499 / "
+        "adds 499, line 30: push 2001 / adds 499, line 31: times 2001 / adds 998499, line 32: next / adds 499, line 33: next / "
+        "adds 1, line 34: push 0 / adds 1, line 35: push 0 / adds 1, its last step",
+        4,
+    ),
+    (
         "a word that is missing",
         "func main 0 / push 1 / case s1 yes / end",
         "error A4, line 3: case s1 yes / an operand is missing, extra, misspelled or of the wrong kind / "
@@ -314,40 +325,38 @@ def spelled(text):
 
 # The calls that need no memory of their own: the task of a constant has all that it needs once `start` is done.
 NEED_NONE = ["apply: a constant"]
-BY_WORKERS = ["workers"]  # the part of `tests_rows` that calls `play_run`, with two workers
+AGAIN = ("verify", "apply")  # the calls that are made once more if there was no memory
 Call = collections.namedtuple("Call", "name case leads")
+
+
+def ended(end):
+    """How the program of the calls shows an end: `success 7` as `Success(7)`."""
+    word, value = end.split()
+    return f"{word.capitalize()}({value})"
+
+
+def shown(most):
+    """How the program of the calls shows budgets: `main 2 1 0 0` as `("main", 2, 1, 0, 0)`."""
+    rows = [it.split() for it in most.split(" / ")]
+    return " / ".join(f'("{name}", {", ".join(numbers)})' for name, *numbers in rows)
 
 
 def calls():
     """Each call on each row, with what it answers and the calls that lead to it and it itself."""
-    for name, text, trace, answer, status in RUNS:
-        program, came = lines(text), events(trace)
+    for name, text, trace, answer, _ in RUNS:
         most, alone = ROWS[name]
-        sizes = "".join(f"{head.split()[0]} has {len(code)} instructions\n" for head, code, _ in routines(text)).encode()
+        end, steps = answer.split(" / ")
         for leads, said in (
-            ("take", f"bytes {len(program)}\n".encode()),
-            ("take assemble", sizes),
-            ("take assemble list", listed(text)),
-            ("take assemble room spell", spelled(text)),
-            ("take read_trace", b"events %d\n" % came.count(b"\n")),
-            ("take read_outside", b"dues 2\n"),
-            ("take assemble verify", lines(most)),
-            ("take assemble verify budget", lines(most)),
-            ("take assemble start", b"running\n"),
-            ("take assemble read_trace start apply", lines(answer)),
-            ("take assemble verify prepare", FROM_HERE + TO_HERE + lines(alone)),
-            ("take assemble verify read_trace replay", lines(answer)),
-            ("take assemble verify run_alone", lines(alone)),
-            ("take assemble verify book", FROM_HERE + TO_HERE + lines(alone)),
+            ("assemble spell", spelled(text)),
+            ("assemble read_trace start apply", lines(f"(Ended({ended(end)}), {steps.split()[1]})")),
+            ("assemble verify", lines(shown(most))),
+            ("assemble verify prepare run_alone", FROM_HERE + TO_HERE + lines(ended(alone))),
+            ("assemble verify book", FROM_HERE + TO_HERE + lines(f"Some({ended(alone)})")),
+            ("assemble tree", lines("(1, 65537)")),
         ):
-            leads = ["words", *leads.split()]
-            given = leads[-1].encode() + b"\n" + program + b"%\n" + came + b"%\n" + lines(DUES)
+            leads = ["words", "take", *leads.split()]
+            given = leads[-1].encode() + b"\n" + lines(text) + b"%\n" + events(trace)
             yield Call(f"{leads[-1]}: {name}", Case(f"{leads[-1]}: {name}", ["calls"], None, given, said, 0), leads)
-        end, steps = ENDS[name]
-        whole, *others = [budgets(name) + lines(f"{end} / steps {it} / status {status}, entries {it + 2}") for it in steps]
-        given = b"\n" + program + b"%\n%\n" + lines(DUES)
-        yield Call(f"play_run: {name}", Case(f"play_run: {name}", BY_WORKERS, None, given, whole, 0, others), ["words", "take", "room", "play_run"])
-    yield Call("tree", Case("tree", ["calls"], None, b"tree\n", lines("room 1 65537"), 0), ["words", "take", "tree"])
 
 
 def compiler():
@@ -416,15 +425,14 @@ def told_of(what, told):
 
 def own_requests(refusing, case):
     """How many requests for memory belong to the start of a worker before its thread is started: those between two starts."""
-    words = case.words if case.words == BY_WORKERS else ["run", "text", "--workers", "2"]
-    _, told = refusing.run(case._replace(words=words), "count")
+    _, told = refusing.run(case._replace(words=["run", "text", "--workers", "2"]), "count")
     (_, after), (before, _) = told_of("thread", told)
     return before - after
 
 
 def starts(refusing, case):
     """The numbers of the requests for memory that belong to the starts of workers."""
-    if case.words[:1] != ["run"] and case.words != BY_WORKERS:
+    if case.words[:1] != ["run"]:
         return set()
     _, told = refusing.run(case, "count")
     threads = told_of("thread", told)
@@ -520,26 +528,41 @@ def threads(refusing, case):
         yield from workers(refusing, case)
 
 
-def without_memory(call, answer):
+def without_memory(call, answer, later):
     """The call that found no memory, by the output; none if that is no answer to a refusal."""
-    of_last = UNCHANGED if call.leads[-1] in ("verify", "apply") else b""
-    if of_last and answer == (of_last + call.case.answer, 0):
-        return call.leads[-1]
+    printed, status = answer
     for lead in call.leads:
-        before = of_last if lead == call.leads[-1] else b""
-        if answer == (before + f"error memory in {lead}\n".encode(), 6):
+        refusal = f"error memory in {lead}\n".encode()
+        before = printed.removesuffix(refusal)
+        if lead in AGAIN and not later:  # (the second time there is memory)
+            right = answer == (UNCHANGED + call.case.answer, 0)
+        elif lead in AGAIN:
+            right = answer == (UNCHANGED + refusal, 6)
+        elif lead in ("spell", "prepare", "run_alone"):  # whole lines of the right answer come before the refusal
+            right = status == 6 and printed != before and before in begun(call, lead)
+        else:
+            right = answer == (refusal, 6)
+        if right:
             return lead
     return None
 
 
+def begun(call, lead):
+    """What is printed before a call finds no memory."""
+    if lead == "spell":
+        rows = call.case.answer.splitlines(keepends=True)
+        return [b"".join(rows[:n]) for n in range(len(rows))]
+    return [FROM_HERE if lead == "prepare" else FROM_HERE + TO_HERE]
+
+
 def refused_in_turn(refusing, call, later):
     """Yields for each n whether the answer is right, and last whether each call that leads there was met, in this order."""
-    right, of_starts, met = right_answers(call.case), starts(refusing, call.case), []
+    right, met = right_answers(call.case), []
     for n in itertools.count(1):
         answer, refused = refusing.run(call.case, f"memory:{n}{later}")
         if not refused or answer[1] == NO_END:
             break
-        lead = call.leads[-1] if n in of_starts and answer == NO_THREADS else without_memory(call, answer)
+        lead = without_memory(call, answer, later)
         met += [lead] if lead and [lead] != met[-1:] else []
         # a call may do without what was refused
         yield lead is not None or answer in right, f"memory:{n}{later}", answer
@@ -548,14 +571,16 @@ def refused_in_turn(refusing, call, later):
 
 
 def asks_nothing(refusing, call):
-    """Yields whether no request for memory comes between the two marks, which are two writes."""
+    """Yields whether a whole run makes no request for memory: in a book none comes between the two marks, which are two
+    writes, and `run_alone` makes as many after them as `prepare` makes between them."""
     answer, told = refusing.run(call.case, "count")
     counts, written = {}, 0
     for requests, size in told_of("write", told):
         counts[answer[0][written : written + size]] = requests
         written += size
-    asked = [counts.get(mark) for mark in (FROM_HERE, TO_HERE)]
-    yield None not in asked and asked[0] == asked[1] > 0, "count", (answer, counts)
+    first, last, end = (counts.get(it, 0) for it in call.case.answer.splitlines(keepends=True))
+    right = 0 < first == last if "book" in call.leads else 0 < first < last and last - first == end - last
+    yield right, "count", (answer, counts)
 
 
 def call_refused(refusing, call):

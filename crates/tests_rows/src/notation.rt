@@ -1,16 +1,7 @@
 //! Lines and traces in their short notation.
 
-use crate::failure::{Failure, within, written};
+use crate::failure::Failure;
 use std::io::Write;
-
-/// Pushes bytes of a table.
-///
-/// # Errors
-///
-/// There was no memory.
-pub fn push(text: &mut Vec<u8>, more: &str) -> Result<(), Failure> {
-    within("a table", text.extend_from_slice(more.as_bytes()))
-}
 
 /// Pushes the byte that two digits stand for, and what follows them.
 fn push_escaped(text: &mut Vec<u8>, escaped: &str) -> Result<(), Failure> {
@@ -20,41 +11,31 @@ fn push_escaped(text: &mut Vec<u8>, escaped: &str) -> Result<(), Failure> {
     let Ok(byte) = u8::from_str_radix(code, 16) else {
         return Err(Failure::Unfit("a code has other characters than digits"));
     };
-    match text.push(byte) {
-        Ok(()) => push(text, rest),
-        Err(_) => Err(Failure::Memory("a table")),
-    }
-}
-
-/// Pushes the parts of a line that `\` separates, each but the first with its code of two digits.
-fn push_parts(text: &mut Vec<u8>, line: &str) -> Result<(), Failure> {
-    let mut parts = line.split("\\");
-    push(text, parts.next().unwrap_or(""))?;
-    for escaped in parts {
-        push_escaped(text, escaped)?;
-    }
+    text.extend_from_slice(&[byte])?;
+    text.extend_from_slice(rest.as_bytes())?;
     Ok(())
 }
 
 /// Pushes one line. `\1f` stands for the byte of that code, and a line that ends with `\` has no
 /// newline.
-///
-/// # Errors
-///
-/// Out of memory, or a `\` that doesn't end the line and has no two digits after it.
-pub fn push_line(text: &mut Vec<u8>, line: &str) -> Result<(), Failure> {
-    let Some(unended) = line.strip_suffix("\\") else {
-        push_parts(text, line)?;
-        return push(text, "\n");
-    };
-    push_parts(text, unended)
+fn push_line(text: &mut Vec<u8>, line: &str) -> Result<(), Failure> {
+    let unended = line.strip_suffix("\\");
+    let mut parts = unended.unwrap_or(line).split("\\");
+    text.extend_from_slice(parts.next().unwrap_or("").as_bytes())?;
+    for escaped in parts {
+        push_escaped(text, escaped)?;
+    }
+    if unended.is_none() {
+        text.extend_from_slice(b"\n")?;
+    }
+    Ok(())
 }
 
 /// Pushes lines that this separates.
 ///
 /// # Errors
 ///
-/// As those of `push_line`.
+/// Out of memory, or a `\` that doesn't end its line and has no two digits after it.
 pub fn push_lines(text: &mut Vec<u8>, lines: &str, between: &str) -> Result<(), Failure> {
     for line in lines.split(between) {
         push_line(text, line)?;
@@ -62,7 +43,7 @@ pub fn push_lines(text: &mut Vec<u8>, lines: &str, between: &str) -> Result<(), 
     Ok(())
 }
 
-/// A number of a short trace.
+/// A number of a table.
 ///
 /// # Errors
 ///
@@ -74,44 +55,19 @@ pub fn number(word: &str) -> Result<u32, Failure> {
     }
 }
 
-/// Pushes `count` lines, each a step of the task.
-fn push_steps(trace: &mut Vec<u8>, task: u32, count: u32) -> Result<(), Failure> {
-    for _ in 0..count {
-        writeln!(trace, "step {task}")?;
-    }
-    Ok(())
-}
-
-/// Pushes the steps of each task from one to another.
-fn push_tasks(trace: &mut Vec<u8>, first: u32, last: u32, count: u32) -> Result<(), Failure> {
-    for task in first..=last {
-        push_steps(trace, task, count)?;
-    }
-    Ok(())
-}
-
 /// Pushes the steps of one task, or of each task from one to another.
 fn push_turns(trace: &mut Vec<u8>, steps: &str) -> Result<(), Failure> {
     let Some((tasks, count)) = steps.split_once("*") else {
         return Err(Failure::Unfit("a word of a trace is no event"));
     };
     let (first, last) = tasks.split_once("..").unwrap_or((tasks, tasks));
-    push_tasks(trace, number(first)?, number(last)?, number(count)?)
-}
-
-/// Pushes the line of an event from outside: its word, and the number of a task or a scope.
-fn push_outside(trace: &mut Vec<u8>, word: &str, number: &str) -> Result<(), Failure> {
-    written(writeln!(trace, "{word} {number}"))
-}
-
-fn push_event(trace: &mut Vec<u8>, word: &str) -> Result<(), Failure> {
-    if let Some(task) = word.strip_prefix("i") {
-        push_outside(trace, "interrupt", task)
-    } else if let Some(scope) = word.strip_prefix("x") {
-        push_outside(trace, "expire", scope)
-    } else {
-        push_turns(trace, word)
+    let count = number(count)?;
+    for task in number(first)?..=number(last)? {
+        for _ in 0..count {
+            writeln!(trace, "step {task}")?;
+        }
     }
+    Ok(())
 }
 
 /// Pushes the lines of a trace in its short notation. `0*5` is `step 0` five times, and `1..3*5` is
@@ -123,7 +79,13 @@ fn push_event(trace: &mut Vec<u8>, word: &str) -> Result<(), Failure> {
 /// Out of memory, or a word that is no event.
 pub fn push_events(trace: &mut Vec<u8>, short: &str) -> Result<(), Failure> {
     for word in short.split_ascii_whitespace() {
-        push_event(trace, word)?;
+        if let Some(task) = word.strip_prefix("i") {
+            writeln!(trace, "interrupt {task}")?;
+        } else if let Some(scope) = word.strip_prefix("x") {
+            writeln!(trace, "expire {scope}")?;
+        } else {
+            push_turns(trace, word)?;
+        }
     }
     Ok(())
 }

@@ -1,9 +1,9 @@
 //! One table, read line by line.
 
-use crate::failure::{Failure, within};
-use crate::notation::{number, push, push_events, push_lines};
+use crate::failure::Failure;
+use crate::notation::{number, push_events, push_lines};
 use std::alloc::Global;
-use std::str;
+use std::{mem, str};
 use sts_cli::{play, play_joined};
 use sts_output::Mode;
 use sts_output::printed::trace_fault_line;
@@ -12,13 +12,11 @@ use sts_trace::read_outside;
 /// A listing of more bytes than a text may have isn't listed again.
 const MOST: usize = 1_048_576;
 
-/// How the program is asked.
-#[derive(Clone, Copy)]
-enum Asked {
-    In(Mode),
-    /// No words: the text holds the trace too.
-    Joined,
-}
+/// The status if a trace or an outside text has a fault.
+const FAULT: u8 = 3;
+
+/// The status if a program is refused.
+const REFUSED: u8 = 4;
 
 /// The text and the question that the next answer belongs to, and how many answers were compared.
 #[derive(Drop)]
@@ -28,57 +26,41 @@ pub struct Table<'t> {
     /// A line for each word: the word, and the lines that it stands for.
     words: String,
     text: Vec<u8>,
+    /// The trace or the outside text that is asked for.
+    trace: Vec<u8>,
     asked: &'t str,
+    /// The status that is expected.
+    status: u8,
+    /// Whether the answer has more than its status.
+    is_whole: bool,
+    /// What is expected to be printed.
+    expected: Vec<u8>,
+    /// The status that was answered.
+    said: u8,
+    /// What was printed.
+    printed: Vec<u8>,
     line: u32,
     compared: u32,
     wrong: u32,
 }
 
-/// Plays a text and a trace, and returns the status; none if the output was not written.
-fn played(
+/// Asks the program in a mode, or with no words, and returns the status.
+fn said(
     alloc: Global,
-    asked: Asked,
+    mode: Option<Mode>,
     text: &[u8],
     trace: &[u8],
     printed: &mut Vec<u8>,
-) -> Option<u8> {
-    match asked {
-        Asked::In(mode) => play(alloc, mode, text, trace, printed).ok(),
-        Asked::Joined => play_joined(alloc, text, printed).ok(),
-    }
-}
-
-/// The bytes of a text.
-fn text_of(bytes: &[u8]) -> Result<&str, Failure> {
-    match str::from_utf8(bytes) {
-        Ok(text) => Ok(text),
-        Err(_) => Err(Failure::Unfit("an answer is no text")),
-    }
-}
-
-/// The answer of the program: the status, a blank, and what was printed.
-fn spelled(alloc: Global, status: Option<u8>, printed: &[u8]) -> Result<String, Failure> {
-    let Some(status) = status else {
-        return Err(Failure::Unfit("an answer is not written"));
+) -> Result<u8, Failure> {
+    printed.clear();
+    let written = match mode {
+        Some(mode) => play(alloc, mode, text, trace, printed),
+        None => play_joined(alloc, text, printed),
     };
-    let printed = text_of(printed)?;
-    within("a table", format!(in alloc; "{status} {printed}"))
-}
-
-/// Asks the program, and returns its answer.
-fn said(alloc: Global, asked: Asked, text: &[u8], trace: &[u8]) -> Result<String, Failure> {
-    let mut printed = Vec::new(alloc);
-    let status = played(alloc, asked, text, trace, &mut printed);
-    spelled(alloc, status, printed.as_slice())
-}
-
-/// Says how an outside text is read: the status, and the fault if there is one.
-fn push_read(alloc: Global, text: &[u8], said: &mut String) -> Result<(), Failure> {
-    let Err(error) = read_outside(alloc, text) else {
-        return within("a table", said.push_str("0"));
-    };
-    within("a table", said.push_str("3 "))?;
-    within("a table", trace_fault_line(said, error))
+    match written {
+        Ok(status) => Ok(status),
+        Err(_) => Err(Failure::Unfit("an answer is not written")),
+    }
 }
 
 /// Returns the lines that a word stands for, or the line itself.
@@ -93,189 +75,151 @@ fn meaning<'s>(words: &'s str, line: &'s str) -> &'s str {
     line
 }
 
-/// Pushes what a line stands for that is repeated.
-fn push_repeated(text: &mut Vec<u8>, count: u32, repeated: &str) -> Result<(), Failure> {
-    for _ in 0..count {
-        push_lines(text, repeated, ", ")?;
-    }
-    Ok(())
-}
-
-/// Pushes what one line stands for.
-fn push_meant(words: &str, text: &mut Vec<u8>, line: &str) -> Result<(), Failure> {
-    match line.split_once(" * ") {
-        Some((count, repeated)) => push_repeated(text, number(count)?, repeated),
-        None => push_lines(text, meaning(words, line), " / "),
-    }
-}
-
 /// Pushes the bytes that lines stand for.
 fn push_short(words: &str, text: &mut Vec<u8>, short: &str) -> Result<(), Failure> {
     for line in short.split(" / ") {
-        push_meant(words, text, line)?;
+        if let Some((count, repeated)) = line.split_once(" * ") {
+            for _ in 0..number(count)? {
+                push_lines(text, repeated, ", ")?;
+            }
+        } else {
+            push_lines(text, meaning(words, line), " / ")?;
+        }
     }
     Ok(())
 }
 
-/// Pushes an answer: a status, a blank, and what is printed.
-fn push_answer(
-    words: &str,
-    answer: &mut Vec<u8>,
-    status: &str,
-    short: &str,
-) -> Result<(), Failure> {
-    push(answer, status)?;
-    push(answer, " ")?;
-    push_short(words, answer, short)
-}
-
-/// Pushes the trace that is asked for.
-fn push_trace(words: &str, trace: &mut Vec<u8>, asked: &str) -> Result<(), Failure> {
-    match asked.strip_prefix("trace ") {
-        Some(lines) => push_short(words, trace, lines),
-        None => push_events(trace, asked),
-    }
+/// The text of bytes, to be shown.
+fn shown(bytes: &[u8]) -> &str {
+    str::from_utf8(bytes).unwrap_or("bytes that are no text")
 }
 
 impl<'t> Table<'t> {
     /// Returns a table before its first line is read.
     pub fn new(rt: &'t HostRuntime, name: &'t str) -> Table<'t> {
+        let alloc = rt.alloc();
         Table {
             rt,
             name,
-            words: String::new(rt.alloc()),
-            text: Vec::new(rt.alloc()),
+            words: String::new(alloc),
+            text: Vec::new(alloc),
+            trace: Vec::new(alloc),
             asked: "",
+            status: 0,
+            is_whole: false,
+            expected: Vec::new(alloc),
+            said: 0,
+            printed: Vec::new(alloc),
             line: 0,
             compared: 0,
             wrong: 0,
         }
     }
 
-    /// Compares an answer with the expected one, and says what differs. Returns whether nothing does.
-    fn compare(&mut self, said: &str, expected: &str) -> Result<bool, Failure> {
-        if said == expected || said.split(" ").next() == Some(expected) {
-            return Ok(true);
-        }
-        self.wrong = self.wrong.saturating_add(1);
-        let (name, line) = (self.name, self.line);
-        println!(self.rt; "{name}: line {line}: {said:?}, expected {expected:?}")?;
-        Ok(false)
+    /// Is the last answer the expected one?
+    fn is_right(&self) -> bool {
+        self.said == self.status
+            && (!self.is_whole || self.printed.as_slice() == self.expected.as_slice())
     }
 
     /// Asks one thing of the text, and compares the answer.
-    fn ask(&mut self, asked: Asked, trace: &[u8], expected: &str) -> Result<bool, Failure> {
-        let said = said(self.rt.alloc(), asked, self.text.as_slice(), trace)?;
-        self.compare(said.as_str(), expected)
-    }
-
-    /// Lists a listing again, and compares it with itself.
-    fn list_again(&mut self, listing: &[u8], expected: &str) -> Result<bool, Failure> {
-        let again = said(self.rt.alloc(), Asked::In(Mode::List), listing, b"")?;
-        self.compare(again.as_str(), expected)
+    fn ask(&mut self, mode: Option<Mode>) -> Result<bool, Failure> {
+        let (text, trace) = (self.text.as_slice(), self.trace.as_slice());
+        self.said = said(self.rt.alloc(), mode, text, trace, &mut self.printed)?;
+        Ok(self.is_right())
     }
 
     /// A listing, which is listed again as itself.
-    fn list(&mut self, expected: &str) -> Result<bool, Failure> {
-        if let Some(listing) = expected.strip_prefix("0 ")
-            && listing.len() <= MOST
-            && !self.list_again(listing.as_bytes(), expected)?
-        {
+    fn list(&mut self) -> Result<bool, Failure> {
+        let list = Some(Mode::List);
+        let is_right = self.ask(list)?;
+        if is_right && self.is_whole && self.said == 0 && self.expected.len() <= MOST {
+            let listing = self.expected.as_slice();
+            self.said = said(self.rt.alloc(), list, listing, b"", &mut self.printed)?;
+            return Ok(self.is_right());
+        }
+        Ok(is_right)
+    }
+
+    /// A trace by `plain`, and then by `replay`, which answers what `plain` does, or the verdict if the
+    /// program is refused.
+    fn run(&mut self) -> Result<bool, Failure> {
+        if !self.ask(Some(Mode::Plain))? {
             return Ok(false);
         }
-        self.ask(Asked::In(Mode::List), b"", expected)
-    }
-
-    /// A trace by `replay`, which answers what `plain` does, or this verdict if the program is refused.
-    fn replay(&mut self, trace: &[u8], expected: &str, verdict: &str) -> Result<bool, Failure> {
-        let is_refused = verdict.starts_with("4 ") && !expected.starts_with("3");
-        let replayed = if is_refused { verdict } else { expected };
-        self.ask(Asked::In(Mode::Replay), trace, replayed)
-    }
-
-    /// Verifies the text, and then replays a trace.
-    fn verify_and_replay(&mut self, trace: &[u8], expected: &str) -> Result<bool, Failure> {
-        let asked = Asked::In(Mode::Verify);
-        let verdict = said(self.rt.alloc(), asked, self.text.as_slice(), b"")?;
-        self.replay(trace, expected, verdict.as_str())
-    }
-
-    /// A trace by `plain`, and then by `replay`.
-    fn run_on(&mut self, trace: &[u8], expected: &str) -> Result<bool, Failure> {
-        if self.ask(Asked::In(Mode::Plain), trace, expected)? {
-            self.verify_and_replay(trace, expected)
-        } else {
-            Ok(false)
+        let (verify, text) = (Some(Mode::Verify), self.text.as_slice());
+        let status = said(self.rt.alloc(), verify, text, b"", &mut self.printed)?;
+        if status == REFUSED && self.status != FAULT {
+            self.status = status;
+            self.is_whole = true;
+            mem::swap(&mut self.expected, &mut self.printed);
         }
-    }
-
-    /// The trace that is asked for.
-    fn run(&mut self, expected: &str) -> Result<bool, Failure> {
-        let mut trace = Vec::new(self.rt.alloc());
-        match push_trace(self.words.as_str(), &mut trace, self.asked) {
-            Ok(()) => self.run_on(trace.as_slice(), expected),
-            Err(failure) => Err(failure),
-        }
-    }
-
-    /// Compares how the bytes of an outside text are read.
-    fn read(&mut self, text: &[u8], expected: &str) -> Result<bool, Failure> {
-        let mut said = String::new(self.rt.alloc());
-        match push_read(self.rt.alloc(), text, &mut said) {
-            Ok(()) => self.compare(said.as_str(), expected),
-            Err(failure) => Err(failure),
-        }
+        self.ask(Some(Mode::Replay))
     }
 
     /// An outside text, which is read alone.
-    fn outside(&mut self, lines: &str, expected: &str) -> Result<bool, Failure> {
-        let mut text = Vec::new(self.rt.alloc());
-        match push_short(self.words.as_str(), &mut text, lines) {
-            Ok(()) => self.read(text.as_slice(), expected),
-            Err(failure) => Err(failure),
+    fn outside(&mut self) -> Result<bool, Failure> {
+        self.printed.clear();
+        self.said = 0;
+        if let Err(error) = read_outside(self.rt.alloc(), self.trace.as_slice()) {
+            let mut line = String::new(self.rt.alloc());
+            trace_fault_line(&mut line, error)?;
+            self.printed.extend_from_slice(line.as_bytes())?;
+            self.said = FAULT;
         }
+        Ok(self.is_right())
     }
 
     /// Asks the question, and compares the answer.
-    fn question(&mut self, expected: &str) -> Result<bool, Failure> {
-        if let Some(lines) = self.asked.strip_prefix("outside ") {
-            return self.outside(lines, expected);
-        }
+    fn question(&mut self) -> Result<bool, Failure> {
+        self.trace.clear();
+        let words = self.words.as_str();
         match self.asked {
-            "verify" => self.ask(Asked::In(Mode::Verify), b"", expected),
-            "joined" => self.ask(Asked::Joined, b"", expected),
-            "list" => self.list(expected),
-            _ => self.run(expected),
-        }
-    }
-
-    /// Asks the question whose answer has these bytes.
-    fn question_in_full(&mut self, expected: &[u8]) -> Result<bool, Failure> {
-        self.question(text_of(expected)?)
-    }
-
-    /// Asks the question whose answer is a status and what is printed.
-    fn answer_in_full(&mut self, status: &str, short: &str) -> Result<bool, Failure> {
-        let mut expected = Vec::new(self.rt.alloc());
-        match push_answer(self.words.as_str(), &mut expected, status, short) {
-            Ok(()) => self.question_in_full(expected.as_slice()),
-            Err(failure) => Err(failure),
+            "verify" => self.ask(Some(Mode::Verify)),
+            "joined" => self.ask(None),
+            "list" => self.list(),
+            asked => {
+                if let Some(lines) = asked.strip_prefix("outside ") {
+                    push_short(words, &mut self.trace, lines)?;
+                    return self.outside();
+                }
+                match asked.strip_prefix("trace ") {
+                    Some(lines) => push_short(words, &mut self.trace, lines)?,
+                    None => push_events(&mut self.trace, asked)?,
+                }
+                self.run()
+            }
         }
     }
 
     /// Asks the question whose answer a line has: the status alone, or with a blank and what is
-    /// printed.
-    fn answer(&mut self, answer: &str) -> Result<bool, Failure> {
+    /// printed. Says what differs.
+    fn answer(&mut self, answer: &str) -> Result<(), Failure> {
         self.compared = self.compared.saturating_add(1);
-        match answer.split_once(" ") {
-            Some((status, short)) => self.answer_in_full(status, short),
-            None => self.question(answer),
+        self.expected.clear();
+        let whole = answer.split_once(" ");
+        self.is_whole = whole.is_some();
+        let (status, short) = whole.unwrap_or((answer, ""));
+        let Ok(status) = status.parse::<u8>() else {
+            return Err(Failure::Unfit("a status is missing"));
+        };
+        self.status = status;
+        if self.is_whole {
+            push_short(self.words.as_str(), &mut self.expected, short)?;
         }
-    }
-
-    /// Adds a line for a word.
-    fn define(&mut self, definition: &str) -> Result<(), Failure> {
-        within("a table", writeln!(self.words, "{definition}"))
+        if !self.question()? {
+            self.wrong = self.wrong.saturating_add(1);
+            println!(self.rt;
+                "{}: line {}: {} {:?}, expected {} {:?}",
+                self.name,
+                self.line,
+                self.said,
+                shown(self.printed.as_slice()),
+                self.status,
+                shown(self.expected.as_slice())
+            )?;
+        }
+        Ok(())
     }
 
     /// Reads a line, and says what differs if it is an answer that does.
@@ -284,7 +228,7 @@ impl<'t> Table<'t> {
         if line.is_empty() {
             self.text.clear();
         } else if let Some(definition) = line.strip_prefix("! ") {
-            self.define(definition)?;
+            writeln!(self.words, "{definition}")?;
         } else if let Some(asked) = line.strip_prefix("? ") {
             self.asked = asked;
         } else if let Some(answer) = line.strip_prefix("= ") {

@@ -1,6 +1,6 @@
 //! The tables of rows, one after the other.
 
-use crate::failure::{Failure, status};
+use crate::failure::Failure;
 use crate::table::Table;
 use std::fs;
 
@@ -12,34 +12,23 @@ fn read(rt: &HostRuntime, name: &str) -> Result<String, Failure> {
     }
 }
 
-/// Walks the lines of a table.
-fn walk_lines(rt: &HostRuntime, name: &str, text: &str) -> Result<(), Failure> {
-    let mut table = Table::new(rt, name);
-    table.take_lines(text)
-}
-
 fn walk(rt: &HostRuntime, name: &str) -> Result<(), Failure> {
     let text = read(rt, name)?;
-    walk_lines(rt, name, text.as_str())
+    let mut table = Table::new(rt, name);
+    table.take_lines(text.as_str())
 }
 
-/// Walks each table of a list. Its first lines define the notation.
-fn walk_each(rt: &HostRuntime, names: &str) -> Result<(), Failure> {
+/// Walks each table that the file `tables` names. The first lines of that file define the notation.
+///
+/// # Errors
+///
+/// There was no memory, a file or a line can't be read, or a write failed.
+pub fn walk_all(rt: &HostRuntime) -> Result<(), Failure> {
+    let names = read(rt, "tables")?;
     for name in names.lines() {
         if !name.starts_with("#") {
             walk(rt, name)?;
         }
     }
     Ok(())
-}
-
-fn walked(rt: &HostRuntime) -> Result<(), Failure> {
-    let names = read(rt, "tables")?;
-    walk_each(rt, names.as_str())
-}
-
-/// Walks each table that the file `tables` names. If one can't be walked, says why. Returns the
-/// status: 6 if memory ran out, 2 if a file or a line can't be read, and 1 if a write failed.
-pub fn walk_all(rt: &HostRuntime) -> u8 {
-    status(rt, walked(rt))
 }
