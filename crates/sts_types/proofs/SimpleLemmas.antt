@@ -3,12 +3,15 @@ use Rattle.std.proofs.Common.{◌≡◌, ℕ, ◌+◌, Bool, true, false, Option
 use Rattle.std.proofs.Common.{cond, leb, refl, sym, ap, subst, ◌∙◌, ◌-◌, ◌≤◌, [], ◌∷◌}
 use Rattle.std.proofs.Common.{◌<◌, IfSome, arith}
 use Rattle.std.specs.List.{All}
-use Rattle.std.proofs.lemmas.Bool.{le-ltb, or_from}
+use Rattle.std.proofs.lemmas.Bool.{le-ltb, or_from, false≢true}
 use Rattle.std.proofs.Math.Bool.{or-false}
 use Rattle.sts_code.specs.Program.{Program, routine}
 use Rattle.sts_code.specs.Facts.{pops, pushes}
 use Rattle.sts_code.specs.declared.instr.Instr.{Instr}
-use Rattle.sts_code.specs.declared.instr.Instr.TheVariants.{Push}
+use Rattle.sts_code.specs.declared.instr.Instr.TheVariants.{Push, Pop, Dup, Swap, Load, Store, Add}
+use Rattle.sts_code.specs.declared.instr.Instr.TheVariants.{Sub, Mul, Lt, Eq, Bound, OrElse}
+use Rattle.sts_code.specs.declared.instr.Instr.TheVariants.{Interrupted, Div, Jmp, Jz, Times, Next}
+use Rattle.sts_code.specs.declared.instr.Instr.TheVariants.{Join, Case, Ret, Fail}
 use Rattle.sts_rules.specs.declared.typing.Cause.{Cause}
 use Rattle.sts_rules.specs.declared.typing.Cause.TheVariants.{FallsOff, BackJump, LoopMismatch}
 use Rattle.sts_rules.specs.TypeState.{TypeState, heads}
@@ -20,17 +23,18 @@ use Rattle.sts_types.specs.Arrivals.{Arrive, at_height}
 use Rattle.sts_types.specs.Simple.{is_simple, is_straight, IsShort}
 use Rattle.sts_types.proofs.Fitting.{one_of, after_leads, lead_missed}
 
-falls : (code : List Instr) (pc : ℕ) (i : Instr) → is_straight i ≡ true → falls_off code pc i ≡ leb (length code) (pc + 1)
-falls code pc (Push k) e = or-false (leb (length code) (pc + 1))
-falls code pc _ e = let same = or-false (leb (length code) (pc + 1)) in cc
-
-jumps : (pc : ℕ) (i : Instr) → is_straight i ≡ true → jumps_back pc i ≡ false
-jumps pc (Push k) e = refl
-jumps pc _ e = cc
-
-mismatched : (code : List Instr) (pc : ℕ) (i : Instr) (s : TypeState) → is_straight i ≡ true → mismatches code pc i s ≡ is_other_loop code (heads s.loops) (pc + 1)
-mismatched code pc (Push k) s e = or-false (is_other_loop code (heads s.loops) (pc + 1))
-mismatched code pc _ s e = let same = or-false (is_other_loop code (heads s.loops) (pc + 1)) in cc
+-- facts of a straight instruction; the instructions are gone through once for all of them
+straight_facts : (code : List Instr) (pc : ℕ) (s : TypeState) (i : Instr) → is_straight i ≡ true → (falls_off code pc i ≡ leb (length code) (pc + 1)) × (jumps_back pc i ≡ false) × (mismatches code pc i s ≡ is_other_loop code (heads s.loops) (pc + 1))
+straight_facts code pc s (Div to) e = absurd (false≢true e)
+straight_facts code pc s (Jmp to) e = absurd (false≢true e)
+straight_facts code pc s (Jz to) e = absurd (false≢true e)
+straight_facts code pc s (Times n) e = absurd (false≢true e)
+straight_facts code pc s Next e = absurd (false≢true e)
+straight_facts code pc s (Join x failed timeout interrupted) e = absurd (false≢true e)
+straight_facts code pc s (Case h success failed) e = absurd (false≢true e)
+straight_facts code pc s Ret e = absurd (false≢true e)
+straight_facts code pc s Fail e = absurd (false≢true e)
+straight_facts code pc s _ e = (or-false (leb (length code) (pc + 1)), refl, or-false (is_other_loop code (heads s.loops) (pc + 1)))
 
 three : (x y z a b : Bool) (p q r : Cause) → x ≡ a → y ≡ false → z ≡ b → cond a (Some p) (cond b (Some r) None) ≡ one_of x y z p q r None
 three x y z a b p q r e f g = rw (e, f, g) refl
@@ -38,50 +42,54 @@ three x y z a b p q r e f g = rw (e, f, g) refl
 -- it falls off, or the loops around the next place are others
 pub straight_lead : (code : List Instr) (pc : ℕ) (i : Instr) (s : TypeState) → is_straight i ≡ true → cond (leb (length code) (pc + 1)) (Some FallsOff) (cond (is_other_loop code (heads s.loops) (pc + 1)) (Some LoopMismatch) None) ≡ one_of (falls_off code pc i) (jumps_back pc i) (mismatches code pc i s) FallsOff BackJump LoopMismatch None
 straight_lead code pc i s e =
-    three (falls_off code pc i) (jumps_back pc i) (mismatches code pc i s) (leb (length code) (pc + 1)) (is_other_loop code (heads s.loops) (pc + 1)) FallsOff BackJump LoopMismatch (falls code pc i e) (jumps pc i e) (mismatched code pc i s e)
+    let facts = straight_facts code pc s i e in
+    three (falls_off code pc i) (jumps_back pc i) (mismatches code pc i s) (leb (length code) (pc + 1)) (is_other_loop code (heads s.loops) (pc + 1)) FallsOff BackJump LoopMismatch facts.0 facts.1 facts.2
 
-simple_straight : (i : Instr) → is_simple i ≡ true → is_straight i ≡ true
-simple_straight (Push k) e = refl
-simple_straight _ e = cc
+-- facts of an instruction that only pops and pushes, likewise
+simple_facts : (p : Program) (f pc : ℕ) (code : List Instr) (s : TypeState) (i : Instr) → is_simple i ≡ true → (is_straight i ≡ true) × (None ≡ after_leads p f pc i s) × (join_overflows s i ≡ false) × (follows p code pc i s ≡ (pc + 1, moved p i s) ∷ []) × (back_of i s ≡ None)
+simple_facts p f pc code s (Push k) e = (refl, refl, refl, refl, refl)
+simple_facts p f pc code s Pop e = (refl, refl, refl, refl, refl)
+simple_facts p f pc code s Dup e = (refl, refl, refl, refl, refl)
+simple_facts p f pc code s Swap e = (refl, refl, refl, refl, refl)
+simple_facts p f pc code s (Load x) e = (refl, refl, refl, refl, refl)
+simple_facts p f pc code s (Store x) e = (refl, refl, refl, refl, refl)
+simple_facts p f pc code s Add e = (refl, refl, refl, refl, refl)
+simple_facts p f pc code s Sub e = (refl, refl, refl, refl, refl)
+simple_facts p f pc code s Mul e = (refl, refl, refl, refl, refl)
+simple_facts p f pc code s Lt e = (refl, refl, refl, refl, refl)
+simple_facts p f pc code s Eq e = (refl, refl, refl, refl, refl)
+simple_facts p f pc code s (Bound k) e = (refl, refl, refl, refl, refl)
+simple_facts p f pc code s (OrElse k) e = (refl, refl, refl, refl, refl)
+simple_facts p f pc code s Interrupted e = (refl, refl, refl, refl, refl)
+simple_facts p f pc code s _ e = absurd (false≢true e)
 
 -- no later cause holds
 pub none_later : (p : Program) (f pc : ℕ) (i : Instr) (s : TypeState) → is_simple i ≡ true → None ≡ after_leads p f pc i s
-none_later p f pc (Push k) s e = refl
-none_later p f pc _ s e = cc
+none_later p f pc i s e = (simple_facts p f pc [] s i e).1
 
 -- ---- the short way
 
-no_join : (i : Instr) (s : TypeState) → is_simple i ≡ true → join_overflows s i ≡ false
-no_join (Push k) s e = refl
-no_join _ s e = cc
-
-fits_in : (p : Program) (i : Instr) (s : TypeState) (n : ℕ) → is_simple i ≡ true → n ≡ s.height - pops p i + pushes i → n ≤ 32 → overflows p i s ≡ false
-fits_in p i s n e count few = or_from _ _ (le-ltb 32 (s.height - pops p i + pushes i) (subst (λ m. m ≤ 32) count few)) (no_join i s e)
+fits_in : (p : Program) (i : Instr) (s : TypeState) (n : ℕ) → join_overflows s i ≡ false → n ≡ s.height - pops p i + pushes i → n ≤ 32 → overflows p i s ≡ false
+fits_in p i s n e count few = or_from _ _ (le-ltb 32 (s.height - pops p i + pushes i) (subst (λ m. m ≤ 32) count few)) e
 
 -- what is tested on the short way is enough
 pub short : (p : Program) (f pc : ℕ) (i : Instr) (s : TypeState) (code : List Instr) (n : ℕ) → is_simple i ≡ true → code ≡ (routine p f).code → lacks_operands p i s ≡ false → n ≡ s.height - pops p i + pushes i → n ≤ 32 → None ≡ cond (leb (length code) (pc + 1)) (Some FallsOff) (cond (is_other_loop code (heads s.loops) (pc + 1)) (Some LoopMismatch) None) → IsShort p f pc i s n
-short p f pc i s code n e is some_operands count few none = record {
-  simple = e;
-  none = sym (none_later p f pc i s e ∙ lead_missed p f pc i s code is some_operands (fits_in p i s n e count few) None (none ∙ straight_lead code pc i s (simple_straight i e)) refl);
-  count = count;
-  few = few;
-}
-
-follows_straight : (p : Program) (code : List Instr) (pc : ℕ) (i : Instr) (s : TypeState) → is_simple i ≡ true → follows p code pc i s ≡ (pc + 1, moved p i s) ∷ []
-follows_straight p code pc (Push k) s e = refl
-follows_straight p code pc _ s e = cc
+short p f pc i s code n e is some_operands count few none =
+    let facts = simple_facts p f pc code s i e in
+    record {
+      simple = e;
+      none = sym (facts.1 ∙ lead_missed p f pc i s code is some_operands (fits_in p i s n facts.2 count few) None (none ∙ straight_lead code pc i s facts.0) refl);
+      count = count;
+      few = few;
+    }
 
 -- one edge leads on to the next place
 pub short_follows : (p : Program) (f : ℕ) (code : List Instr) (pc : ℕ) (i : Instr) (s : TypeState) (n : ℕ) → IsShort p f pc i s n → follows p code pc i s ≡ (pc + 1, at_height n s) ∷ []
-short_follows p f code pc i s n h = follows_straight p code pc i s h.simple ∙ ap (λ m. (pc + 1, at_height m s) ∷ []) (sym h.count)
+short_follows p f code pc i s n h = (simple_facts p f pc code s i h.simple).3 ∙ ap (λ m. (pc + 1, at_height m s) ∷ []) (sym h.count)
 
 -- it ends no turn of a loop
 pub short_back : (p : Program) (f pc : ℕ) (i : Instr) (s : TypeState) (n : ℕ) → IsShort p f pc i s n → back_of i s ≡ None
-short_back p f pc i s n h = by i h.simple
-  where
-    by : (j : Instr) → is_simple j ≡ true → back_of j s ≡ None
-    by (Push k) e = refl
-    by _ e = cc
+short_back p f pc i s n h = (simple_facts p f pc [] s i h.simple).4
 
 -- the answer of the test, about the typestate itself
 pub short_is : (p : Program) (f pc : ℕ) (i : Instr) (s s' : TypeState) (n : ℕ) (o : Option ℕ) → s' ≡ s → IfSome o (IsShort p f pc i s') → o ≡ Some n → IsShort p f pc i s n
