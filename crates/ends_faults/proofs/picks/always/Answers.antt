@@ -9,5 +9,6 @@ use Rattle.ends_faults.proofs.picks.always.Goals as goal
 pub returns : goal.returns
 returns c =
     always_not (is_kind c.args.kind) c.args.seen.now c.args.i c.args.part.now c.has_pick.result c.requires
-    (λ pick k. c.has_pick.ensures pick (subst (λ (x : Seen). Fits x pick) (sym (c.in_ok-after.ensures ∙ ap (λ z. parts_with c.args.seen.now c.args.i z) c.in_ok-other.ensures)) k))
+    (λ pick k. c.has_pick.ensures pick (subst (λ (x : Seen). Fits x pick)
+    (sym (c.in_ok-after.ensures ∙ ap (λ z. parts_with c.args.seen.now c.args.i z) c.in_ok-other.ensures)) k))
     c.if-has_pick.false

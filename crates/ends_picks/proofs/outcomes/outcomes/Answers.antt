@@ -9,7 +9,8 @@ loop-i-preserved c =
     let part = c.at.result.now in
     let less : c.loop-i.i < length parts = omega arith in
     let is : part ≡ get_or parts c.loop-i.i part = sym (get_or_from_slice_get parts c.loop-i.i part part c.at.ensures) in
-    outcomes_more c.args.seen.now parts c.loop-i.i part c.loop-i.found.items c.as_slice.result.now _ refl c.as_slice.ensures.value less is c.loop-i.invariant c.in_ok-found-2.ensures
+    outcomes_more c.args.seen.now parts c.loop-i.i part c.loop-i.found.items c.as_slice.result.now _ refl c.as_slice.ensures.value less is
+    c.loop-i.invariant c.in_ok-found-2.ensures
 
 pub returns : goal.returns
 returns c =

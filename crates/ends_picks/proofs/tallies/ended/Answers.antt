@@ -16,6 +16,8 @@ returns c pick fits =
     let picks = fits.picks in
     let counting = subst (λ (n : ℕ). IsIn c.counting-counting.result n) (counting_ends j b pick) (c.counting-counting.ensures pick fits) in
     let counted = c.minus-counted.ensures (count (Counted b)) (count (Counted (not b))) counting (c.range_of-others.ensures pick picks) in
-    let kinds = subst (λ (k : Kind). IsIn c.range_of-all.result (count (Of k))) c.kind_of-kind.ensures (c.range_of-all.ensures pick picks) in
+    let kinds =
+    subst (λ (k : Kind). IsIn c.range_of-all.result (count (Of k))) c.kind_of-kind.ensures (c.range_of-all.ensures pick picks) in
     let all = subst (λ (n : ℕ). IsIn c.range_of-all.result n) (counted_or_not j b pick) kinds in
-    subst (λ (n : ℕ). IsIn c.meet_sum.result n) (sym (counted_or_not j b pick)) (c.meet_sum.ensures (count (Counted b)) (count (Uncounted b)) all counted (c.range_of-uncounted.ensures pick picks))
+    subst (λ (n : ℕ). IsIn c.meet_sum.result n) (sym (counted_or_not j b pick))
+    (c.meet_sum.ensures (count (Counted b)) (count (Uncounted b)) all counted (c.range_of-uncounted.ensures pick picks))

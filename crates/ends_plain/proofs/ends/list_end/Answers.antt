@@ -31,7 +31,8 @@ returns-then-not-is_new-clause-all c =
     let within : place < length states = omega (arith, c.requires.within, c.requires.space.searched.traced.as_many) in
     let x = slice_index_or states place s.first in
     let old = c.is_new.ensures.no c.if-not-is_new.true in
-    has_skipped states place x (ends_of c.args.found.now.items) within (get_or_default states place s.first x within) c.requires.before (rw (c.as_slice.ensures.value, c.in_ok-end.ensures) at old)
+    has_skipped states place x (ends_of c.args.found.now.items) within (get_or_default states place s.first x within) c.requires.before
+    (rw (c.as_slice.ensures.value, c.in_ok-end.ensures) at old)
 
 pub returns-clause-shown : goal.returns-clause-shown
 returns-clause-shown c =
@@ -41,7 +42,8 @@ returns-clause-shown c =
     let x = slice_index_or states c.args.place s.first in
     let f : Found = record { end = c.in_ok-end.end; trace = c.in_ok-trace.trace } in
     rw c.in_ok-push.ensures.items (
-    shown_more g s.first c.args.found.now.items c.in_ok-one.one c.requires.shown (c.in_ok-one.ensures.shown (shown_here g s.first x x f c.in_ok-trace.ensures refl c.in_ok-end.ensures (c.is_new.ensures.yes c.if-not-is_new.false)))
+    shown_more g s.first c.args.found.now.items c.in_ok-one.one c.requires.shown (c.in_ok-one.ensures.shown
+    (shown_here g s.first x x f c.in_ok-trace.ensures refl c.in_ok-end.ensures (c.is_new.ensures.yes c.if-not-is_new.false)))
     )
 
 pub returns-clause-all : goal.returns-clause-all
@@ -52,5 +54,6 @@ returns-clause-all c =
     let within : place < length states = omega (arith, c.requires.within, c.requires.space.searched.traced.as_many) in
     let x = slice_index_or states place s.first in
     rw c.in_ok-push.ensures.items (
-    has_pushed states place x c.args.found.now.items c.in_ok-one.one within (get_or_default states place s.first x within) c.requires.before (c.in_ok-one.ensures.end ∙ c.in_ok-end.ensures)
+    has_pushed states place x c.args.found.now.items c.in_ok-one.one within (get_or_default states place s.first x within) c.requires.before
+    (c.in_ok-one.ensures.end ∙ c.in_ok-end.ensures)
     )

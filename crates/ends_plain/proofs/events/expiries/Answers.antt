@@ -10,8 +10,10 @@ pub loop-s-preserved : goal.loop-s-preserved
 loop-s-preserved c =
     let test = expires_now c.args.may c.args.world.now in
     elim c.if-may_expire.branch [
-      | then-may_expire+in_ok-push w ↦ rw (w.events-is, w.in_ok-push.ensures.items) (below_push event.Expire test c.loop-s.s c.loop-s.events.items (sym c.may_expire.ensures ∙ w.if-may_expire.true) c.loop-s.invariant)
-      | else-may_expire w ↦ rw w.events-is (below_skip event.Expire test c.loop-s.s c.loop-s.events.items (sym c.may_expire.ensures ∙ w.if-may_expire.false) c.loop-s.invariant)
+      | then-may_expire+in_ok-push w ↦ rw (w.events-is, w.in_ok-push.ensures.items) (below_push event.Expire test c.loop-s.s
+          c.loop-s.events.items (sym c.may_expire.ensures ∙ w.if-may_expire.true) c.loop-s.invariant)
+      | else-may_expire w ↦ rw w.events-is (below_skip event.Expire test c.loop-s.s c.loop-s.events.items
+          (sym c.may_expire.ensures ∙ w.if-may_expire.false) c.loop-s.invariant)
     ]
 
 pub loop-s-init : goal.loop-s-init

@@ -10,8 +10,10 @@ pub loop-t-preserved : goal.loop-t-preserved
 loop-t-preserved c =
     let test = interrupts_now c.args.left c.args.world.now in
     elim c.if-may_interrupt.branch [
-      | then-may_interrupt+in_ok-push w ↦ rw (w.events-is, w.in_ok-push.ensures.items) (below_push event.Interrupt test c.loop-t.t c.loop-t.events.items (sym c.may_interrupt.ensures ∙ w.if-may_interrupt.true) c.loop-t.invariant)
-      | else-may_interrupt w ↦ rw w.events-is (below_skip event.Interrupt test c.loop-t.t c.loop-t.events.items (sym c.may_interrupt.ensures ∙ w.if-may_interrupt.false) c.loop-t.invariant)
+      | then-may_interrupt+in_ok-push w ↦ rw (w.events-is, w.in_ok-push.ensures.items) (below_push event.Interrupt test c.loop-t.t
+          c.loop-t.events.items (sym c.may_interrupt.ensures ∙ w.if-may_interrupt.true) c.loop-t.invariant)
+      | else-may_interrupt w ↦ rw w.events-is (below_skip event.Interrupt test c.loop-t.t c.loop-t.events.items
+          (sym c.may_interrupt.ensures ∙ w.if-may_interrupt.false) c.loop-t.invariant)
     ]
 
 pub loop-t-init : goal.loop-t-init
@@ -20,4 +22,5 @@ loop-t-init c = rw c.new-events.ensures.items (below_none event.Interrupt (inter
 pub returns : goal.returns
 returns c =
     let born = c.tasks_born-born.ensures.value ∙ ap (λ (w : World). length w.tasks) c.records.ensures in
-    all_interrupts c.args.left c.args.world.now c.loop-t.t c.loop-t.events.items (omega (arith, born, c.loop-t-test.false, c.loop-t.auto.t-end)) c.loop-t.invariant
+    all_interrupts c.args.left c.args.world.now c.loop-t.t c.loop-t.events.items
+    (omega (arith, born, c.loop-t-test.false, c.loop-t.auto.t-end)) c.loop-t.invariant

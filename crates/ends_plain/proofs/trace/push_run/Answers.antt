@@ -13,7 +13,12 @@ pub loop-init : goal.loop-init
 loop-init c = (sym (append-nil c.args.events.now.items), omega arith)
 
 pub loop-preserved : goal.loop-preserved
-loop-preserved c = (more c.args.run.event c.loop.counter c.args.events.now.items c.loop.events.items c.push.new.self.items c.loop.invariant.0 c.in_ok-push.ensures.items, omega (arith, c.loop-test.true))
+loop-preserved c = (
+  more c.args.run.event c.loop.counter c.args.events.now.items c.loop.events.items c.push.new.self.items
+      c.loop.invariant.0 c.in_ok-push.ensures.items,
+  omega (arith, c.loop-test.true),
+)
 
 pub returns : goal.returns
-returns c = all c.args.run.event c.args.run.count c.loop.counter c.args.events.now.items c.loop.events.items (omega (arith, c.loop-test.false, c.loop.invariant.1)) c.loop.invariant.0
+returns c = all c.args.run.event c.args.run.count c.loop.counter c.args.events.now.items c.loop.events.items
+    (omega (arith, c.loop-test.false, c.loop.invariant.1)) c.loop.invariant.0

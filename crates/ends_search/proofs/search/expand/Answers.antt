@@ -12,7 +12,8 @@ add-requires-clause-within g c =
     let old = c.args.space.now in
     let mid = c.loop-event.space in
     let i = c.loop-event.invariant in
-    let less = within_more (states_of next old.first old.origins.items) (states_of next mid.first mid.origins.items) c.args.place i.3 (omega (arith, c.requires.within, c.requires.space.searched.traced.as_many)) in
+    let less = within_more (states_of next old.first old.origins.items) (states_of next mid.first mid.origins.items) c.args.place i.3
+    (omega (arith, c.requires.within, c.requires.space.searched.traced.as_many)) in
     omega (arith, less, i.0.searched.traced.as_many)
 
 pub add-requires-clause-can : goal.add-requires-clause-can
@@ -39,7 +40,8 @@ add-requires-clause-comes g c =
     let within : c.args.place < length olds = omega (arith, c.requires.within, c.requires.space.searched.traced.as_many) in
     let x = c.in_ok-state.state in
     let at : x ≡ slice_index_or mids c.args.place mid.first =
-    c.in_ok-state.ensures ∙ get_or_default olds c.args.place old.first mid.first within ∙ sym (same_older olds mids c.loop-event.invariant.3 c.args.place within mid.first) in
+    c.in_ok-state.ensures ∙ get_or_default olds c.args.place old.first mid.first within ∙ sym
+    (same_older olds mids c.loop-event.invariant.3 c.args.place within mid.first) in
     comes_on next x (slice_index_or mids c.args.place mid.first) c.in_ok-next.next _ c.in_ok-next.ensures at
 
 pub loop-event-preserved : goal.loop-event-preserved
@@ -73,7 +75,8 @@ returns-in_default-clause-all g c _ =
     let long : vec_len c.in_ok-events.events ≡ length events = search rules in
     let none : length events ≡ 0 = sym long ∙ c.in_default.ensures.cases.0 in
     leads next (g.S.StateMachine.can c.args.setting.now) (g.S.StateMachine.alike c.args.setting.now) states states c.args.place events x within
-    (c.in_ok-state.ensures ∙ get_or_default states c.args.place old.first x within) c.in_ok-events.ensures.all (record { there = λ j less e0. absurd (omega (arith, less, none)) })
+    (c.in_ok-state.ensures ∙ get_or_default states c.args.place old.first x within) c.in_ok-events.ensures.all
+    (record { there = λ j less e0. absurd (omega (arith, less, none)) })
 
 pub add-requires-2-clause-within : goal.add-requires-2-clause-within
 add-requires-2-clause-within g c =
@@ -81,7 +84,8 @@ add-requires-2-clause-within g c =
     let old = c.args.space.now in
     let mid = c.loop-event.space in
     let i = c.loop-event.invariant in
-    let less = within_more (states_of next old.first old.origins.items) (states_of next mid.first mid.origins.items) c.args.place i.3 (omega (arith, c.requires.within, c.requires.space.searched.traced.as_many)) in
+    let less = within_more (states_of next old.first old.origins.items) (states_of next mid.first mid.origins.items) c.args.place i.3
+    (omega (arith, c.requires.within, c.requires.space.searched.traced.as_many)) in
     omega (arith, less, i.0.searched.traced.as_many)
 
 pub add-requires-2-clause-can : goal.add-requires-2-clause-can
@@ -92,8 +96,10 @@ add-requires-2-clause-can g c =
     let states = states_of next old.first old.origins.items in
     let within : c.args.place < length states = omega (arith, c.requires.within, c.requires.space.searched.traced.as_many) in
     let x = c.in_ok-state.state in
-    can_last (g.S.StateMachine.can c.args.setting.now) states (states_of next mid.first mid.origins.items) c.args.place x c.in_ok-events.events.items c.pop.new.self.items c.in-Some.last within
-    (c.in_ok-state.ensures ∙ get_or_default states c.args.place old.first x within) c.in-Some.ensures.items c.in_ok-events.ensures.only c.loop-event.invariant.3
+    can_last (g.S.StateMachine.can c.args.setting.now) states (states_of next mid.first mid.origins.items) c.args.place x
+    c.in_ok-events.events.items c.pop.new.self.items c.in-Some.last within
+    (c.in_ok-state.ensures ∙ get_or_default states c.args.place old.first x within) c.in-Some.ensures.items c.in_ok-events.ensures.only
+    c.loop-event.invariant.3
 
 pub add-requires-2-clause-comes : goal.add-requires-2-clause-comes
 add-requires-2-clause-comes g c =
@@ -105,7 +111,8 @@ add-requires-2-clause-comes g c =
     let within : c.args.place < length olds = omega (arith, c.requires.within, c.requires.space.searched.traced.as_many) in
     let x = c.in_ok-state.state in
     let at : x ≡ slice_index_or mids c.args.place mid.first =
-    c.in_ok-state.ensures ∙ get_or_default olds c.args.place old.first mid.first within ∙ sym (same_older olds mids c.loop-event.invariant.3 c.args.place within mid.first) in
+    c.in_ok-state.ensures ∙ get_or_default olds c.args.place old.first mid.first within ∙ sym
+    (same_older olds mids c.loop-event.invariant.3 c.args.place within mid.first) in
     comes_on next x (slice_index_or mids c.args.place mid.first) c.apply.new.self _ c.in_ok-apply.ensures at
 
 pub returns-clause-grows : goal.returns-clause-grows
@@ -114,7 +121,8 @@ returns-clause-grows g c =
     let old = c.args.space.now in
     let mid = c.loop-event.space in
     let new = c.add-2.new.space in
-    grows_on (states_of next old.first old.origins.items) (states_of next mid.first mid.origins.items) (states_of next new.first new.origins.items) c.loop-event.invariant.3 c.in_ok-is_there.ensures.grows
+    grows_on (states_of next old.first old.origins.items) (states_of next mid.first mid.origins.items)
+    (states_of next new.first new.origins.items) c.loop-event.invariant.3 c.in_ok-is_there.ensures.grows
 
 pub returns-clause-all : goal.returns-clause-all
 returns-clause-all g c is =
@@ -143,7 +151,8 @@ returns-then-not-there-clause-grows g c =
     let old = c.args.space.now in
     let mid = c.loop-event.space in
     let new = c.add.new.space in
-    grows_on (states_of next old.first old.origins.items) (states_of next mid.first mid.origins.items) (states_of next new.first new.origins.items) c.loop-event.invariant.3 c.in_ok-there.ensures.grows
+    grows_on (states_of next old.first old.origins.items) (states_of next mid.first mid.origins.items)
+    (states_of next new.first new.origins.items) c.loop-event.invariant.3 c.in_ok-there.ensures.grows
 
 pub loop-event-init : goal.loop-event-init
 loop-event-init g c = (c.requires.space, refl, refl, grows_none _, record { there = λ j less e0. absurd (omega (arith, less)) })

@@ -12,7 +12,11 @@ returns c =
     let p = c.args.program.now in
     let own = c.args.own.now in
     record {
-      forks = λ x g place h seen is o free. subst (λ (states : List Own). Forks p c.args.outside c.args.table.now states own x g h place seen) c.as_slice-states.ensures (c.in_ok-starts.ensures x g place h seen is o free x);
-      closed = subst (λ (states : List Own). AllLead p c.args.outside c.args.row.now.call states own c.args.instr) c.as_slice-states.ensures c.in_ok-steps.ensures;
-      ends = subst (λ (ways : List Way). (e : End) → end_by c.args.instr own.frame ≡ Some e → HasWay ways e) c.as_slice-ways.ensures c.in_ok-ends.ensures;
+      forks = λ x g place h seen is o free. subst
+          (λ (states : List Own). Forks p c.args.outside c.args.table.now states own x g h place seen) c.as_slice-states.ensures
+          (c.in_ok-starts.ensures x g place h seen is o free x);
+      closed = subst (λ (states : List Own). AllLead p c.args.outside c.args.row.now.call states own c.args.instr) c.as_slice-states.ensures
+          c.in_ok-steps.ensures;
+      ends = subst (λ (ways : List Way). (e : End) → end_by c.args.instr own.frame ≡ Some e → HasWay ways e) c.as_slice-ways.ensures
+          c.in_ok-ends.ensures;
     }

@@ -17,4 +17,5 @@ closed_is own f xs ys zs n slots frame outer before place after held =
     cc (frame, scopes, cleared)
 
 pub returns : goal.returns
-returns c = closed_is c.args.own.now c.in_ok-frame.frame c.in_ok-scopes.scopes _ _ c.in_ok-place.place _ c.in_ok-frame.ensures c.in_ok-scopes.ensures c.as_slice.ensures c.in_ok-place.ensures c.as_slice-2.ensures c.cleared.ensures
+returns c = closed_is c.args.own.now c.in_ok-frame.frame c.in_ok-scopes.scopes _ _ c.in_ok-place.place _ c.in_ok-frame.ensures
+    c.in_ok-scopes.ensures c.as_slice.ensures c.in_ok-place.ensures c.as_slice-2.ensures c.cleared.ensures

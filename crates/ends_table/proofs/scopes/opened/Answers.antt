@@ -20,4 +20,6 @@ opened_is call own x joiner timed n f seen xs ys zs slots place before frame fre
     cc (frame, scopes, filled)
 
 pub returns : goal.returns
-returns c = opened_is c.args.call.now c.args.own.now c.args.slot c.args.joiner c.args.timed c.in_ok-place.place c.in_ok-frame.frame c.in_ok-seen.seen c.in_ok-scopes.scopes _ _ _ c.in_ok-place.ensures c.as_slice.ensures c.in_ok-frame.ensures c.in_ok-seen.ensures c.in_ok-scopes.ensures c.as_slice-2.ensures c.set_held.ensures
+returns c = opened_is c.args.call.now c.args.own.now c.args.slot c.args.joiner c.args.timed c.in_ok-place.place c.in_ok-frame.frame
+    c.in_ok-seen.seen c.in_ok-scopes.scopes _ _ _ c.in_ok-place.ensures c.as_slice.ensures c.in_ok-frame.ensures c.in_ok-seen.ensures
+    c.in_ok-scopes.ensures c.as_slice-2.ensures c.set_held.ensures

@@ -15,7 +15,8 @@ pub loop-x-init : goal.loop-x-init
 loop-x-init g c = sym (append-nil c.args.ys.now)
 
 pub loop-x-preserved : goal.loop-x-preserved
-loop-x-preserved g c = more c.args.xs.now c.loop-x.x-index _ _ c.args.ys.now c.loop-x.ys c.push.new.self c.loop-x-test.true (c.in_ok-copied.ensures ∙ c.x-item.is) c.loop-x.invariant c.in_ok-push.ensures.ok
+loop-x-preserved g c = more c.args.xs.now c.loop-x.x-index _ _ c.args.ys.now c.loop-x.ys c.push.new.self c.loop-x-test.true
+    (c.in_ok-copied.ensures ∙ c.x-item.is) c.loop-x.invariant c.in_ok-push.ensures.ok
 
 pub returns : goal.returns
 returns g c = all c.args.xs.now c.loop-x.x-index c.args.ys.now c.loop-x.ys c.loop-x-test.false c.loop-x.invariant

@@ -15,7 +15,9 @@ all : {X Y : Type 0} (f : X → List Y) (xs : List X) (i : ℕ) (start new : Lis
 all {X} f xs i start new past is = is ∙ ap (λ (l : List X). start ++ flat_map f l) (take_all i xs past)
 
 pub loop-note-preserved : goal.loop-note-preserved
-loop-note-preserved c = more (note_line c.args.outline.now c.args.program.now) c.args.notes.now c.loop-note.note-index _ c.args.out.now.items c.loop-note.out.items c.say_note.new.out.items c.loop-note-test.true c.loop-note.invariant c.in_ok-say_note.ensures
+loop-note-preserved c = more (note_line c.args.outline.now c.args.program.now) c.args.notes.now c.loop-note.note-index _
+    c.args.out.now.items c.loop-note.out.items c.say_note.new.out.items c.loop-note-test.true c.loop-note.invariant c.in_ok-say_note.ensures
 
 pub returns : goal.returns
-returns c = all (note_line c.args.outline.now c.args.program.now) c.args.notes.now c.loop-note.note-index c.args.out.now.items c.loop-note.out.items c.loop-note-test.false c.loop-note.invariant
+returns c = all (note_line c.args.outline.now c.args.program.now) c.args.notes.now c.loop-note.note-index c.args.out.now.items
+    c.loop-note.out.items c.loop-note-test.false c.loop-note.invariant

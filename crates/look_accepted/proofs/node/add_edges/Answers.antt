@@ -28,7 +28,12 @@ pub loop-number-init : goal.loop-number-init
 loop-number-init c = sym (append-nil c.args.found.now.items)
 
 pub loop-number-preserved : goal.loop-number-preserved
-loop-number-preserved c = more (along (get_or c.code_of-code.result.now c.args.node.now.pc (Push (pos 0))) c.args.node.now) c.as_slice-edges.result.now c.loop-number.number c.index-edges-number.result c.along.result c.args.found.now.items c.loop-number.found.items c.push.new.self.items c.loop-number-test.true c.index-edges-number.is c.along.ensures c.loop-number.invariant c.in_ok-push.ensures.items
+loop-number-preserved c = more (along (get_or c.code_of-code.result.now c.args.node.now.pc (Push (pos 0))) c.args.node.now)
+    c.as_slice-edges.result.now c.loop-number.number c.index-edges-number.result c.along.result c.args.found.now.items
+    c.loop-number.found.items c.push.new.self.items c.loop-number-test.true c.index-edges-number.is c.along.ensures c.loop-number.invariant
+    c.in_ok-push.ensures.items
 
 pub returns-after-loop-number : goal.returns-after-loop-number
-returns-after-loop-number c = all c.args.program.now c.args.function c.args.node.now c.code_of-code.result.now c.in-Ok.edges c.as_slice-edges.result.now c.loop-number.number c.args.found.now.items c.loop-number.found.items c.code_of-code.ensures.value c.requires.pc c.in-Ok.ensures c.as_slice-edges.ensures c.loop-number-test.false c.loop-number.invariant
+returns-after-loop-number c = all c.args.program.now c.args.function c.args.node.now c.code_of-code.result.now c.in-Ok.edges
+    c.as_slice-edges.result.now c.loop-number.number c.args.found.now.items c.loop-number.found.items c.code_of-code.ensures.value
+    c.requires.pc c.in-Ok.ensures c.as_slice-edges.ensures c.loop-number-test.false c.loop-number.invariant

@@ -9,4 +9,5 @@ loop-function-init c = subst (λ (ns : List Note). NotesOf c.args.program.now 0 
 pub loop-function-preserved : goal.loop-function-preserved
 loop-function-preserved c =
     let h = c.in_ok-add_notes.ensures in
-    subst (λ (ns : List Note). NotesOf c.args.program.now (c.loop-function.function + 1) ns) (sym h.added) (more c.loop-function.function c.loop-function.invariant h.right)
+    subst (λ (ns : List Note). NotesOf c.args.program.now (c.loop-function.function + 1) ns) (sym h.added)
+    (more c.loop-function.function c.loop-function.invariant h.right)

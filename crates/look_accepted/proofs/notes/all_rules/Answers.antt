@@ -11,7 +11,8 @@ loop-number-init c =
 pub loop-number-preserved : goal.loop-number-preserved
 loop-number-preserved c =
     let l = c.loop-number in
-    noted_next c.args.program.now c.args.function c.args.nodes.now l.number c.index-nodes-number.result l.rules.items c.note_rule.new.rules.items c.requires.all c.loop-number-test.true c.index-nodes-number.is c.note_rule.ensures l.invariant
+    noted_next c.args.program.now c.args.function c.args.nodes.now l.number c.index-nodes-number.result l.rules.items
+    c.note_rule.new.rules.items c.requires.all c.loop-number-test.true c.index-nodes-number.is c.note_rule.ensures l.invariant
 
 pub returns : goal.returns
 returns c =

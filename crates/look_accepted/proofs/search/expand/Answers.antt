@@ -21,5 +21,6 @@ loop-number-preserved c =
 
 pub returns-clause-spread : goal.returns-clause-spread
 returns-clause-spread c =
-    all_there c.args.program.now c.args.function c.args.nodes.now.items c.loop-number.nodes.items c.in_ok-next.next.items c.args.at c.index.result.now c.loop-number.number c.requires.at c.index.ensures c.in_ok-next.ensures
+    all_there c.args.program.now c.args.function c.args.nodes.now.items c.loop-number.nodes.items c.in_ok-next.next.items c.args.at
+    c.index.result.now c.loop-number.number c.requires.at c.index.ensures c.in_ok-next.ensures
     (omega arith) c.loop-number.invariant.2

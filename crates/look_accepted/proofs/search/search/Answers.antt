@@ -5,7 +5,8 @@ use Rattle.look_accepted.proofs.search.search.Goals.{else-loop-at-test, then-loo
 use Rattle.look_accepted.proofs.search.search.Goals as goal
 
 pub loop-at-init : goal.loop-at-init
-loop-at-init c = searched_first c.args.program.now c.args.function c.push.new.self.items c.first.result (c.in_ok-push.ensures.items ∙ ap (λ (ns : List Node). ns ++ c.first.result ∷ []) c.new-nodes.ensures.items) c.first.ensures
+loop-at-init c = searched_first c.args.program.now c.args.function c.push.new.self.items c.first.result
+    (c.in_ok-push.ensures.items ∙ ap (λ (ns : List Node). ns ++ c.first.result ∷ []) c.new-nodes.ensures.items) c.first.ensures
 
 pub loop-at-preserved : goal.loop-at-preserved
 loop-at-preserved c =

@@ -8,5 +8,10 @@ use Rattle.look_cases.proofs.answering.of_accepted.Goals as goal
 pub returns : goal.returns
 returns c =
     IfOk-weaker c.of_program.result _ _
-    (λ v h. (view c.in_ok-verdict.verdict, c.in_ok-verdict.ensures (seen c.args.case).text, h ∙ ap (λ p. program_answer c.args.number p (seen c.args.case) (view c.in_ok-verdict.verdict)) c.program.ensures.value))
+    (λ v h. (
+      view c.in_ok-verdict.verdict,
+      c.in_ok-verdict.ensures (seen c.args.case).text,
+      h ∙ ap
+          (λ p. program_answer c.args.number p (seen c.args.case) (view c.in_ok-verdict.verdict)) c.program.ensures.value,
+    ))
     c.of_program.ensures

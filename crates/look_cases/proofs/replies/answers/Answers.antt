@@ -12,7 +12,8 @@ pub loop-line-preserved : goal.loop-line-preserved
 loop-line-preserved c =
     let r = c.in_ok-push_reply.ensures in
     subst (λ xs. IsAnswered c.args.input.now c.in-Some.after.now xs (c.loop-line.number + 1)) (sym r.2)
-    (one_more c.args.input.now c.loop-line.rest.now c.in-Some.line.now c.in-Some.after.now c.loop-line.out.items r.0 c.loop-line.number c.loop-line.invariant c.in-Some.ensures.lines c.in-Some.ensures.shorter r.1)
+    (one_more c.args.input.now c.loop-line.rest.now c.in-Some.line.now c.in-Some.after.now c.loop-line.out.items r.0 c.loop-line.number
+    c.loop-line.invariant c.in-Some.ensures.lines c.in-Some.ensures.shorter r.1)
 
 pub returns : goal.returns
 returns c =

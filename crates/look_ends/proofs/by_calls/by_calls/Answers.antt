@@ -5,4 +5,5 @@ pub returns-then-not-faultless-clause-complete : goal.returns-then-not-faultless
 returns-then-not-faultless-clause-complete g c = IfOk-weaker c.some_ends.result _ _ (λ r part whole. cc) c.some_ends.ensures.part
 
 pub returns-clause-complete : goal.returns-clause-complete
-returns-clause-complete g c = IfOk-weaker c.tried.result _ _ (λ r all whole. all whole (c.in_ok-faultless.ensures c.if-not-faultless.false)) c.tried.ensures.complete
+returns-clause-complete g c =
+    IfOk-weaker c.tried.result _ _ (λ r all whole. all whole (c.in_ok-faultless.ensures c.if-not-faultless.false)) c.tried.ensures.complete

@@ -21,6 +21,7 @@ returns g c =
     let sound = subst (λ (y : Setting). AreEnds y all.found.items) seen c.in_ok-all.ensures.sound in
     let complete = subst (λ (y : Setting). all.whole ≡ true → AreAllOf y all.found.items) seen c.in_ok-all.ensures.complete in
     IfOk-weaker c.searched.result _ _
-    (λ l h. search_of (g.F.EndsForm.shows c.args.form.now) c.args.exploration.now c.setting-setting.result.now c.args.names.now c.args.number c.args.is_refused all.found.items all.states all.whole all.by_calls l
+    (λ l h. search_of (g.F.EndsForm.shows c.args.form.now) c.args.exploration.now c.setting-setting.result.now c.args.names.now
+    c.args.number c.args.is_refused all.found.items all.states all.whole all.by_calls l
     seen sound complete c.requires.verdict h)
     c.searched.ensures

@@ -12,6 +12,8 @@ loop-i-preserved g c =
     let es = c.args.events.now in
     let i = c.loop-i.i in
     record {
-      stands = c.in_ok-applied.ensures.ok ∙ ap (λ w. after_event w (get_or es i (Step 0))) c.loop-i.invariant.stands ∙ watched_next p es i (Step 0) (omega arith) (omega arith);
-      written = one_event_more v p es i (Step 0) _ _ _ _ _ _ (omega arith) (omega arith) c.loop-i.invariant.stands c.in_ok-applied.ensures.applied c.in_ok-applied.ensures.ok c.in_ok-say_event.ensures c.loop-i.invariant.written;
+      stands = c.in_ok-applied.ensures.ok ∙ ap (λ w. after_event w (get_or es i (Step 0))) c.loop-i.invariant.stands ∙ watched_next p es i
+          (Step 0) (omega arith) (omega arith);
+      written = one_event_more v p es i (Step 0) _ _ _ _ _ _ (omega arith) (omega arith) c.loop-i.invariant.stands
+          c.in_ok-applied.ensures.applied c.in_ok-applied.ensures.ok c.in_ok-say_event.ensures c.loop-i.invariant.written;
     }

@@ -28,6 +28,9 @@ loop-line-preserved c =
     let at = c.loop-line.line-index in
     let old = c.loop-line.found.items in
     elim c.if-begins_function.branch [
-      | then-begins_function+in_ok-push w ↦ rw w.found-is (found lines (λ l. l.now) begins_function at _ c.loop-line-test.true old w.push.new.self.items _ c.loop-line.invariant (sym c.begins_function.ensures ∙ w.if-begins_function.true) w.in_ok-push.ensures.items)
-      | else-begins_function w ↦ rw w.found-is (passed lines (λ l. l.now) begins_function at _ c.loop-line-test.true old old _ c.loop-line.invariant (sym c.begins_function.ensures ∙ w.if-begins_function.false) refl)
+      | then-begins_function+in_ok-push w ↦ rw w.found-is (found lines (λ l. l.now) begins_function at _ c.loop-line-test.true old
+          w.push.new.self.items _ c.loop-line.invariant (sym c.begins_function.ensures ∙ w.if-begins_function.true)
+          w.in_ok-push.ensures.items)
+      | else-begins_function w ↦ rw w.found-is (passed lines (λ l. l.now) begins_function at _ c.loop-line-test.true old old _
+          c.loop-line.invariant (sym c.begins_function.ensures ∙ w.if-begins_function.false) refl)
     ]

@@ -21,5 +21,7 @@ returns c =
     let cell : ℕ → List ℕ = def.task_cell c.args.names.now change.program.now change.before.now change.world.now change.x in
     let same = c.tasks-tasks.ensures ∙ ap (λ (n : Numbers). n.tasks) change.listed in
     c.loop-t.invariant
-    ∙ ap (λ (xs : List ℕ). string_bytes c.args.out.now ++ flat_map cell xs) (take_all c.loop-t.t-index c.tasks-tasks.result.now (omega arith) ∙ same)
-    ∙ ap (λ (xs : List ℕ). string_bytes c.args.out.now ++ xs) (tasks_listed c.args.names.now change.program.now change.before.now change.world.now change.x change.follows)
+    ∙ ap (λ (xs : List ℕ). string_bytes c.args.out.now ++ flat_map cell xs)
+    (take_all c.loop-t.t-index c.tasks-tasks.result.now (omega arith) ∙ same)
+    ∙ ap (λ (xs : List ℕ). string_bytes c.args.out.now ++ xs)
+    (tasks_listed c.args.names.now change.program.now change.before.now change.world.now change.x change.follows)

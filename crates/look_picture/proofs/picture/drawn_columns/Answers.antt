@@ -26,4 +26,5 @@ returns-clause-told c =
 pub returns-clause-drawn : goal.returns-clause-drawn
 returns-clause-drawn c =
     c.in_ok-count.ensures.drawn
-    ∙ ap (λ (w : Watched). string_bytes c.args.out.now ++ def.columns c.args.names.now c.args.brief w.program c.args.skipped c.args.events.now) c.requires.behind
+    ∙ ap (λ (w : Watched). string_bytes c.args.out.now ++ def.columns c.args.names.now c.args.brief w.program c.args.skipped
+    c.args.events.now) c.requires.behind

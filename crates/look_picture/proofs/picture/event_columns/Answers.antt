@@ -39,7 +39,8 @@ invariant_of-seen-clause-listed c =
     let l = c.loop-i in
     let w : World = c.watch-watch.result.now.last in
     c.in_ok-add_born.ensures
-    ∙ ap₂ (λ (first second : World). numbers.with_born l.present first second) (c.records.ensures ∙ c.world.ensures) (c.records-in-loop-i.ensures ∙ c.world-in-loop-i.ensures)
+    ∙ ap₂ (λ (first second : World). numbers.with_born l.present first second) (c.records.ensures ∙ c.world.ensures)
+    (c.records-in-loop-i.ensures ∙ c.world-in-loop-i.ensures)
     ∙ ap (λ (n : Numbers). numbers.with_born n l.before.last w) l.invariant.listed
 
 pub loop-i-preserved : goal.loop-i-preserved

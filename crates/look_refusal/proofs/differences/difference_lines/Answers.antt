@@ -13,4 +13,7 @@ returns c =
     let m = c.args.meeting.now in
     let before : List ℕ = c.args.out.now.items in
     on_ok_weaker c.say.result
-    (λ (e : c.say.new.out.items ≡ before ++ c.as_str.result.now). all_appended m (origin_words o p f m.one.origin) (origin_words o p f m.other.origin) all_parts before (string_bytes c.new-lines.result) (string_bytes c.write_differences.new.out) c.say.new.out.items c.new-lines.ensures.bytes c.in_ok-write_differences.ensures (e ∙ ap (λ (xs : List ℕ). before ++ xs) c.as_str.ensures.value)) c.say.ensures
+    (λ (e : c.say.new.out.items ≡ before ++ c.as_str.result.now). all_appended m (origin_words o p f m.one.origin)
+    (origin_words o p f m.other.origin) all_parts before (string_bytes c.new-lines.result) (string_bytes c.write_differences.new.out)
+    c.say.new.out.items c.new-lines.ensures.bytes c.in_ok-write_differences.ensures
+    (e ∙ ap (λ (xs : List ℕ). before ++ xs) c.as_str.ensures.value)) c.say.ensures

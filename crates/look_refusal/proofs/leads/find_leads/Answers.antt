@@ -9,4 +9,5 @@ loop-from-init c = noted_none c.args.search.now (length c.args.search.now.code.n
 pub returns : goal.returns
 returns c =
     let all : c.loop-from.from ≡ length c.args.search.now.code.now = omega arith in
-    noted_end c.args.search.now c.requires c.loop-from.lists.items (subst (λ k. AreNoted c.args.search.now k [] c.loop-from.lists.items) all c.loop-from.invariant)
+    noted_end c.args.search.now c.requires c.loop-from.lists.items
+    (subst (λ k. AreNoted c.args.search.now k [] c.loop-from.lists.items) all c.loop-from.invariant)

@@ -19,9 +19,12 @@ loop-to-preserved c =
     let i = c.loop-to.to-index in
     let lists : List (List ℕ) = c.loop-to.lists.items in
     let leads = c.requires.leads (get_or places i 0) (among_at places i (get_or places i 0) c.loop-to-test.true refl) in
-    let inside : get_or places i 0 < length lists = omega (arith, (leads_later s c.requires.ready from (get_or places i 0) leads).1, c.loop-to.invariant.long) in
+    let inside : get_or places i 0 < length lists =
+    omega (arith, (leads_later s c.requires.ready from (get_or places i 0) leads).1, c.loop-to.invariant.long) in
     subst (λ (xs : List ℕ). AreNoted s from xs c.note_at.new.lists.items) (sym (take_more places i 0 c.loop-to-test.true))
-    (subst (λ (ls : List (List ℕ)). AreNoted s from (take i places ++ get_or places i 0 ∷ []) ls) (sym c.in_ok-note_at.ensures) (noted_more s from (get_or places i 0) (take i places) lists inside leads c.loop-to.invariant))
+    (subst (λ (ls : List (List ℕ)). AreNoted s from (take i places ++ get_or places i 0 ∷ []) ls) (sym c.in_ok-note_at.ensures)
+    (noted_more s from (get_or places i 0) (take i places) lists inside leads c.loop-to.invariant))
 
 pub returns : goal.returns
-returns c = subst (λ (xs : List ℕ). AreNoted c.args.search.now c.args.from xs c.loop-to.lists.items) (take_all c.loop-to.to-index c.args.places.now c.loop-to-test.false) c.loop-to.invariant
+returns c = subst (λ (xs : List ℕ). AreNoted c.args.search.now c.args.from xs c.loop-to.lists.items)
+    (take_all c.loop-to.to-index c.args.places.now c.loop-to-test.false) c.loop-to.invariant

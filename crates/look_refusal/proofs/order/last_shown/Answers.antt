@@ -7,10 +7,12 @@ pub loop-init : goal.loop-init
 loop-init c = last_none c.args.shares.now
 
 pub loop-preserved : goal.loop-preserved
-loop-preserved c = last_more c.args.shares.now c.loop.counter c.loop.last c.in-Some.next c.loop.invariant (subst (IsNext c.args.shares.now c.loop.last (length c.args.shares.now)) c.in-Some.is c.next_after.ensures)
+loop-preserved c = last_more c.args.shares.now c.loop.counter c.loop.last c.in-Some.next c.loop.invariant
+    (subst (IsNext c.args.shares.now c.loop.last (length c.args.shares.now)) c.in-Some.is c.next_after.ensures)
 
 pub returns-in-None : goal.returns-in-None
-returns-in-None c = shown_fewer c.args.shares.now c.loop.counter c.loop.last (omega arith) c.loop.invariant (subst (IsNext c.args.shares.now c.loop.last (length c.args.shares.now)) c.in-None.is c.next_after.ensures)
+returns-in-None c = shown_fewer c.args.shares.now c.loop.counter c.loop.last (omega arith) c.loop.invariant
+    (subst (IsNext c.args.shares.now c.loop.last (length c.args.shares.now)) c.in-None.is c.next_after.ensures)
 
 pub returns : goal.returns
 returns c =

@@ -8,7 +8,8 @@ pub loop-place-init : goal.loop-place-init
 loop-place-init c = next_none c.args.shares.now c.args.last
 
 pub comes_before-requires-clause-next : goal.comes_before-requires-clause-next
-comes_before-requires-clause-next c = next_inside c.args.shares.now c.args.last c.loop-place.place c.loop-place.next c.loop-place.auto.place-end c.loop-place.invariant
+comes_before-requires-clause-next c =
+    next_inside c.args.shares.now c.args.last c.loop-place.place c.loop-place.next c.loop-place.auto.place-end c.loop-place.invariant
 
 pub loop-place-preserved : goal.loop-place-preserved
 loop-place-preserved c = elim c.if-comes_after.branch [

@@ -20,5 +20,6 @@ returns c =
     let p = c.args.program.now in
     let f = c.args.function in
     let pc = c.args.pc in
-    let same = same_remedy p f pc _ c.args.cause c.profile.result c.code_of-code.result.now c.instr_here-instr.result c.typed_remedy.result c.profile.ensures c.code_of-code.ensures.value c.instr_here-instr.ensures c.typed_remedy.ensures in
+    let same = same_remedy p f pc _ c.args.cause c.profile.result c.code_of-code.result.now c.instr_here-instr.result c.typed_remedy.result
+    c.profile.ensures c.code_of-code.ensures.value c.instr_here-instr.ensures c.typed_remedy.ensures in
     subst (λ (r : Remedy). IsRemedy p f pc c.args.cause r) (sym same) (typed _ c.requires.typed c.in_ok-state.ensures)

@@ -25,7 +25,8 @@ stays : (s : Search) (t : Trail) (pc place most : ℕ) → IsTop s t pc place mo
 stays s t pc place most top here = record { none_more = bound s t pc most most top.none_more (omega arith) here; there = top.there }
 
 pub returns-then-full-top : goal.returns-then-full-top
-returns-then-full-top c = risen c.args.search.now c.args.trail.now c.args.pc c.args.top.place c.args.top.most c.args.full c.requires.top c.requires.in_code (sym c.may_end.ensures ∙ c.if-may_end.true) c.requires.full c.if-full-top.true
+returns-then-full-top c = risen c.args.search.now c.args.trail.now c.args.pc c.args.top.place c.args.top.most c.args.full c.requires.top
+    c.requires.in_code (sym c.may_end.ensures ∙ c.if-may_end.true) c.requires.full c.if-full-top.true
 
 pub returns-else-may_end : goal.returns-else-may_end
 returns-else-may_end c =

@@ -14,4 +14,5 @@ returns c =
     let kept : def.AreWays p f table × def.AreSpread p f pc pc table = c.in_ok-table.ensures in
     finds p f pc table c.turn_at.result kept.0 kept.1
     (subst (λ (t : List (Option Way)). def.NoneMeet p f pc t) c.as_slice.ensures.value c.in-None.ensures)
-    (subst (λ (t : List (Option Way)). MatchOption c.turn_at.result (def.TurnsAlike p f pc t) (def.Meets p f pc)) c.as_slice-in-None.ensures.value c.turn_at.ensures)
+    (subst (λ (t : List (Option Way)). MatchOption c.turn_at.result (def.TurnsAlike p f pc t) (def.Meets p f pc))
+    c.as_slice-in-None.ensures.value c.turn_at.ensures)

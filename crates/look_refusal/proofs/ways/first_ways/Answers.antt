@@ -16,7 +16,8 @@ loop-pc-init c =
           (kept_ways p f c.in_ok-table.table.items 0 way
           (subst (λ (t : List (Option Way)). def.AreWays p f t) (sym c.in_ok-table.ensures) (no_ways p f (c.args.last + 1)))
           (subst (λ (s : TypeState). def.IsWayTo p f 0 (record { origin = Beginning; state = s })) (sym c.entry.ensures) (first_way p f))),
-      subst (λ (t : List (Option Way)). def.AreSpread p f c.args.last 0 t) (sym c.keep.ensures) (begin_spread p f c.args.last way c.in_ok-table.table.items c.in_ok-table.ensures),
+      subst (λ (t : List (Option Way)). def.AreSpread p f c.args.last 0 t) (sym c.keep.ensures)
+          (begin_spread p f c.args.last way c.in_ok-table.table.items c.in_ok-table.ensures),
     )
 
 pub loop-pc-preserved : goal.loop-pc-preserved

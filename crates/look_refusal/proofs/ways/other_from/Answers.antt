@@ -23,7 +23,8 @@ loop-number-init c = λ x l. absurd l
 
 pub loop-number-preserved : goal.loop-number-preserved
 loop-number-preserved c =
-    alike_more c.as_slice-edges.result.now c.loop-number.number c.index-edges-number.result c.loop-number-test.true c.index-edges-number.is c.args.to c.args.told.now
+    alike_more c.as_slice-edges.result.now c.loop-number.number c.index-edges-number.result c.loop-number-test.true c.index-edges-number.is
+    c.args.to c.args.told.now
     (elim c.else-edge-to.branch [
       | else-edge-to-via-then-edge-to+else-not-is_same w ↦ (λ e. w.is_same.ensures.0 w.if-not-is_same.false)
       | else-edge-to-via-else-edge-to w ↦ (λ e. absurd (w.if-edge-to.false e))
@@ -31,8 +32,10 @@ loop-number-preserved c =
 
 pub returns-then-not-is_same : goal.returns-then-not-is_same
 returns-then-not-is_same c = (
-  arrives c.args.program.now c.args.function c.args.from c.args.state.now c.in-Ok.edges c.as_slice-edges.result.now c.loop-number.number c.index-edges-number.result c.args.to c.copy.result
-      c.requires.reached c.in-Ok.ensures c.as_slice-edges.ensures c.loop-number-test.true c.index-edges-number.is c.if-edge-to.true c.copy.ensures,
+  arrives c.args.program.now c.args.function c.args.from c.args.state.now c.in-Ok.edges c.as_slice-edges.result.now c.loop-number.number
+      c.index-edges-number.result c.args.to c.copy.result
+      c.requires.reached c.in-Ok.ensures c.as_slice-edges.ensures c.loop-number-test.true c.index-edges-number.is c.if-edge-to.true
+      c.copy.ensures,
   λ e. (let yes = c.is_same.ensures.1 (sym c.copy.ensures ∙ e) in let not = c.if-not-is_same.true in absurd (cc)),
 )
 

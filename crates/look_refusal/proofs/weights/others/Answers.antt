@@ -10,5 +10,6 @@ loop-one-preserved c =
     let here = c.one_if-count.ensures.value ∙ ap one_if c.is_other.ensures in
     let f : ℕ → ℕ = λ x. one_if (is_other c.args.shares.now x) in (
       omega (arith, c.one_if-count.ensures.small, c.loop-one.invariant.0),
-      ap (λ (n : ℕ). n + c.one_if-count.result) c.loop-one.invariant.1 ∙ ap (λ (n : ℕ). sum_by f (range_with_len 0 c.loop-one.one) + n) here ∙ sym (sum_more f c.loop-one.one),
+      ap (λ (n : ℕ). n + c.one_if-count.result) c.loop-one.invariant.1 ∙ ap (λ (n : ℕ). sum_by f (range_with_len 0 c.loop-one.one) + n) here
+          ∙ sym (sum_more f c.loop-one.one),
     )

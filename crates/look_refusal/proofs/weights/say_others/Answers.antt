@@ -19,4 +19,6 @@ returns c =
     let two : List ℕ = c.say_number.new.out.items in
     let three : List ℕ = c.say.new.out.items in
     on_ok_weaker c.say.result
-    (λ (e : three ≡ two ++ codes "\n"). two_parts before (words ++ number) (codes "\n") two three (c.in_ok-say_number.ensures ∙ append_assoc before words number) e ∙ ap (λ (x : List ℕ). before ++ x) (sym (some_others c.args.count c.if-count-eq0.false))) c.say.ensures
+    (λ (e : three ≡ two ++ codes "\n"). two_parts before (words ++ number) (codes "\n") two three
+    (c.in_ok-say_number.ensures ∙ append_assoc before words number) e ∙ ap (λ (x : List ℕ). before ++ x)
+    (sym (some_others c.args.count c.if-count-eq0.false))) c.say.ensures

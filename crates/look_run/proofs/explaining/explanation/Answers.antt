@@ -16,4 +16,6 @@ fault_explains text trace o h = subst (λ (r : Result Program AsmError). def.Exp
 pub returns-in_err-program : goal.returns-in_err-program
 returns-in_err-program c =
     let p = err_from_is_err_and c.from_residual.result c.from_residual.ensures.1 in
-    rw (p.1, p.2) (says_less c.in_err-program.field-0.0 (IsTextFault c.args.text.now) (def.Explains (judged c.args.text.now) c.args.text.now c.args.trace.now) (fault_explains c.args.text.now c.args.trace.now) c.in_err-program.ensures)
+    rw (p.1, p.2) (says_less c.in_err-program.field-0.0 (IsTextFault c.args.text.now)
+    (def.Explains (judged c.args.text.now) c.args.text.now c.args.trace.now) (fault_explains c.args.text.now c.args.trace.now)
+    c.in_err-program.ensures)

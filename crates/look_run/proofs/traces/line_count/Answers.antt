@@ -4,4 +4,5 @@ use Rattle.std.proofs.lemmas.Iterator.Splits.{YieldsList-from_slice_split}
 use Rattle.look_run.proofs.traces.line_count.Goals as goal
 
 pub returns : goal.returns
-returns c = count_from_yields_List _ _ c.count.ensures.ran (YieldsList-from_slice_split _ _ c.args.text.now c.split.ensures.rest c.split.ensures.done c.split.ensures.closure (λ x r q k. search (rules, tests)))
+returns c = count_from_yields_List _ _ c.count.ensures.ran (YieldsList-from_slice_split _ _ c.args.text.now c.split.ensures.rest
+    c.split.ensures.done c.split.ensures.closure (λ x r q k. search (rules, tests)))

@@ -6,5 +6,6 @@ use Rattle.look_text.proofs.colon.say_colon.Goals as goal
 pub returns : goal.returns
 returns c =
     on_ok_weaker c.say-2.result
-    (three_said (codes "a label ends with a colon: ") c.args.name.now (codes ":\n") c.args.out.now.items c.say.new.out.items c.extend_from_slice.new.self.items c.say-2.new.out.items
+    (three_said (codes "a label ends with a colon: ") c.args.name.now (codes ":\n") c.args.out.now.items c.say.new.out.items
+    c.extend_from_slice.new.self.items c.say-2.new.out.items
     c.in_ok-say.ensures c.in_ok-extend_from_slice.ensures.items) c.say-2.ensures

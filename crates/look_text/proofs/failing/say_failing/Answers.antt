@@ -30,13 +30,16 @@ returns-then-not-passes c =
     let word = c.in-Some.word.now in
     let fails : test l.wanted word ≡ false = grind (arith, common_steps, c.if-not-passes.true, c.passes.ensures) in
     on_ok_weaker c.say_word.result
-    (failed_said test l.wanted c.wanted_there.result word l.left c.word.new.self told told c.args.out.now.items c.args.out.now.items l.out.items _ (def.first_failing test First c.args.words)
+    (failed_said test l.wanted c.wanted_there.result word l.left c.word.new.self told told c.args.out.now.items c.args.out.now.items
+    l.out.items _ (def.first_failing test First c.args.words)
     c.in-Some.ensures fails l.invariant.2 refl refl l.invariant.1 c.wanted_there.ensures)
     c.say_word.ensures
 
 pub returns : goal.returns
 returns c =
     let l = c.loop-word in
-    let whole = def.first_failing (def.passes c.args.text.now c.args.outline.now c.args.error.function c.args.error.cause) First c.args.words in
+    let whole =
+    def.first_failing (def.passes c.args.text.now c.args.outline.now c.args.error.function c.args.error.cause) First c.args.words in
     let none : [] ≡ said_if (codes "at") whole = grind (arith, common_steps, l.invariant.2) in
-    nothing_said c.args.out.now.items l.invariant.0 l.out.items c.truncate.new.self.items c.len-start.result whole l.invariant.1 (c.len-start.ensures ∙ c.args.out.now.ok.0) c.truncate.ensures.items none
+    nothing_said c.args.out.now.items l.invariant.0 l.out.items c.truncate.new.self.items c.len-start.result whole l.invariant.1
+    (c.len-start.ensures ∙ c.args.out.now.ok.0) c.truncate.ensures.items none

@@ -15,7 +15,8 @@ returns-in-Some-near_given c =
     let p : List ℕ → Bool = is_near c.args.nearness c.args.word.now in
     let names : Names = names_at c.args.place.outline.now c.args.place.function in
     let later : Option (List ℕ) = find p (names_given names c.args.place.wanted (lines c.in-Some.after.now)) in
-    let more = given_more p names c.args.place.wanted l.rest.now c.in-Some.field-0-0.now c.in-Some.after.now c.words_at.result c.in-Some.ensures.lines c.words_at.ensures in
+    let more = given_more p names c.args.place.wanted l.rest.now c.in-Some.field-0-0.now c.in-Some.after.now c.words_at.result
+    c.in-Some.ensures.lines c.words_at.ensures in
     ap (λ (o : Option (List ℕ)). option_or o later) c.in-Some-near_given.ensures ∙ sym more ∙ l.invariant
 
 pub loop-after-preserved : goal.loop-after-preserved
@@ -25,5 +26,6 @@ loop-after-preserved c =
     let names : Names = names_at c.args.place.outline.now c.args.place.function in
     let later : Option (List ℕ) = find p (names_given names c.args.place.wanted (lines c.in-Some.after.now)) in
     let none : find p (listed (name_given names c.args.place.wanted c.words_at.result)) ≡ None = search rules in
-    let more = given_more p names c.args.place.wanted l.rest.now c.in-Some.field-0-0.now c.in-Some.after.now c.words_at.result c.in-Some.ensures.lines c.words_at.ensures in
+    let more = given_more p names c.args.place.wanted l.rest.now c.in-Some.field-0-0.now c.in-Some.after.now c.words_at.result
+    c.in-Some.ensures.lines c.words_at.ensures in
     ap (λ (o : Option (List ℕ)). option_or o later) (sym none) ∙ sym more ∙ l.invariant

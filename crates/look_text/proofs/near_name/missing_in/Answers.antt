@@ -21,14 +21,17 @@ loop-word-preserved c =
     let word = c.in-Some.word.now in
     ap (λ (w : Expected). missing (name_stop names w c.word.new.self)) c.after-wanted.ensures
     ∙ sym (missing_behind word (name_stop names (after c.loop-word.wanted word) c.word.new.self))
-    ∙ first_word names c.loop-word.wanted word c.loop-word.left c.word.new.self true _ c.in-Some.ensures (sym c.names_some.ensures ∙ c.if-not-names_some.false) c.loop-word.invariant
+    ∙ first_word names c.loop-word.wanted word c.loop-word.left c.word.new.self true _ c.in-Some.ensures
+    (sym c.names_some.ensures ∙ c.if-not-names_some.false) c.loop-word.invariant
 
 pub returns-then-not-names_some : goal.returns-then-not-names_some
 returns-then-not-names_some c =
     let names = names_at c.args.outline.now c.args.function in
     ap (λ (w : Expected). Some (w, c.in-Some.word.now)) c.known.ensures
-    ∙ first_word names c.loop-word.wanted c.in-Some.word.now c.loop-word.left c.word.new.self false _ c.in-Some.ensures (sym c.names_some.ensures ∙ c.if-not-names_some.true) c.loop-word.invariant
+    ∙ first_word names c.loop-word.wanted c.in-Some.word.now c.loop-word.left c.word.new.self false _ c.in-Some.ensures
+    (sym c.names_some.ensures ∙ c.if-not-names_some.true) c.loop-word.invariant
 
 pub returns : goal.returns
 returns c =
-    sym (ap (λ (ws : List (List ℕ)). missing (name_stop (names_at c.args.outline.now c.args.function) c.loop-word.wanted ws)) c.in_default.ensures.0) ∙ c.loop-word.invariant
+    sym (ap (λ (ws : List (List ℕ)). missing (name_stop (names_at c.args.outline.now c.args.function) c.loop-word.wanted ws))
+    c.in_default.ensures.0) ∙ c.loop-word.invariant

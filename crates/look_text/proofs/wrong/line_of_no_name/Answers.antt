@@ -15,4 +15,5 @@ returns-then-names_nothing c =
     let i = c.loop-sentence.sentence-index in
     let small : i < length lines = search rules in
     let some : is_some (line_stop names s.words) ≡ true = search rules in
-    subst (λ (xs : List Sentence). StopsAt names xs s) c.sentences-sentence-items.ensures (stops_at names lines i s small c.sentence-item.is c.loop-sentence.invariant some)
+    subst (λ (xs : List Sentence). StopsAt names xs s) c.sentences-sentence-items.ensures
+    (stops_at names lines i s small c.sentence-item.is c.loop-sentence.invariant some)

@@ -26,8 +26,10 @@ loop-function-preserved c =
     let small : f < length o.done = search rules in
     let none : lines_stop (names_at o f) (sentences_of (slice_get o.done f)) ≡ None = search rules in
     record {
-      unknown = known.unknown ∙ functions_stop_at o f small ∙ ap (λ (x : Option Stop). option_or x (functions_stop o.functions (drop (f + 1) o.done))) none;
-      near = λ text. known.near text ∙ near_in_at text o f small ∙ ap (λ (x : Option Stop). near_or text (names_at o f) x (near_in text o (drop (f + 1) o.done))) none;
+      unknown = known.unknown ∙ functions_stop_at o f small ∙ ap
+          (λ (x : Option Stop). option_or x (functions_stop o.functions (drop (f + 1) o.done))) none;
+      near = λ text. known.near text ∙ near_in_at text o f small ∙ ap
+          (λ (x : Option Stop). near_or text (names_at o f) x (near_in text o (drop (f + 1) o.done))) none;
     }
 
 pub returns : goal.returns

@@ -8,5 +8,6 @@ pub returns : goal.returns
 returns c =
     let word : List ℕ = c.args.word.now in
     on_ok_weaker c.say_guess.result
-    (three_said (bracketed (Some word)) (expected_words c.args.wanted) (meant_words c.args.wanted (Some word)) c.args.out.now.items c.say_bracketed.new.out.items c.say_wanted.new.out.items c.say_guess.new.out.items
+    (three_said (bracketed (Some word)) (expected_words c.args.wanted) (meant_words c.args.wanted (Some word)) c.args.out.now.items
+    c.say_bracketed.new.out.items c.say_wanted.new.out.items c.say_guess.new.out.items
     c.in_ok-say_bracketed.ensures c.in_ok-say_wanted.ensures) c.say_guess.ensures

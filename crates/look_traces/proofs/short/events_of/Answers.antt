@@ -22,10 +22,12 @@ pub loop-word-init : goal.loop-word-init
 loop-word-init c = rw c.new-events.ensures.items refl
 
 pub loop-word-preserved : goal.loop-word-preserved
-loop-word-preserved c = more c.args.found.now (λ w. w.now) c.loop-word.word-index _ c.loop-word.events.items (Some c.add_word.new.events.items) _ c.loop-word-test.true (c.in_ok-add_word.ensures.added c.if-not-branch.false) c.loop-word.invariant
+loop-word-preserved c = more c.args.found.now (λ w. w.now) c.loop-word.word-index _ c.loop-word.events.items
+    (Some c.add_word.new.events.items) _ c.loop-word-test.true (c.in_ok-add_word.ensures.added c.if-not-branch.false) c.loop-word.invariant
 
 pub returns-then-not-branch : goal.returns-then-not-branch
-returns-then-not-branch c = more c.args.found.now (λ w. w.now) c.loop-word.word-index _ c.loop-word.events.items None _ c.loop-word-test.true (c.in_ok-add_word.ensures.refused c.if-not-branch.true) c.loop-word.invariant
+returns-then-not-branch c = more c.args.found.now (λ w. w.now) c.loop-word.word-index _ c.loop-word.events.items None _
+    c.loop-word-test.true (c.in_ok-add_word.ensures.refused c.if-not-branch.true) c.loop-word.invariant
 
 pub returns : goal.returns
 returns c = ended c.args.found.now (λ w. w.now) c.loop-word.word-index c.loop-word.events.items _ c.loop-word-test.false c.loop-word.invariant

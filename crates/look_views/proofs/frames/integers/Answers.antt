@@ -14,4 +14,6 @@ loop-value-preserved c =
     let fits : SFits w64 (get_or c.args.values.now c.loop-value.value-index (pos 0)) = search rules in
     next_part view c.loop-value.list.items c.push.new.self.items (shown ∷ []) _ _ _ c.loop-value.invariant
     (at_drop_more integers c.args.values.now c.loop-value.value-index (pos 0) c.loop-value-test.true)
-    (one_value view c.loop-value.list.items c.push.new.self.items _ shown (shown ∷ []) refl (c.from.ensures ∙ ap integer (to_z-of_z w64 (get_or c.args.values.now c.loop-value.value-index (pos 0)) fits)) c.in_ok-push.ensures.items)
+    (one_value view c.loop-value.list.items c.push.new.self.items _ shown (shown ∷ []) refl
+    (c.from.ensures ∙ ap integer (to_z-of_z w64 (get_or c.args.values.now c.loop-value.value-index (pos 0)) fits))
+    c.in_ok-push.ensures.items)

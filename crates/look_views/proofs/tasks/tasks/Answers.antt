@@ -15,5 +15,6 @@ loop-t-preserved c =
     let shown = task text program c.args.full world c.loop-t.t in
     let born = c.tasks_born-t-end.ensures.value ∙ ap (λ (w : World). length w.tasks) c.records.ensures in
     next_part view c.loop-t.list.items c.push.new.self.items (shown ∷ []) _ _ _ c.loop-t.invariant
-    (at_drop_more (λ (xs : List Task). tasks text program c.args.full world xs c.loop-t.t) world.tasks c.loop-t.t no_task (omega (arith, born, c.loop-t-test.true)))
+    (at_drop_more (λ (xs : List Task). tasks text program c.args.full world xs c.loop-t.t) world.tasks c.loop-t.t no_task
+    (omega (arith, born, c.loop-t-test.true)))
     (one_value view c.loop-t.list.items c.push.new.self.items _ shown (shown ∷ []) refl c.in_ok-task.ensures c.in_ok-push.ensures.items)

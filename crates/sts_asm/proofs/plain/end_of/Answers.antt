@@ -10,7 +10,8 @@ returns-then-run-lt-LANES c =
     let text = c.args.text.now in
     let class = c.args.class in
     let at = l.at + c.run_of-run.result in
-    let inside : list_all (is_in class) (take at text) ≡ true = front_all (is_in class) text at (front_more (is_in class) text l.at c.run_of-run.result l.invariant.inside c.run_of-run.ensures.inside) in
+    let inside : list_all (is_in class) (take at text) ≡ true = front_all (is_in class) text at
+    (front_more (is_in class) text l.at c.run_of-run.result l.invariant.inside c.run_of-run.ensures.inside) in
     record {
       within = omega (arith, c.run_of-run.ensures.few);
       inside = inside;

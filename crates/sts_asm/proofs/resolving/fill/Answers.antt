@@ -57,6 +57,7 @@ pub returns : goal.returns
 returns c =
     let l = c.loop-at in
     record {
-      steps = filled_done (instr_at c.args.names.now) (drop l.next c.args.again.now) l.code.items l.at (filled (instr_at c.args.names.now) c.args.again.now c.args.code.now.items) (omega arith) l.invariant.read;
+      steps = filled_done (instr_at c.args.names.now) (drop l.next c.args.again.now) l.code.items l.at
+          (filled (instr_at c.args.names.now) c.args.again.now c.args.code.now.items) (omega arith) l.invariant.read;
       same = tt;
     }

@@ -10,6 +10,7 @@ pub returns : goal.returns
 returns c =
     let outline = c.read_kept.new.outline in
     let all = c.read_kept.new.all.items in
-    let same = kept_judged {X = Unit {0}} c.in_ok-read_kept.field-0 (outline_of c.args.text.now) outline all (program_of outline all) c.in_ok-read_kept.ensures refl in
+    let same = kept_judged {X = Unit {0}} c.in_ok-read_kept.field-0 (outline_of c.args.text.now) outline all (program_of outline all)
+    c.in_ok-read_kept.ensures refl in
     let short : nat_lt 1048576 (length c.args.text.now) ≡ false = grind (arith, nat_tests) in
     rw (short, same) c.program_of.ensures

@@ -15,7 +15,9 @@ use Rattle.sts_budget.proofs.greatest.add_place.Goals as goal
 
 pub base_at-requires : goal.base_at-requires
 base_at-requires g c =
-    let h = head_small c.args.pass.now.resource c.args.pass.now.earlier.now c.args.pass.now.code.now c.args.pass.now.layout.now c.requires.ready c.args.best.now c.requires.whole c.args.pc c.requires.in_code c.args.top.now.bases.items c.requires.so_far.0 c.args.head _ c.requires.head in
+    let h = head_small c.args.pass.now.resource c.args.pass.now.earlier.now c.args.pass.now.code.now c.args.pass.now.layout.now
+    c.requires.ready c.args.best.now c.requires.whole c.args.pc c.requires.in_code c.args.top.now.bases.items c.requires.so_far.0
+    c.args.head _ c.requires.head in
     rw c.as_slice.ensures.value h
 
 pub sum_at-requires : goal.sum_at-requires
@@ -26,24 +28,41 @@ sum_at-requires g c =
 
 pub overflow_add-full : goal.overflow_add-full
 overflow_add-full g c =
-    let base : c.base_at.result ≡ base_of c.args.top.now.bases.items c.args.head = c.base_at.ensures ∙ ap (λ xs. base_of xs c.args.head) c.as_slice.ensures.value in
+    let base : c.base_at.result ≡ base_of c.args.top.now.bases.items c.args.head =
+    c.base_at.ensures ∙ ap (λ xs. base_of xs c.args.head) c.as_slice.ensures.value in
     let low = base_small c.args.top.now.bases.items c.args.head c.requires.so_far.0.small in
     omega (arith, c.sum_at.type_inv)
 
 pub returns-then-full-pass-clause-over : goal.returns-then-full-pass-clause-over
 returns-then-full-pass-clause-over g c = λ t.
     (let depth : c.args.depth ≡ depth_of c.args.pass.now.resource (names_in c.args.pass.now.layout.now c.args.pc) = c.requires.depth in
-    let base : c.base_at.result ≡ base_of c.args.top.now.bases.items c.args.head = c.base_at.ensures ∙ ap (λ xs. base_of xs c.args.head) c.as_slice.ensures.value in
-    let row : c.sum_at.result ≡ read c.args.best.now c.args.pc (depth_of c.args.pass.now.resource (names_in c.args.pass.now.layout.now c.args.pc)) = c.sum_at.ensures ∙ ap (λ d. read c.args.best.now c.args.pc d) depth in
-    let full_at = full_is c.args.pass.now.resource c.args.pass.now.earlier.now c.args.pass.now.code.now c.args.pass.now.layout.now c.requires.ready c.args.best.now c.requires.whole c.args.pc c.requires.in_code c.args.top.now.bases.items c.requires.so_far.0 c.args.head _ c.requires.head in
-    over c.args.pass.now.resource c.args.pass.now.earlier.now c.args.pass.now.code.now c.args.pass.now.layout.now c.requires.ready c.args.best.now c.requires.whole c.args.pc _ c.requires.in_code (omega arith))
+    let base : c.base_at.result ≡ base_of c.args.top.now.bases.items c.args.head =
+    c.base_at.ensures ∙ ap (λ xs. base_of xs c.args.head) c.as_slice.ensures.value in
+    let row : c.sum_at.result ≡ read c.args.best.now c.args.pc
+    (depth_of c.args.pass.now.resource (names_in c.args.pass.now.layout.now c.args.pc)) = c.sum_at.ensures ∙ ap
+    (λ d. read c.args.best.now c.args.pc d) depth in
+    let full_at = full_is c.args.pass.now.resource c.args.pass.now.earlier.now c.args.pass.now.code.now c.args.pass.now.layout.now
+    c.requires.ready c.args.best.now c.requires.whole c.args.pc c.requires.in_code c.args.top.now.bases.items c.requires.so_far.0
+    c.args.head _ c.requires.head in
+    over c.args.pass.now.resource c.args.pass.now.earlier.now c.args.pass.now.code.now c.args.pass.now.layout.now c.requires.ready
+    c.args.best.now c.requires.whole c.args.pc _ c.requires.in_code (omega arith))
 
 pub turn_end-end-requires : goal.turn_end-end-requires
 turn_end-end-requires g c =
     let depth : c.args.depth ≡ depth_of c.args.pass.now.resource (names_in c.args.pass.now.layout.now c.args.pc) = c.requires.depth in
     let fits = c.requires.fits c.args.pc in (
       omega (arith, c.requires.small),
-      (c.requires.in_code, (omega (arith, c.requires.ready.ends_long), (λ n t. (let lp = c.requires.ready.good.loop c.args.pc n (ap (shape_of c.args.pc) t) in omega (arith, lp.2, c.requires.ready.ends c.args.pc n t, c.requires.whole.long)), omega arith))),
+      (
+        c.requires.in_code,
+        (
+          omega (arith, c.requires.ready.ends_long),
+          (
+            λ n t. (let lp = c.requires.ready.good.loop c.args.pc n
+                (ap (shape_of c.args.pc) t) in omega (arith, lp.2, c.requires.ready.ends c.args.pc n t, c.requires.whole.long)),
+            omega arith,
+          ),
+        ),
+      ),
     )
 
 pub returns-clause-next : goal.returns-clause-next

@@ -12,36 +12,75 @@ use Rattle.sts_budget.proofs.greatest.greatest_by.Goals as goal
 pub returns-in-None : goal.returns-in-None
 returns-in-None g c =
     let most_is : c.args.pass.now.most ≡ limit_of c.args.pass.now.resource - own_of c.args.pass.now.resource = c.requires.most in
-    exceeds c.args.pass.now.resource c.args.pass.now.earlier.now c.args.pass.now.code.now c.args.pass.now.layout.now c.requires.ready _ most_is (rw c.in-None.is at (c.in_ok-best.ensures {u = tt}))
+    exceeds c.args.pass.now.resource c.args.pass.now.earlier.now c.args.pass.now.code.now c.args.pass.now.layout.now c.requires.ready _
+    most_is (rw c.in-None.is at (c.in_ok-best.ensures {u = tt}))
 
 pub table-requires : goal.table-requires
 table-requires g c = (omega (arith, c.requires.small), (c.requires.ready, (c.requires.most, (c.requires.small, c.requires.fits))))
 
 pub loop-pc-init : goal.loop-pc-init
 loop-pc-init g c =
-    let whole : IsPartial (skeleton c.args.pass.now.earlier.now c.args.pass.now.code.now) (flows_in c.args.pass.now.resource c.args.pass.now.earlier.now c.args.pass.now.code.now c.args.pass.now.layout.now) (length c.args.pass.now.code.now) c.in-Some.best.items = rw c.in-Some.is at (c.in_ok-best.ensures {u = tt}) in
-    (bases_none c.args.pass.now.resource c.args.pass.now.earlier.now c.args.pass.now.code.now c.args.pass.now.layout.now c.requires.ready c.in-Some.best.items whole c.in_ok-top.top.bases.items (c.in_ok-top.ensures {u = tt}).0, subst (IsTop c.args.pass.now.resource c.args.pass.now.earlier.now c.args.pass.now.code.now c.args.pass.now.layout.now c.in-Some.best.items 0) (sym (c.in_ok-top.ensures {u = tt}).1) (top_none c.args.pass.now.resource c.args.pass.now.earlier.now c.args.pass.now.code.now c.args.pass.now.layout.now c.requires.ready c.in-Some.best.items whole), omega (arith, (c.in_ok-top.ensures {u = tt}).1))
+    let whole : IsPartial (skeleton c.args.pass.now.earlier.now c.args.pass.now.code.now)
+    (flows_in c.args.pass.now.resource c.args.pass.now.earlier.now c.args.pass.now.code.now c.args.pass.now.layout.now)
+    (length c.args.pass.now.code.now) c.in-Some.best.items = rw c.in-Some.is at (c.in_ok-best.ensures {u = tt}) in (
+      bases_none c.args.pass.now.resource c.args.pass.now.earlier.now c.args.pass.now.code.now c.args.pass.now.layout.now c.requires.ready
+          c.in-Some.best.items whole c.in_ok-top.top.bases.items (c.in_ok-top.ensures {u = tt}).0,
+      subst (IsTop c.args.pass.now.resource
+          c.args.pass.now.earlier.now c.args.pass.now.code.now c.args.pass.now.layout.now c.in-Some.best.items 0)
+          (sym (c.in_ok-top.ensures {u = tt}).1) (top_none c.args.pass.now.resource c.args.pass.now.earlier.now c.args.pass.now.code.now
+          c.args.pass.now.layout.now c.requires.ready c.in-Some.best.items whole),
+      omega (arith, (c.in_ok-top.ensures {u = tt}).1),
+    )
 
 pub add_place-requires : goal.add_place-requires
 add_place-requires g c =
-    let whole : IsPartial (skeleton c.args.pass.now.earlier.now c.args.pass.now.code.now) (flows_in c.args.pass.now.resource c.args.pass.now.earlier.now c.args.pass.now.code.now c.args.pass.now.layout.now) (length c.args.pass.now.code.now) c.in-Some.best.items = rw c.in-Some.is at (c.in_ok-best.ensures {u = tt}) in
-    (omega (arith, c.requires.small), (c.requires.ready, (c.requires.most, (c.requires.small, (c.requires.fits, (c.loop-pc-test.true, (c.depth_of-depth.ensures.value ∙ ap (λ (es : List TypedEntry). depth_of c.args.pass.now.resource (names es)) c.entries.ensures, (c.head-head.ensures, (rw c.as_slice.ensures.value whole, rw c.as_slice.ensures.value c.loop-pc.invariant)))))))))
+    let whole : IsPartial (skeleton c.args.pass.now.earlier.now c.args.pass.now.code.now)
+    (flows_in c.args.pass.now.resource c.args.pass.now.earlier.now c.args.pass.now.code.now c.args.pass.now.layout.now)
+    (length c.args.pass.now.code.now) c.in-Some.best.items = rw c.in-Some.is at (c.in_ok-best.ensures {u = tt}) in (
+      omega (arith, c.requires.small),
+      (
+        c.requires.ready,
+        (
+          c.requires.most,
+          (
+            c.requires.small,
+            (
+              c.requires.fits,
+              (
+                c.loop-pc-test.true,
+                (
+                  c.depth_of-depth.ensures.value ∙ ap (λ (es : List TypedEntry). depth_of c.args.pass.now.resource (names es)) c.entries.ensures,
+                  (c.head-head.ensures, (rw c.as_slice.ensures.value whole, rw c.as_slice.ensures.value c.loop-pc.invariant)),
+                ),
+              ),
+            ),
+          ),
+        ),
+      ),
+    )
 
 pub returns-then-not-add_place : goal.returns-then-not-add_place
 returns-then-not-add_place g c =
     let most_is : c.args.pass.now.most ≡ limit_of c.args.pass.now.resource - own_of c.args.pass.now.resource = c.requires.most in
-    exceeds c.args.pass.now.resource c.args.pass.now.earlier.now c.args.pass.now.code.now c.args.pass.now.layout.now c.requires.ready _ most_is (c.add_place.ensures.over c.if-not-add_place.true)
+    exceeds c.args.pass.now.resource c.args.pass.now.earlier.now c.args.pass.now.code.now c.args.pass.now.layout.now c.requires.ready _
+    most_is (c.add_place.ensures.over c.if-not-add_place.true)
 
 pub loop-pc-preserved : goal.loop-pc-preserved
-loop-pc-preserved g c = subst (λ rows. IsTopped c.args.pass.now rows (c.loop-pc.pc + 1) c.add_place.new.top) c.as_slice.ensures.value (c.add_place.ensures.next c.if-not-add_place.false)
+loop-pc-preserved g c = subst (λ rows. IsTopped c.args.pass.now rows (c.loop-pc.pc + 1) c.add_place.new.top) c.as_slice.ensures.value
+    (c.add_place.ensures.next c.if-not-add_place.false)
 
 pub returns : goal.returns
 returns g c =
-    let whole : IsPartial (skeleton c.args.pass.now.earlier.now c.args.pass.now.code.now) (flows_in c.args.pass.now.resource c.args.pass.now.earlier.now c.args.pass.now.code.now c.args.pass.now.layout.now) (length c.args.pass.now.code.now) c.in-Some.best.items = rw c.in-Some.is at (c.in_ok-best.ensures {u = tt}) in
+    let whole : IsPartial (skeleton c.args.pass.now.earlier.now c.args.pass.now.code.now)
+    (flows_in c.args.pass.now.resource c.args.pass.now.earlier.now c.args.pass.now.code.now c.args.pass.now.layout.now) (length c.args.pass.now.code.now)
+    c.in-Some.best.items = rw c.in-Some.is at (c.in_ok-best.ensures {u = tt}) in
     let n : c.loop-pc.pc ≡ length c.args.pass.now.code.now = omega arith in
-    let t = finished c.args.pass.now.resource c.args.pass.now.earlier.now c.args.pass.now.code.now c.args.pass.now.layout.now c.requires.ready c.in-Some.best.items whole c.loop-pc.top.greatest (subst (λ q. IsTop c.args.pass.now.resource c.args.pass.now.earlier.now c.args.pass.now.code.now c.args.pass.now.layout.now c.in-Some.best.items q c.loop-pc.top.greatest) n c.loop-pc.invariant.1) in
+    let t = finished c.args.pass.now.resource c.args.pass.now.earlier.now c.args.pass.now.code.now c.args.pass.now.layout.now c.requires.ready
+    c.in-Some.best.items whole c.loop-pc.top.greatest (subst (λ q. IsTop c.args.pass.now.resource c.args.pass.now.earlier.now c.args.pass.now.code.now
+    c.args.pass.now.layout.now c.in-Some.best.items q c.loop-pc.top.greatest) n c.loop-pc.invariant.1) in
     let most_is : c.args.pass.now.most ≡ limit_of c.args.pass.now.resource - own_of c.args.pass.now.resource = c.requires.most in
-    let le : c.own_of.result + c.loop-pc.top.greatest ≤ limit_of c.args.pass.now.resource = omega (arith, c.own_of.ensures, c.loop-pc.invariant.2, most_is, own_within c.args.pass.now.resource) in
+    let le : c.own_of.result + c.loop-pc.top.greatest ≤ limit_of c.args.pass.now.resource =
+    omega (arith, c.own_of.ensures, c.loop-pc.invariant.2, most_is, own_within c.args.pass.now.resource) in
     (rw c.own_of.ensures t, le)
 
 pub head-head-requires : goal.head-head-requires
@@ -53,4 +92,11 @@ pub overflow_cast-result : goal.overflow_cast-result
 overflow_cast-result g c = omega (arith, c.loop-pc.invariant.2, c.requires.most, limit_small c.args.pass.now.resource)
 
 pub overflow_add-result : goal.overflow_add-result
-overflow_add-result g c = omega (arith, c.loop-pc.invariant.2, c.requires.most, c.own_of.ensures, own_within c.args.pass.now.resource, limit_small c.args.pass.now.resource)
+overflow_add-result g c = omega (
+  arith,
+  c.loop-pc.invariant.2,
+  c.requires.most,
+  c.own_of.ensures,
+  own_within c.args.pass.now.resource,
+  limit_small c.args.pass.now.resource,
+)

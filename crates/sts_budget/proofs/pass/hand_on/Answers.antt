@@ -15,7 +15,13 @@ use Rattle.sts_budget.proofs.LastTurns.{limit_small}
 use Rattle.sts_budget.proofs.pass.hand_on.Goals as goal
 
 pub values_of-values-requires : goal.values_of-values-requires
-values_of-values-requires g c = (omega (arith, c.requires.small), (omega (arith, c.requires.small), (c.requires.ready, (c.requires.fits, (c.requires.in_code, ap length c.as_slice.ensures.value ∙ c.requires.rows)))))
+values_of-values-requires g c = (
+  omega (arith, c.requires.small),
+  (
+    omega (arith, c.requires.small),
+    (c.requires.ready, (c.requires.fits, (c.requires.in_code, ap length c.as_slice.ensures.value ∙ c.requires.rows))),
+  ),
+)
 
 pub send_on-requires : goal.send_on-requires
 send_on-requires g c =
@@ -44,5 +50,7 @@ returns-clause-over g c = λ t.
 
 pub returns-then-is_quiet-clause-spread : goal.returns-then-is_quiet-clause-spread
 returns-then-is_quiet-clause-spread g c = λ t.
-    (let at : get_or c.args.pass.now.code.now c.args.pc (Push (pos 0)) ≡ instr_at c.args.pass.now.code.now c.args.pc = get_or_default c.args.pass.now.code.now c.args.pc _ Ret c.requires.in_code in
-    quiet_spread c.args.pass.now.resource c.args.pass.now.earlier.now c.args.pass.now.code.now c.args.pass.now.layout.now c.requires.ready c.args.pc c.args.best.now.items (sym (ap is_quiet at) ∙ sym c.is_quiet.ensures ∙ c.if-is_quiet.true))
+    (let at : get_or c.args.pass.now.code.now c.args.pc (Push (pos 0)) ≡ instr_at c.args.pass.now.code.now c.args.pc =
+    get_or_default c.args.pass.now.code.now c.args.pc _ Ret c.requires.in_code in
+    quiet_spread c.args.pass.now.resource c.args.pass.now.earlier.now c.args.pass.now.code.now c.args.pass.now.layout.now c.requires.ready
+    c.args.pc c.args.best.now.items (sym (ap is_quiet at) ∙ sym c.is_quiet.ensures ∙ c.if-is_quiet.true))

@@ -10,8 +10,13 @@ loop-i-preserved g c =
     let to = get_or c.args.places.now c.loop-i.i 0 in
     let within : to < length c.args.best.now.items = c.requires.inside c.loop-i.i 0 c.loop-i-test.true in
     let r = c.raise_at.ensures.raised c.if-not-raise_at.false in
-    subst (IsSent c.args.values.now (λ pc. depth_of c.args.pass.now.resource (names_in c.args.pass.now.layout.now pc)) c.args.pass.now.most (take (c.loop-i.i + 1) c.args.places.now) c.args.best.now.items) (sym r.1.0)
-    (sent_more c.args.values.now (λ pc. depth_of c.args.pass.now.resource (names_in c.args.pass.now.layout.now pc)) c.args.pass.now.most c.args.places.now c.loop-i.i to c.args.best.now.items c.loop-i.best.items r.0 c.loop-i-test.true refl within c.loop-i.invariant r.1.1)
+    subst (IsSent c.args.values.now (λ pc. depth_of c.args.pass.now.resource (names_in c.args.pass.now.layout.now pc)) c.args.pass.now.most
+    (take (c.loop-i.i + 1) c.args.places.now) c.args.best.now.items) (sym r.1.0)
+    (sent_more c.args.values.now (λ pc. depth_of c.args.pass.now.resource (names_in c.args.pass.now.layout.now pc)) c.args.pass.now.most
+    c.args.places.now c.loop-i.i to c.args.best.now.items c.loop-i.best.items r.0 c.loop-i-test.true refl within c.loop-i.invariant
+    r.1.1)
 
 pub returns-then-not-raise_at-clause-over : goal.returns-then-not-raise_at-clause-over
-returns-then-not-raise_at-clause-over g c = λ e. stopped_at c.args.values.now (λ pc. depth_of c.args.pass.now.resource (names_in c.args.pass.now.layout.now pc)) c.args.pass.now.most c.args.places.now c.loop-i.i (get_or c.args.places.now c.loop-i.i 0) c.loop-i-test.true refl (c.raise_at.ensures.over c.if-not-raise_at.true)
+returns-then-not-raise_at-clause-over g c = λ e. stopped_at c.args.values.now
+    (λ pc. depth_of c.args.pass.now.resource (names_in c.args.pass.now.layout.now pc)) c.args.pass.now.most c.args.places.now c.loop-i.i
+    (get_or c.args.places.now c.loop-i.i 0) c.loop-i-test.true refl (c.raise_at.ensures.over c.if-not-raise_at.true)

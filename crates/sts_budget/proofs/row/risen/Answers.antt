@@ -6,7 +6,8 @@ pub loop-d-preserved : goal.loop-d-preserved
 loop-d-preserved g c =
     let within : c.loop-d.d < length c.loop-d.values = omega (arith, c.loop-d.invariant.0) in (
       length-set c.loop-d.values c.loop-d.d _ ∙ c.loop-d.invariant.0,
-      set_below (λ d x. x ≡ min (get_or c.args.row.now d 0 + c.args.amount) 18446744073709551615) c.loop-d.values c.loop-d.d _ within c.loop-d.invariant.1 c.saturating_add.ensures,
+      set_below (λ d x. x ≡ min (get_or c.args.row.now d 0 + c.args.amount) 18446744073709551615) c.loop-d.values c.loop-d.d _ within
+          c.loop-d.invariant.1 c.saturating_add.ensures,
     )
 
 pub returns : goal.returns

@@ -7,7 +7,8 @@ use Rattle.sts_budget.proofs.together.budgets_by.Goals as goal
 pub loop-pc-init : goal.loop-pc-init
 loop-pc-init g c =
     let whole = rw c.in-Some.is at (c.in_ok-tables.ensures {u = tt}) in
-    λ k. top_start k c.args.source.now.earlier.now c.args.source.now.code.now c.args.source.now.layout.now c.requires.ready (rows_of c.in-Some.tables k) (whole k) (top_of c.in_ok-tops.tops k) (c.in_ok-tops.ensures {u = tt} k)
+    λ k. top_start k c.args.source.now.earlier.now c.args.source.now.code.now c.args.source.now.layout.now c.requires.ready
+    (rows_of c.in-Some.tables k) (whole k) (top_of c.in_ok-tops.tops k) (c.in_ok-tops.ensures {u = tt} k)
 
 pub add-requires : goal.add-requires
 add-requires g c =
@@ -23,4 +24,5 @@ returns g c =
     let whole = rw c.in-Some.is at (c.in_ok-tables.ensures {u = tt}) in
     let n : c.loop-pc.pc ≡ length c.args.source.now.code.now = omega arith in
     λ k. subst (λ m. IsMost k c.args.source.now.earlier.now c.args.source.now.code.now m × (m ≤ limit_of k)) (sym (c.budgets_of.ensures k))
-    (top_end k c.args.source.now.earlier.now c.args.source.now.code.now c.args.source.now.layout.now c.requires.ready (rows_of c.in-Some.tables k) (whole k) (top_of c.loop-pc.tops k) c.loop-pc.pc (own_of k) n refl (c.loop-pc.invariant k))
+    (top_end k c.args.source.now.earlier.now c.args.source.now.code.now c.args.source.now.layout.now c.requires.ready
+    (rows_of c.in-Some.tables k) (whole k) (top_of c.loop-pc.tops k) c.loop-pc.pc (own_of k) n refl (c.loop-pc.invariant k))

@@ -13,4 +13,6 @@ cancel-requires g c none =
 pub returns : goal.returns
 returns g c x is =
     let at = written c.args.tree.now c.mark_expired.new.self c.args.s x (record x { expired = true }) is (c.mark_expired.ensures x is) in
-    c.cancel.ensures (record x { expired = true }) at ∙ cancel_seen c.mark_expired.new.self (with_scope c.args.tree.now c.args.s (record x { expired = true })) c.args.s (record x { expired = true }) (c.mark_expired.ensures x is)
+    c.cancel.ensures (record x { expired = true }) at ∙ cancel_seen c.mark_expired.new.self
+    (with_scope c.args.tree.now c.args.s (record x { expired = true })) c.args.s (record x { expired = true })
+    (c.mark_expired.ensures x is)

@@ -19,17 +19,30 @@ raise-requires g c = has_record c.args.tree.now c.loop.tree c.args.s c.loop.coun
 pub living_after-at-requires : goal.living_after-at-requires
 living_after-at-requires g c =
     let r : Raises c.args.tree.now c.loop.tree c.args.s c.loop.counter (Some c.in-Some.t) = rw c.in-Some.is at c.loop.invariant in
-    let p = some_task (get_or c.loop.tree.tasks c.in-Some.t None) (has_record c.args.tree.now c.loop.tree c.args.s c.loop.counter c.in-Some.t r) in
-    let n = step c.args.tree.now c.loop.tree c.raise.new.self c.args.s c.loop.counter c.in-Some.t _ p.0 r p.1 (c.raise.ensures p.0 p.1) refl in
-    (c.args.s, take c.loop.counter (births (lives_in c.args.s) 0 c.args.tree.now.tasks), drop (suc c.loop.counter) (births (lives_in c.args.s) 0 c.args.tree.now.tasks), n.same ∙ sym r.same ∙ stands_next c.args.tree.now c.loop.tree c.args.s c.loop.counter c.in-Some.t r)
+    let p = some_task (get_or c.loop.tree.tasks c.in-Some.t None)
+    (has_record c.args.tree.now c.loop.tree c.args.s c.loop.counter c.in-Some.t r) in
+    let n =
+    step c.args.tree.now c.loop.tree c.raise.new.self c.args.s c.loop.counter c.in-Some.t _ p.0 r p.1 (c.raise.ensures p.0 p.1) refl in (
+      c.args.s,
+      take c.loop.counter (births (lives_in c.args.s) 0 c.args.tree.now.tasks),
+      drop (suc c.loop.counter)
+          (births (lives_in c.args.s) 0 c.args.tree.now.tasks),
+      n.same ∙ sym r.same ∙ stands_next c.args.tree.now c.loop.tree c.args.s
+          c.loop.counter c.in-Some.t r,
+    )
 
 pub loop-preserved : goal.loop-preserved
 loop-preserved g c =
     let r : Raises c.args.tree.now c.loop.tree c.args.s c.loop.counter (Some c.in-Some.t) = rw c.in-Some.is at c.loop.invariant in
-    let p = some_task (get_or c.loop.tree.tasks c.in-Some.t None) (has_record c.args.tree.now c.loop.tree c.args.s c.loop.counter c.in-Some.t r) in
-    let n = step c.args.tree.now c.loop.tree c.raise.new.self c.args.s c.loop.counter c.in-Some.t _ p.0 r p.1 (c.raise.ensures p.0 p.1) refl in
-    let after = c.living_after-at.ensures c.args.s (take c.loop.counter (births (lives_in c.args.s) 0 c.args.tree.now.tasks)) (drop (suc c.loop.counter) (births (lives_in c.args.s) 0 c.args.tree.now.tasks)) (n.same ∙ sym r.same ∙ stands_next c.args.tree.now c.loop.tree c.args.s c.loop.counter c.in-Some.t r) in
-    rw add-one (step c.args.tree.now c.loop.tree c.raise.new.self c.args.s c.loop.counter c.in-Some.t c.living_after-at.result p.0 r p.1 (c.raise.ensures p.0 p.1) after)
+    let p = some_task (get_or c.loop.tree.tasks c.in-Some.t None)
+    (has_record c.args.tree.now c.loop.tree c.args.s c.loop.counter c.in-Some.t r) in
+    let n =
+    step c.args.tree.now c.loop.tree c.raise.new.self c.args.s c.loop.counter c.in-Some.t _ p.0 r p.1 (c.raise.ensures p.0 p.1) refl in
+    let after = c.living_after-at.ensures c.args.s (take c.loop.counter (births (lives_in c.args.s) 0 c.args.tree.now.tasks))
+    (drop (suc c.loop.counter) (births (lives_in c.args.s) 0 c.args.tree.now.tasks))
+    (n.same ∙ sym r.same ∙ stands_next c.args.tree.now c.loop.tree c.args.s c.loop.counter c.in-Some.t r) in
+    rw add-one (step c.args.tree.now c.loop.tree c.raise.new.self c.args.s c.loop.counter c.in-Some.t c.living_after-at.result p.0 r p.1
+    (c.raise.ensures p.0 p.1) after)
 
 pub returns : goal.returns
 returns g c =

@@ -17,7 +17,8 @@ returns-in-None g c =
 pub returns-in-Ok : goal.returns-in-Ok
 returns-in-Ok g c =
     let sinks = same_file (g.S.Sinks.same c.args.sinks.now) (g.S.Sinks.said_yes c.args.sinks.now) (g.S.Sinks.said_yes c.made.new.sinks) in
-    let spares : def.Spares sinks c.args.wanted.file.now c.args.wanted.outside c.args.wanted.trace = rw c.in-Some.is (c.in-Ok.ensures.said, c.in-Ok.ensures.file, c.in-Ok.ensures.outside) in
+    let spares : def.Spares sinks c.args.wanted.file.now c.args.wanted.outside c.args.wanted.trace =
+    rw c.in-Some.is (c.in-Ok.ensures.said, c.in-Ok.ensures.file, c.in-Ok.ensures.outside) in
     IfOk-weaker c.play_traced.result _ _
     (λ s h. printed_of _ _ _ _ _ _ s h.0 spares c.as_slice-program.ensures.value c.as_slice-outside.ensures.value h.1 h.2)
     c.play_traced.ensures

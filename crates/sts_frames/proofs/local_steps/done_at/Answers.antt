@@ -29,4 +29,5 @@ no_other i n1 n2 n3 n4 n5 n6 n7 n8 n9 n10 n11 n12 n13 n14 n15 n16 = cc
 pub returns-in_default-clause-which : goal.returns-in_default-clause-which
 returns-in_default-clause-which c =
     let n = c.in_default in
-    no_other c.args.instr.now n.not-Push n.not-Pop n.not-Dup n.not-Swap n.not-Load n.not-Store n.not-Add n.not-Sub n.not-Mul n.not-Lt n.not-Eq n.not-Div n.not-Jmp n.not-Jz n.not-Times n.not-Next
+    no_other c.args.instr.now n.not-Push n.not-Pop n.not-Dup n.not-Swap n.not-Load n.not-Store n.not-Add n.not-Sub n.not-Mul n.not-Lt
+    n.not-Eq n.not-Div n.not-Jmp n.not-Jz n.not-Times n.not-Next

@@ -9,4 +9,5 @@ set_after-requires g c k e =
     last_link (g.S.Links.at c.args.store.now c.args.layer) keys _ k is.linked (sym is.last ∙ e)
 
 pub returns-clause-list : goal.returns-clause-list
-returns-clause-list g c keys is new = rw c.if_none.ensures (pushed _ _ _ _ _ _ keys is new c.set_after.ensures.links c.set_link.ensures.set c.set_link.ensures.others)
+returns-clause-list g c keys is new =
+    rw c.if_none.ensures (pushed _ _ _ _ _ _ keys is new c.set_after.ensures.links c.set_link.ensures.set c.set_link.ensures.others)

@@ -12,4 +12,5 @@ pub set_before-requires : goal.set_before-requires
 set_before-requires g c k e = after_link _ _ _ _ _ _ _ _ k c.requires.2 c.link-link.ensures c.set_after.ensures.links e
 
 pub returns-clause-list : goal.returns-clause-list
-returns-clause-list g c front back is = rw (c.if_none.ensures, c.if_none-2.ensures) (unlinked _ _ _ _ _ _ _ front back is c.link-link.ensures c.set_after.ensures.links c.set_before.ensures.links)
+returns-clause-list g c front back is = rw (c.if_none.ensures, c.if_none-2.ensures)
+    (unlinked _ _ _ _ _ _ _ front back is c.link-link.ensures c.set_after.ensures.links c.set_before.ensures.links)

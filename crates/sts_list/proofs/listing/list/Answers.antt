@@ -11,8 +11,10 @@ returns-clause-again c =
     let l = c.loop-function in
     let p : Program = c.args.program.now in
     let past : length p.routines ≤ l.function-index = rw c.functions-function-items.ensures.value at c.loop-function-test.false in
-    let whole : string_bytes l.out ≡ listing p = l.invariant.lines ∙ ap (λ (rs : List Routine). profile_line p.profile ++ flat_map (function_lines p) rs) (take_all l.function-index p.routines past) in
-    listed_again p (string_bytes l.out) whole c.functions-function-items.ensures.checked (all_taken FitsRoutine p.routines l.function-index past l.invariant.fits)
+    let whole : string_bytes l.out ≡ listing p = l.invariant.lines ∙ ap
+    (λ (rs : List Routine). profile_line p.profile ++ flat_map (function_lines p) rs) (take_all l.function-index p.routines past) in
+    listed_again p (string_bytes l.out) whole c.functions-function-items.ensures.checked
+    (all_taken FitsRoutine p.routines l.function-index past l.invariant.fits)
 
 pub loop-function-preserved : goal.loop-function-preserved
 loop-function-preserved c =
@@ -22,7 +24,8 @@ loop-function-preserved c =
     let small : l.function-index < length p.routines = rw c.functions-function-items.ensures.value at c.loop-function-test.true in
     let here : r ≡ get_or p.routines l.function-index r = rw c.functions-function-items.ensures.value at c.function-item.is in
     record {
-      lines = more_texts (function_lines p) (profile_line p.profile) (string_bytes l.out) (string_bytes c.write_function.new.out) p.routines l.function-index r small here l.invariant.lines c.in_ok-write_function.ensures.lines;
+      lines = more_texts (function_lines p) (profile_line p.profile) (string_bytes l.out) (string_bytes c.write_function.new.out) p.routines
+          l.function-index r small here l.invariant.lines c.in_ok-write_function.ensures.lines;
       fits = all_with FitsRoutine p.routines l.function-index r small here l.invariant.fits c.in_ok-write_function.ensures.fits;
     }
 

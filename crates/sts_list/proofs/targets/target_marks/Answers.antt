@@ -22,5 +22,6 @@ pub returns-clause-named : goal.returns-clause-named
 returns-clause-named c = λ pc small.
     let l = c.loop-instr in
     let code = c.args.code.now in
-    ap (λ (marks : List Bool). get_or marks pc false) (l.invariant ∙ ap (λ is. with_marks (replicate (length code) false) (flat_map targets is)) (take_all l.instr-index code c.loop-instr-test.false))
+    ap (λ (marks : List Bool). get_or marks pc false) (l.invariant ∙ ap
+    (λ is. with_marks (replicate (length code) false) (flat_map targets is)) (take_all l.instr-index code c.loop-instr-test.false))
     ∙ marked_all (flat_map targets code) (length code) pc small

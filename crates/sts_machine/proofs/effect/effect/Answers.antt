@@ -109,7 +109,8 @@ returns-in_default-clause-rest c =
     let v = live_of m in
     let t = c.args.t in
     as_are v _ _ (unseen_of m) _ _ t c.quiet.ensures.live c.quiet.ensures.unseen
-    (changes-quiet v _ (unseen_of m) t (quiet-effect c.args.program.now v t c.args.instr.now (others_quiet c.args.instr.now n.not-Open n.not-Fork n.not-Close n.not-Bind n.not-Unbind n.not-Ret n.not-Fail)))
+    (changes-quiet v _ (unseen_of m) t (quiet-effect c.args.program.now v t c.args.instr.now
+    (others_quiet c.args.instr.now n.not-Open n.not-Fork n.not-Close n.not-Bind n.not-Unbind n.not-Ret n.not-Fail)))
 
 pub returns-in-Open-clause-own : goal.returns-in-Open-clause-own
 returns-in-Open-clause-own c = λ e. ap (λ (u : Unseen). stand_in u c.args.t) c.open.ensures.unseen.1
@@ -155,7 +156,8 @@ returns-in_default-clause-stays c = λ e.
     let n = c.in_default in
     let v = live_of c.args.store.now in
     ap (λ (x : Live). lives_in x c.args.t) c.quiet.ensures.live
-    ∙ lives_quiet v _ c.args.t (quiet-effect c.args.program.now v c.args.t c.args.instr.now (others_quiet c.args.instr.now n.not-Open n.not-Fork n.not-Close n.not-Bind n.not-Unbind n.not-Ret n.not-Fail))
+    ∙ lives_quiet v _ c.args.t (quiet-effect c.args.program.now v c.args.t c.args.instr.now
+    (others_quiet c.args.instr.now n.not-Open n.not-Fork n.not-Close n.not-Bind n.not-Unbind n.not-Ret n.not-Fail))
     ∙ c.requires.lives
 
 pub returns-in-Close-clause-stays : goal.returns-in-Close-clause-stays
@@ -175,13 +177,16 @@ returns-in-Fail-clause-ended c = λ e.
     ∙ ended_dead (live_of c.args.store.now) c.args.t _ c.requires.lives
 
 pub returns-in-Open-clause-live : goal.returns-in-Open-clause-live
-returns-in-Open-clause-live c = c.open.ensures.live ∙ ap (live_effect c.args.program.now (live_of c.args.store.now) c.args.t (frame_of c.args.store.now c.args.t)) (sym c.in-Open.is)
+returns-in-Open-clause-live c = c.open.ensures.live ∙ ap
+    (live_effect c.args.program.now (live_of c.args.store.now) c.args.t (frame_of c.args.store.now c.args.t)) (sym c.in-Open.is)
 
 pub returns-in-Bind-clause-live : goal.returns-in-Bind-clause-live
-returns-in-Bind-clause-live c = c.bind.ensures.live ∙ ap (live_effect c.args.program.now (live_of c.args.store.now) c.args.t (frame_of c.args.store.now c.args.t)) (sym c.in-Bind.is)
+returns-in-Bind-clause-live c = c.bind.ensures.live ∙ ap
+    (live_effect c.args.program.now (live_of c.args.store.now) c.args.t (frame_of c.args.store.now c.args.t)) (sym c.in-Bind.is)
 
 pub returns-in-Unbind-clause-live : goal.returns-in-Unbind-clause-live
-returns-in-Unbind-clause-live c = c.unbind.ensures.live ∙ ap (live_effect c.args.program.now (live_of c.args.store.now) c.args.t (frame_of c.args.store.now c.args.t)) (sym c.in-Unbind.is)
+returns-in-Unbind-clause-live c = c.unbind.ensures.live ∙ ap
+    (live_effect c.args.program.now (live_of c.args.store.now) c.args.t (frame_of c.args.store.now c.args.t)) (sym c.in-Unbind.is)
 
 pub returns-in-Fork-clause-live : goal.returns-in-Fork-clause-live
 returns-in-Fork-clause-live c =

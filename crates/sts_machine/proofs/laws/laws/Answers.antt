@@ -13,7 +13,8 @@ returns-clause-some c = some_task c.args.verified.now c.every_run.result c.every
 pub returns-clause-few : goal.returns-clause-few
 returns-clause-few c =
     let p = c.args.verified.now in
-    let checked : program_fault p.routines ≡ None = subst (λ (q : Program). program_fault q.routines ≡ None) c.program.ensures.value c.functions.ensures.checked in
+    let checked : program_fault p.routines ≡ None =
+    subst (λ (q : Program). program_fault q.routines ≡ None) c.program.ensures.value c.functions.ensures.checked in
     few_tasks p c.every_run.result c.program.ensures.accepted (some_function p checked) c.every_run.ensures.printed
 
 pub returns-clause-laws : goal.returns-clause-laws

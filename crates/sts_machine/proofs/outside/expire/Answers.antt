@@ -7,7 +7,8 @@ pub returns-clause-standing : goal.returns-clause-standing
 returns-clause-standing c =
     let v = live_of c.args.store.now in
     let p = c.args.program.now in
-    still_standing v _ _ (unseen_of c.args.store.now) _ c.expire.ensures.live c.expire.ensures.unseen (quiet-expire v c.args.s) p (c.expiries_move_none.ensures p v c.requires.order c.args.s) c.requires.standing
+    still_standing v _ _ (unseen_of c.args.store.now) _ c.expire.ensures.live c.expire.ensures.unseen (quiet-expire v c.args.s) p
+    (c.expiries_move_none.ensures p v c.requires.order c.args.s) c.requires.standing
 
 pub returns-clause-room : goal.returns-clause-room
 returns-clause-room c =

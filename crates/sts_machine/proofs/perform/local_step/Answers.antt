@@ -53,5 +53,6 @@ returns-clause-free c = λ e.
     let v = live_of c.args.store.now in
     let t = c.args.t in
     unwaiting_next p (live_of c.local-next.new.self) t _
-    (next_at p v (live_of c.local-next.new.self) t (frame_of c.args.store.now t) c.args.code.now c.args.instr.now _ c.requires.own_code c.requires.lives c.local-next.ensures.live c.local-next.ensures.next)
+    (next_at p v (live_of c.local-next.new.self) t (frame_of c.args.store.now t) c.args.code.now c.args.instr.now _ c.requires.own_code
+    c.requires.lives c.local-next.ensures.live c.local-next.ensures.next)
     (sym c.may_wait_next.ensures ∙ e)

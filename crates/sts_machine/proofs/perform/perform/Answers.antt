@@ -12,7 +12,8 @@ pub returns-then-ends_task-clause-standing : goal.returns-then-ends_task-clause-
 returns-then-ends_task-clause-standing c =
     stood_ended c.args.program.now (live_of c.effect.new.store) (unseen_of c.effect.new.store) c.args.t
     (others_stood c.args.program.now (live_of c.args.store.now) _ _ _ _ c.args.t c.effect.ensures.live
-    (λ i other. c.effects_move_one.ensures c.args.program.now (live_of c.args.store.now) c.requires.order c.args.t i c.args.instr.now c.requires.lives c.requires.fine other)
+    (λ i other. c.effects_move_one.ensures c.args.program.now (live_of c.args.store.now) c.requires.order c.args.t i c.args.instr.now
+    c.requires.lives c.requires.fine other)
     c.idle_stand_free.ensures c.requires.standing c.effect.ensures.rest)
     (c.effect.ensures.ended (sym c.ends_task.ensures ∙ c.if-ends_task.true))
 
@@ -28,7 +29,8 @@ say_stand-requires-clause-order c = subst InOrder (sym c.effect.ensures.live) c.
 pub say_stand-requires-clause-others : goal.say_stand-requires-clause-others
 say_stand-requires-clause-others c =
     others_stood c.args.program.now (live_of c.args.store.now) _ _ _ _ c.args.t c.effect.ensures.live
-    (λ i other. c.effects_move_one.ensures c.args.program.now (live_of c.args.store.now) c.requires.order c.args.t i c.args.instr.now c.requires.lives c.requires.fine other)
+    (λ i other. c.effects_move_one.ensures c.args.program.now (live_of c.args.store.now) c.requires.order c.args.t i c.args.instr.now
+    c.requires.lives c.requires.fine other)
     c.idle_stand_free.ensures c.requires.standing c.effect.ensures.rest
 
 pub say_stand-requires-clause-free : goal.say_stand-requires-clause-free

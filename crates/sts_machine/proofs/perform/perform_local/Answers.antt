@@ -15,7 +15,8 @@ say_stand_if_near-requires-clause-order c = subst InOrder (sym c.local_step-is_n
 pub say_stand_if_near-requires-clause-others : goal.say_stand_if_near-requires-clause-others
 say_stand_if_near-requires-clause-others c =
     others_stood c.args.program.now (live_of c.args.store.now) _ _ _ _ c.args.t c.local_step-is_near.ensures.live
-    (λ i other. c.effects_move_one.ensures c.args.program.now (live_of c.args.store.now) c.requires.order c.args.t i c.args.instr.now c.requires.lives c.requires.fine other)
+    (λ i other. c.effects_move_one.ensures c.args.program.now (live_of c.args.store.now) c.requires.order c.args.t i c.args.instr.now
+    c.requires.lives c.requires.fine other)
     c.idle_stand_free.ensures c.requires.standing c.local_step-is_near.ensures.rest
 
 pub say_stand_if_near-requires-clause-free : goal.say_stand_if_near-requires-clause-free

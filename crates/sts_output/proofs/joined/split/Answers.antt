@@ -7,7 +7,8 @@ use Rattle.sts_output.proofs.joined.split.Goals as goal
 
 pub returns-then-eq : goal.returns-then-eq
 returns-then-eq c =
-    let marked : is_mark c.in-Some.line.now ≡ true = sym (c.eq.ensures ∙ ap (λ xs. lib.Pointwise.pointwise lib.Dec.eqb c.in-Some.line.now xs) c.as_slice.ensures) ∙ c.if-eq.true in
+    let marked : is_mark c.in-Some.line.now ≡ true =
+    sym (c.eq.ensures ∙ ap (λ xs. lib.Pointwise.pointwise lib.Dec.eqb c.in-Some.line.now xs) c.as_slice.ensures) ∙ c.if-eq.true in
     let here = at_mark c.loop-line.rest.now c.in-Some.line.now c.in-Some.after.now c.in-Some.ensures.lines marked in
     record {
       text = sym (c.loop-line.invariant.text ∙ ap (λ (h : Halves). take c.loop-line.before c.args.input.now ++ h.text) here ∙ append-nil _);

@@ -11,7 +11,8 @@ ended f line i out all past is = sym (append-nil out) ∙ ap (λ (l : List ℕ).
 pub loop-b-preserved : goal.loop-b-preserved
 loop-b-preserved c =
     part_said c.loop-b.out.items c.push.new.self.items (c.shown_byte.result ∷ []) _ _ _ c.loop-b.invariant
-    (at_drop_more (map shown_byte) c.args.line.now c.loop-b.b-index 0 c.loop-b-test.true ∙ ap (λ (x : ℕ). x ∷ map shown_byte (drop (c.loop-b.b-index + 1) c.args.line.now)) (sym c.shown_byte.ensures))
+    (at_drop_more (map shown_byte) c.args.line.now c.loop-b.b-index 0 c.loop-b-test.true ∙ ap
+    (λ (x : ℕ). x ∷ map shown_byte (drop (c.loop-b.b-index + 1) c.args.line.now)) (sym c.shown_byte.ensures))
     c.in_ok-push.ensures.items
 
 pub returns : goal.returns

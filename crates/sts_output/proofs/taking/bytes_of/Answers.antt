@@ -18,7 +18,8 @@ returns-in_err-n-clause-lost g c =
 pub returns-then-n-eq0-clause-known : goal.returns-then-n-eq0-clause-known
 returns-then-n-eq0-clause-known g c =
     let read = Consumes-piece _ _ _ _ _ _ c.loop-taken.invariant.read c.in_ok-n.ensures.items c.in_ok-n.ensures.read in
-    whole c.args.most _ _ _ read (c.in_ok-n.ensures.end c.if-n-eq0.true) (piece_fits _ _ c.in_ok-n.n c.min-room.result _ _ c.in_ok-n.ensures.items c.in_ok-n.ensures.bound (omega arith))
+    whole c.args.most _ _ _ read (c.in_ok-n.ensures.end c.if-n-eq0.true)
+    (piece_fits _ _ c.in_ok-n.n c.min-room.result _ _ c.in_ok-n.ensures.items c.in_ok-n.ensures.bound (omega arith))
 
 pub returns-then-n-eq0-clause-read : goal.returns-then-n-eq0-clause-read
 returns-then-n-eq0-clause-read g c = Consumes-piece _ _ _ _ _ _ c.loop-taken.invariant.read c.in_ok-n.ensures.items c.in_ok-n.ensures.read

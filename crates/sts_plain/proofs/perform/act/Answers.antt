@@ -41,4 +41,5 @@ returns-in-Some-clause-ok c =
     let w = c.args.world.now in
     let frame = c.frame.ensures ∙ ap (λ (v : World). (task_at v c.args.t).frame) c.records.ensures in
     let at = ap (instr_at p) (sym frame) ∙ sym c.in-Some.ensures.value in
-    subst (λ (o : Option Instr). OnOk c.perform.result (c.perform.new.world ≡ run.perform p w c.args.t (task_at w c.args.t).frame o)) (sym at) c.perform.ensures.ok
+    subst (λ (o : Option Instr). OnOk c.perform.result (c.perform.new.world ≡ run.perform p w c.args.t (task_at w c.args.t).frame o))
+    (sym at) c.perform.ensures.ok

@@ -7,7 +7,8 @@ pub returns-clause-ending : goal.returns-clause-ending
 returns-clause-ending g c =
     let left = c.in_ok-left in
     let ours = left.ensures.program ∙ c.in-Ok-with_journal.ensures.program in
-    IfOk-weaker c.ending.result _ _ (λ r told. ended_given g.O.Outside.gives c.args.outside left.left.book c.args.verified.now r.end r.steps ours left.ensures.given told) c.ending.ensures.report
+    IfOk-weaker c.ending.result _ _ (λ r told. ended_given g.O.Outside.gives c.args.outside left.left.book c.args.verified.now r.end r.steps
+    ours left.ensures.given told) c.ending.ensures.report
 
 pub returns-clause-workers : goal.returns-clause-workers
 returns-clause-workers g c =
@@ -18,4 +19,6 @@ pub returns-clause-unfinished : goal.returns-clause-unfinished
 returns-clause-unfinished g c =
     let left = c.in_ok-left in
     let ours = left.ensures.program ∙ c.in-Ok-with_journal.ensures.program in
-    if_unfinished c.ending.result _ _ (unfinished_given g.O.Outside.gives c.args.outside left.left.book c.args.verified.now ours left.ensures.given) c.ending.ensures.unfinished
+    if_unfinished c.ending.result _ _
+    (unfinished_given g.O.Outside.gives c.args.outside left.left.book c.args.verified.now ours left.ensures.given)
+    c.ending.ensures.unfinished

@@ -40,7 +40,8 @@ returns-then-key-len-clause-lays g c =
     rw map-set (lays_set (slots_of cells) c.args.key (record { birth = c.args.birth; body = c.args.body }) (omega (arith, less, long, mapped)))
 
 pub returns-then-key-len-clause-whole : goal.returns-then-key-len-clause-whole
-returns-then-key-len-clause-whole g c whole = whole_set c.args.cells.now.items c.args.key (record { birth = Some c.args.birth; body = Some c.args.body }) (λ _. not_none (Some c.args.body) c.args.body refl) whole
+returns-then-key-len-clause-whole g c whole = whole_set c.args.cells.now.items c.args.key
+    (record { birth = Some c.args.birth; body = Some c.args.body }) (λ _. not_none (Some c.args.body) c.args.body refl) whole
 
 pub loop-cells-preserved : goal.loop-cells-preserved
 loop-cells-preserved g c =
@@ -55,7 +56,11 @@ loop-cells-preserved g c =
     }
 
 pub returns-clause-lays : goal.returns-clause-lays
-returns-clause-lays g c = lays_cell (slots_of c.args.cells.now.items) c.loop-cells.cells.items c.push_reserved-2.new.self.items c.args.key c.args.birth c.args.body c.push_reserved-2.ensures.items c.loop-cells.invariant.same (omega (arith, c.loop-cells.invariant.upto, c.len-in-loop-cells.ensures, c.loop-cells-test.false))
+returns-clause-lays g c = lays_cell (slots_of c.args.cells.now.items) c.loop-cells.cells.items c.push_reserved-2.new.self.items c.args.key
+    c.args.birth c.args.body c.push_reserved-2.ensures.items c.loop-cells.invariant.same
+    (omega (arith, c.loop-cells.invariant.upto, c.len-in-loop-cells.ensures, c.loop-cells-test.false))
 
 pub returns-clause-whole : goal.returns-clause-whole
-returns-clause-whole g c w = whole_push c.loop-cells.cells.items c.push_reserved-2.new.self.items (record { birth = Some c.args.birth; body = Some c.args.body }) c.push_reserved-2.ensures.items (λ _. not_none (Some c.args.body) c.args.body refl) (c.loop-cells.invariant.whole w)
+returns-clause-whole g c w = whole_push c.loop-cells.cells.items c.push_reserved-2.new.self.items
+    (record { birth = Some c.args.birth; body = Some c.args.body }) c.push_reserved-2.ensures.items
+    (λ _. not_none (Some c.args.body) c.args.body refl) (c.loop-cells.invariant.whole w)

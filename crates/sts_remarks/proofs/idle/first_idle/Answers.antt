@@ -6,4 +6,6 @@ use Rattle.sts_remarks.proofs.idle.first_idle.Goals as goal
 
 pub returns : goal.returns
 returns c =
-    subst (λ s. IfOk c.first_idle_after.result (λ r. option_map string_bytes r ≡ def.first_idle c.args.unit.now c.args.program.now s 1 c.args.events.now)) c.in_ok-position.ensures c.first_idle_after.ensures
+    subst (λ s. IfOk c.first_idle_after.result
+    (λ r. option_map string_bytes r ≡ def.first_idle c.args.unit.now c.args.program.now s 1 c.args.events.now)) c.in_ok-position.ensures
+    c.first_idle_after.ensures

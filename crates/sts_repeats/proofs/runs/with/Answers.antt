@@ -51,4 +51,5 @@ returns g c =
     let back : spread c.push_runs.new.runs.items ≡ after ++ spread (drop (i + 1) runs) =
     c.in_ok-push_runs.ensures ∙ ap (λ l. after ++ spread l) (between_to_end runs (i + 1) (length runs) (omega arith)) in
     with_in runs at i before run c.args.value (spread c.in_ok-after.after.items) after (spread c.push_runs.new.runs.items)
-    (found runs at i before run c.place_of-i.ensures c.index-runs-i.is) (few runs at i before run c.place_of-i.ensures c.index-runs-i.is) c.place_of-i.ensures.sum (ap spread c.in_ok-after.ensures) c.in_ok-push_with.ensures back
+    (found runs at i before run c.place_of-i.ensures c.index-runs-i.is) (few runs at i before run c.place_of-i.ensures c.index-runs-i.is)
+    c.place_of-i.ensures.sum (ap spread c.in_ok-after.ensures) c.in_ok-push_with.ensures back

@@ -18,7 +18,8 @@ cancel-requires c none =
     let is = c.requires.1 in
     let home = ap (λ (z : TaskNode). z.scope) (sym (same_Some c.node.result.now x (sym c.node.ensures.value ∙ is))) ∙ c.in-Some.is in
     let k = asking c.args.tree.now c.args.t x c.args.end c.in-Some.s home (sym (c.end_task-asks.ensures.asks x is) ∙ c.if-asks.true) in
-    let there : get_or c.end_task-asks.new.self.scopes c.in-Some.s None ≡ Some (told_scope k.scope c.args.end) = ap (λ (h : Forest Env). get_or h.scopes c.in-Some.s None) (c.end_task-asks.ensures.ended x is) ∙ k.now in
+    let there : get_or c.end_task-asks.new.self.scopes c.in-Some.s None ≡ Some (told_scope k.scope c.args.end) =
+    ap (λ (h : Forest Env). get_or h.scopes c.in-Some.s None) (c.end_task-asks.ensures.ended x is) ∙ k.now in
     let never : Some (told_scope k.scope c.args.end) ≡ None = sym there ∙ none in
     cc
 
@@ -28,7 +29,8 @@ returns-in-Some-clause-finished c x is =
     let home = ap (λ (z : TaskNode). z.scope) (sym (same_Some c.node.result.now x (sym c.node.ensures.value ∙ is))) ∙ c.in-Some.is in
     let k = asking c.args.tree.now c.args.t x c.args.end s home (sym (c.end_task-asks.ensures.asks x is) ∙ c.if-asks.true) in
     let mid = c.end_task-asks.ensures.ended x is in
-    let there : get_or c.end_task-asks.new.self.scopes s None ≡ Some (told_scope k.scope c.args.end) = ap (λ (h : Forest Env). get_or h.scopes s None) mid ∙ k.now in
+    let there : get_or c.end_task-asks.new.self.scopes s None ≡ Some (told_scope k.scope c.args.end) =
+    ap (λ (h : Forest Env). get_or h.scopes s None) mid ∙ k.now in
     c.cancel.ensures (told_scope k.scope c.args.end) there
     ∙ cancel_seen c.end_task-asks.new.self (ended c.args.tree.now c.args.t x c.args.end) s (told_scope k.scope c.args.end) mid
     ∙ ap seen (sym k.word)

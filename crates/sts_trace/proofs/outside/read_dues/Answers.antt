@@ -20,7 +20,8 @@ pub loop-line-preserved : goal.loop-line-preserved
 loop-line-preserved c =
     let l = c.loop-line in
     record {
-      read = rw c.in_ok-push.ensures.items (line_step due_line l.dues.items l.at l.rest.now c.in-Some.line.now c.in-Some.after.now c.in_ok-due.due c.in-Some.ensures.lines c.in_ok-due.ensures ∙ l.invariant.read);
+      read = rw c.in_ok-push.ensures.items (line_step due_line l.dues.items l.at l.rest.now c.in-Some.line.now c.in-Some.after.now
+          c.in_ok-due.due c.in-Some.ensures.lines c.in_ok-due.ensures ∙ l.invariant.read);
       count = omega (arith, c.in-Some.ensures.shorter, l.invariant.count);
     }
 

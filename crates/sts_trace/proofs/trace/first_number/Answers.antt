@@ -9,4 +9,5 @@ returns-in-48-clause-spelled c = sym (digit_first 0 c.args.text.now c.in-48.len_
 
 pub returns-in-49-to-57-clause-spelled : goal.returns-in-49-to-57-clause-spelled
 returns-in-49-to-57-clause-spelled c =
-    subst (λ (xs : List ℕ). IfSome c.with_digits.result (λ s. xs ≡ decimal s.0 ++ s.1.now)) (digit_first c.from.result c.args.text.now c.in-49-to-57.len_at_least (omega arith) (omega arith)) c.with_digits.ensures.spelled
+    subst (λ (xs : List ℕ). IfSome c.with_digits.result (λ s. xs ≡ decimal s.0 ++ s.1.now))
+    (digit_first c.from.result c.args.text.now c.in-49-to-57.len_at_least (omega arith) (omega arith)) c.with_digits.ensures.spelled

@@ -14,5 +14,7 @@ returns-in_default-clause-keys c = let (keys, is, size) = c.requires in (c.loop.
 
 pub loop-preserved : goal.loop-preserved
 loop-preserved c keys is size =
-    let r : Removes c.args.tasks.now.held c.loop.tasks.held keys c.loop.counter (Some c.in-Some.t) = rw c.in-Some.is at (c.loop.invariant keys is size) in
-    rw add-one (removes_next c.args.tasks.now.held c.loop.tasks.held c.discard.new.self keys c.loop.counter c.in-Some.t c.record.result.now _ r c.record.ensures c.discard.ensures.slots c.discard.ensures.keys c.discard.ensures.room refl)
+    let r : Removes c.args.tasks.now.held c.loop.tasks.held keys c.loop.counter (Some c.in-Some.t) =
+    rw c.in-Some.is at (c.loop.invariant keys is size) in
+    rw add-one (removes_next c.args.tasks.now.held c.loop.tasks.held c.discard.new.self keys c.loop.counter c.in-Some.t c.record.result.now
+    _ r c.record.ensures c.discard.ensures.slots c.discard.ensures.keys c.discard.ensures.room refl)

@@ -8,9 +8,11 @@ back_to-requires c = turn_fits c.args.instr c.args.arrivals.now.state c.state.re
 
 pub is_one-requires : goal.is_one-requires
 is_one-requires c =
-    (turn_of c.args.instr c.args.arrivals.now.state c.state.result.now c.back_to.result c.in-Some.start (λ q. (q < 4294967296) × (q < length c.args.arrivals.now.table)) c.state.ensures c.back_to.ensures c.in-Some.is c.requires).1
+    (turn_of c.args.instr c.args.arrivals.now.state c.state.result.now c.back_to.result c.in-Some.start
+    (λ q. (q < 4294967296) × (q < length c.args.arrivals.now.table)) c.state.ensures c.back_to.ensures c.in-Some.is c.requires).1
 
 pub returns-in-Some : goal.returns-in-Some
 returns-in-Some c =
     subst (λ o. IsTrue c.is_one.result ↔ IfSome o (λ q. get_or c.args.arrivals.now.table q Nothing ≡ One c.args.arrivals.now.state))
-    (sym (back_is c.args.instr c.args.arrivals.now.state c.state.result.now c.back_to.result (Some c.in-Some.start) c.state.ensures c.back_to.ensures c.in-Some.is)) c.is_one.ensures
+    (sym (back_is c.args.instr c.args.arrivals.now.state c.state.result.now c.back_to.result (Some c.in-Some.start) c.state.ensures
+    c.back_to.ensures c.in-Some.is)) c.is_one.ensures

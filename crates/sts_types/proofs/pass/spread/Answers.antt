@@ -13,6 +13,8 @@ loop-number-preserved c =
     let start : c.go_back.new.self.start ≡ c.loop-number.arrivals.start = ap (λ a. a.start) c.go_back.ensures in
     let here : ArriveAt c.loop-number.arrivals.table (slice_get (out c.args.arrivals.now.state) c.loop-number.number) c.arrive_along.new.self.table =
     subst (λ t. ArriveAt t (slice_get (out c.args.arrivals.now.state) c.loop-number.number) c.arrive_along.new.self.table) table
-    (subst (λ s. ArriveAt c.go_back.new.self.table (slice_get (out s) c.loop-number.number) c.arrive_along.new.self.table) state c.in_ok-arrive_along.ensures.table) in
-    let there = arrive_numbered (out c.args.arrivals.now.state) c.args.arrivals.now.table c.loop-number.arrivals.table c.arrive_along.new.self.table c.loop-number.number c.loop-number.invariant.2 here in
+    (subst (λ s. ArriveAt c.go_back.new.self.table (slice_get (out s) c.loop-number.number) c.arrive_along.new.self.table) state
+    c.in_ok-arrive_along.ensures.table) in
+    let there = arrive_numbered (out c.args.arrivals.now.state) c.args.arrivals.now.table c.loop-number.arrivals.table c.arrive_along.new.self.table
+    c.loop-number.number c.loop-number.invariant.2 here in
     (c.arrive_along.ensures.start ∙ start ∙ c.loop-number.invariant.0, there.1 ∙ c.loop-number.invariant.1, there.0)

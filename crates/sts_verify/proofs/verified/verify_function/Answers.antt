@@ -10,7 +10,8 @@ use Rattle.sts_verify.proofs.Verifying.{typing_refused, budget_tells}
 use Rattle.sts_verify.proofs.verified.verify_function.Goals as goal
 
 pub returns-in_err-typing : goal.returns-in_err-typing
-returns-in_err-typing c = typing_refused c.args.program.now c.args.function c.in_err-typing.field-0.0 c.from_residual.result _ c.in_err-typing.ensures c.from_residual.ensures.1
+returns-in_err-typing c = typing_refused c.args.program.now c.args.function c.in_err-typing.field-0.0 c.from_residual.result _
+    c.in_err-typing.ensures c.from_residual.ensures.1
 
 pub typed_budget-requires-clause-earlier : goal.typed_budget-requires-clause-earlier
 typed_budget-requires-clause-earlier c = subst (AreBudgets c.args.program.now) (sym c.as_slice.ensures.value) c.requires.right
@@ -22,14 +23,25 @@ at_end-requires c =
 
 pub returns-in-Ok-push : goal.returns-in-Ok-push
 returns-in-Ok-push c =
-    let found = subst (λ bs. IsFound bs (routine c.args.program.now c.args.function).code (Ok c.in-Ok.found)) c.as_slice.ensures.value c.in-Ok.ensures in
-    let more = budgets_more c.args.program.now c.args.budgets.now.items c.in-Ok.found c.args.function c.requires.long c.requires.right found.0 in
-    let sound : IsSound c.args.program.now c.args.function = record { typed = c.in_ok-typing.ensures.typed; earlier = c.args.budgets.now.items; long = c.requires.long; right = c.requires.right; within = found.1 } in
+    let found = subst (λ bs. IsFound bs (routine c.args.program.now c.args.function).code (Ok c.in-Ok.found)) c.as_slice.ensures.value
+    c.in-Ok.ensures in
+    let more =
+    budgets_more c.args.program.now c.args.budgets.now.items c.in-Ok.found c.args.function c.requires.long c.requires.right found.0 in
+    let sound : IsSound c.args.program.now c.args.function = record {
+      typed = c.in_ok-typing.ensures.typed;
+      earlier =
+          c.args.budgets.now.items;
+      long = c.requires.long;
+      right = c.requires.right;
+      within = found.1;
+    } in
     let items : c.push.new.self.items ≡ c.args.budgets.now.items ++ c.in-Ok.found ∷ [] = c.in-Ok-push.ensures.items in
     (sound, ap length items ∙ more.0, subst (AreBudgets c.args.program.now) (sym items) more.1)
 
 pub returns : goal.returns
 returns c =
     subst (TellsOf c.args.program.now c.args.function) (sym c.at_end.ensures)
-    (budget_tells c.args.program.now c.args.function c.args.budgets.now.items c.in-Err.error (length c.code_of-count.result.now) c.in_ok-typing.ensures.typed c.requires.long c.requires.right (ap length c.code_of-count.ensures.value)
-    (subst (λ bs. IsFound bs (routine c.args.program.now c.args.function).code (Err c.in-Err.error)) c.as_slice.ensures.value c.in-Err.ensures))
+    (budget_tells c.args.program.now c.args.function c.args.budgets.now.items c.in-Err.error (length c.code_of-count.result.now)
+    c.in_ok-typing.ensures.typed c.requires.long c.requires.right (ap length c.code_of-count.ensures.value)
+    (subst (λ bs. IsFound bs (routine c.args.program.now c.args.function).code (Err c.in-Err.error)) c.as_slice.ensures.value
+    c.in-Err.ensures))

@@ -13,7 +13,8 @@ copied_more ts old new i x y small here same before after =
 pub loop-tally-preserved : goal.loop-tally-preserved
 loop-tally-preserved c =
     let l = c.loop-tally in
-    copied_more c.args.tallies.now _ _ l.tally-index c.tally-item.result c.copied.result c.loop-tally-test.true c.tally-item.is c.copied.ensures l.invariant c.in_ok-push.ensures.items
+    copied_more c.args.tallies.now _ _ l.tally-index c.tally-item.result c.copied.result c.loop-tally-test.true c.tally-item.is
+    c.copied.ensures l.invariant c.in_ok-push.ensures.items
 
 pub returns : goal.returns
 returns c = c.loop-tally.invariant ∙ take_all c.loop-tally.tally-index c.args.tallies.now c.loop-tally-test.false

@@ -12,7 +12,9 @@ use Rattle.ends_picks.proofs.outcomes.Found.add_ways.Goals as goal
 
 pub loop-way-preserved : goal.loop-way-preserved
 loop-way-preserved c =
-    let there = λ (way : Way). (o : Outcome) → Among c.args.before.now o → is_within c.args.seen.now (after c.args.seen.now o (Some way.end)) ≡ true → Among c.add_all.new.self.outcomes.items (after c.args.seen.now o (Some way.end)) in
+    let there = λ (way : Way). (o : Outcome) → Among c.args.before.now o → is_within c.args.seen.now
+    (after c.args.seen.now o (Some way.end)) ≡ true → Among c.add_all.new.self.outcomes.items
+    (after c.args.seen.now o (Some way.end)) in
     let none : Way = record { end = Success (pos 0) } in
     let items = c.as_slice-way-items.result.now in
     record {
@@ -24,4 +26,6 @@ loop-way-preserved c =
 
 pub returns-clause-has : goal.returns-clause-has
 returns-clause-has c o e at may within =
-    each_way (λ (z : End). (o : Outcome) → Among c.args.before.now o → is_within c.args.seen.now (after c.args.seen.now o (Some z)) ≡ true → Among c.loop-way.self.outcomes.items (after c.args.seen.now o (Some z))) c.as_slice-way-items.result.now c.args.part.now.ways c.loop-way.way-index c.as_slice-way-items.ensures c.loop-way-test.false c.loop-way.invariant.has e may o at within
+    each_way (λ (z : End). (o : Outcome) → Among c.args.before.now o → is_within c.args.seen.now (after c.args.seen.now o (Some z)) ≡ true
+    → Among c.loop-way.self.outcomes.items (after c.args.seen.now o (Some z))) c.as_slice-way-items.result.now c.args.part.now.ways
+    c.loop-way.way-index c.as_slice-way-items.ensures c.loop-way-test.false c.loop-way.invariant.has e may o at within

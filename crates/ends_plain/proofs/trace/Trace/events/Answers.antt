@@ -16,10 +16,13 @@ pub loop-run-init : goal.loop-run-init
 loop-run-init c = c.new-events.ensures.items
 
 pub loop-run-preserved : goal.loop-run-preserved
-loop-run-preserved c = more run_events c.self.inside.runs.items c.as_slice-run-items.result.now c.loop-run.run-index _ c.loop-run.events.items c.push_run.new.events.items c.as_slice-run-items.ensures.value c.loop-run-test.true c.loop-run.invariant c.in_ok-push_run.ensures
+loop-run-preserved c = more run_events c.self.inside.runs.items c.as_slice-run-items.result.now c.loop-run.run-index _
+    c.loop-run.events.items c.push_run.new.events.items c.as_slice-run-items.ensures.value c.loop-run-test.true c.loop-run.invariant
+    c.in_ok-push_run.ensures
 
 pub returns : goal.returns
 returns c =
     c.in_ok-push_run-2.ensures
-    ∙ ap (λ l. l ++ run_events c.self.inside.last) (c.loop-run.invariant ∙ ap (flat_map run_events) (take_all c.loop-run.run-index c.self.inside.runs.items (rw c.as_slice-run-items.ensures.value at c.loop-run-test.false)))
+    ∙ ap (λ l. l ++ run_events c.self.inside.last) (c.loop-run.invariant ∙ ap (flat_map run_events)
+    (take_all c.loop-run.run-index c.self.inside.runs.items (rw c.as_slice-run-items.ensures.value at c.loop-run-test.false)))
     ∙ c.self.view_is

@@ -29,13 +29,18 @@ pub returns : goal.returns
 returns c =
     rw (← c.self.view_is)
     (elim c.if-eq.branch [
-      | then-eq+then-self-lt4294967295 w ↦ rw w.self-inside-is (grown c.self.inside.runs.items c.self.inside.last c.args.event (search rules))
-      | else-eq+in_ok-push w ↦ rw w.self-inside-is (started c.self.inside.runs.items w.push.new.self.items c.self.inside.last c.args.event w.in_ok-push.ensures.items)
+      | then-eq+then-self-lt4294967295 w ↦ rw w.self-inside-is
+          (grown c.self.inside.runs.items c.self.inside.last c.args.event (search rules))
+      | else-eq+in_ok-push w ↦ rw w.self-inside-is
+          (started c.self.inside.runs.items w.push.new.self.items c.self.inside.last c.args.event w.in_ok-push.ensures.items)
     ])
 
 pub invariant_of-self-2 : goal.invariant_of-self-2
 invariant_of-self-2 c =
     elim c.if-eq.branch [
-      | then-eq+then-self-lt4294967295 w ↦ rw w.self-inside-is (longer _ _ c.args.event c.self.inside.len c.in-Some.len (grown c.self.inside.runs.items c.self.inside.last c.args.event (search rules)) c.self.invariant c.in-Some.ensures.1)
-      | else-eq+in_ok-push w ↦ rw w.self-inside-is (longer _ _ c.args.event c.self.inside.len c.in-Some.len (started c.self.inside.runs.items w.push.new.self.items c.self.inside.last c.args.event w.in_ok-push.ensures.items) c.self.invariant c.in-Some.ensures.1)
+      | then-eq+then-self-lt4294967295 w ↦ rw w.self-inside-is (longer _ _ c.args.event c.self.inside.len c.in-Some.len
+          (grown c.self.inside.runs.items c.self.inside.last c.args.event (search rules)) c.self.invariant c.in-Some.ensures.1)
+      | else-eq+in_ok-push w ↦ rw w.self-inside-is (longer _ _ c.args.event c.self.inside.len c.in-Some.len
+          (started c.self.inside.runs.items w.push.new.self.items c.self.inside.last c.args.event w.in_ok-push.ensures.items)
+          c.self.invariant c.in-Some.ensures.1)
     ]

@@ -8,4 +8,6 @@ use Rattle.ends_table.proofs.around.Around.by_count.Goals as goal
 pub returns : goal.returns
 returns c =
     let a = c.args.self.now in
-    on_ok c.by_none.result c.by_none.ensures (λ leads. λ may many. subst (λ (x : Seen). Leads a.states.now (joined a.own.now c.args.place x (result_of x.joiner [] (length x.parts)) c.args.failed)) c.in_ok-after.ensures leads)
+    on_ok c.by_none.result c.by_none.ensures (λ leads. λ may many. subst
+    (λ (x : Seen). Leads a.states.now (joined a.own.now c.args.place x (result_of x.joiner [] (length x.parts)) c.args.failed))
+    c.in_ok-after.ensures leads)

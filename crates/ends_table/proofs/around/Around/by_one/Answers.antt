@@ -17,4 +17,5 @@ one_leads states own place seen after failed same leads i part e may counts =
     all i part e (record { known = may.known; way = may.way }) counts
 
 pub returns : goal.returns
-returns c = on_ok c.by_each.result c.by_each.ensures (λ leads. λ may one. one_leads c.args.self.now.states.now c.args.self.now.own.now c.args.place c.args.seen.now c.in_ok-after.after c.args.failed c.in_ok-after.ensures leads)
+returns c = on_ok c.by_each.result c.by_each.ensures (λ leads. λ may one. one_leads c.args.self.now.states.now c.args.self.now.own.now
+    c.args.place c.args.seen.now c.in_ok-after.after c.args.failed c.in_ok-after.ensures leads)

@@ -7,4 +7,5 @@ by_two P one other true = one
 by_two P one other false = other
 
 pub returns : goal.returns
-returns c = by_two (λ (counting : Bool). KindLeads c.args.self.now.states.now c.args.self.now.own.now c.args.place c.args.seen.now c.args.i c.args.part.now c.args.succeeds counting c.args.target) c.in_ok-case_by.ensures c.in_ok-case_by-2.ensures
+returns c = by_two (λ (counting : Bool). KindLeads c.args.self.now.states.now c.args.self.now.own.now c.args.place c.args.seen.now c.args.i
+    c.args.part.now c.args.succeeds counting c.args.target) c.in_ok-case_by.ensures c.in_ok-case_by-2.ensures

@@ -7,4 +7,5 @@ use Rattle.ends_table.proofs.around.Around.close.Goals as goal
 pub returns : goal.returns
 returns c =
     let a = c.args.self.now in
-    on_ok c.leads.result c.leads.ensures (λ led. close_leads a.program.now a.outside a.call.now a.states.now a.own.now c.args.slot (subst (λ o. Leads a.states.now o) c.in_ok-next.ensures led))
+    on_ok c.leads.result c.leads.ensures (λ led. close_leads a.program.now a.outside a.call.now a.states.now a.own.now c.args.slot
+    (subst (λ o. Leads a.states.now o) c.in_ok-next.ensures led))

@@ -5,7 +5,9 @@ use Rattle.ends_table.proofs.around.Around.each_count.Goals as goal
 
 pub loop-count-preserved : goal.loop-count-preserved
 loop-count-preserved c none =
-    number_more (λ (n : ℕ). CountLeads c.args.self.now.states.now c.args.self.now.own.now c.args.place c.args.seen.now c.args.kind n) c.in_ok-least.least c.loop-count.count (c.loop-count.invariant (c.in_ok-note.ensures.before none)) (by_ok c.tallied-step.result (c.in_ok-note.ensures.step none) c.tallied-step.ensures)
+    number_more (λ (n : ℕ). CountLeads c.args.self.now.states.now c.args.self.now.own.now c.args.place c.args.seen.now c.args.kind n)
+    c.in_ok-least.least c.loop-count.count (c.loop-count.invariant (c.in_ok-note.ensures.before none))
+    (by_ok c.tallied-step.result (c.in_ok-note.ensures.step none) c.tallied-step.ensures)
 
 pub returns : goal.returns
 returns c = on_ok c.none.result c.none.ensures (λ none. λ n is.

@@ -14,4 +14,5 @@ heard_leads states own place seen after failed same leads =
     subst (λ (n : ℕ). Leads states (joined own place (after_all seen) (result_of seen.joiner [] n) failed)) (length-map seen.parts ended) all
 
 pub returns : goal.returns
-returns c = on_ok c.by_none.result c.by_none.ensures (λ leads. λ free none. heard_leads c.args.self.now.states.now c.args.self.now.own.now c.args.place c.args.seen.now c.in_ok-after.after c.args.failed c.in_ok-after.ensures leads)
+returns c = on_ok c.by_none.result c.by_none.ensures (λ leads. λ free none. heard_leads c.args.self.now.states.now c.args.self.now.own.now
+    c.args.place c.args.seen.now c.in_ok-after.after c.args.failed c.in_ok-after.ensures leads)

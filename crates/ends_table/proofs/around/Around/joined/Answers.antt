@@ -6,4 +6,6 @@ use Rattle.laws_calls.specs.Steps.{Leads, to, with_seen}
 use Rattle.ends_table.proofs.around.Around.joined.Goals as goal
 
 pub returns : goal.returns
-returns c = subst (λ (f : Frame). OnOk c.leads.result (Leads c.args.self.now.states.now (to (with_seen c.args.self.now.own.now c.args.place (record c.args.seen { phase = Joined })) f))) c.in_ok-frame.ensures c.leads.ensures
+returns c = subst (λ (f : Frame). OnOk c.leads.result
+    (Leads c.args.self.now.states.now (to (with_seen c.args.self.now.own.now c.args.place (record c.args.seen { phase = Joined })) f)))
+    c.in_ok-frame.ensures c.leads.ensures

@@ -7,4 +7,5 @@ use Rattle.ends_table.proofs.around.Around.local.Goals as goal
 pub returns : goal.returns
 returns c =
     let a = c.args.self.now in
-    on_ok c.leads_by.result c.leads_by.ensures (λ led. local_leads a.program.now a.outside a.call.now a.states.now a.own.now c.args.instr c.requires (subst (λ f. Leads a.states.now (to a.own.now f)) c.in_ok-frame.ensures led))
+    on_ok c.leads_by.result c.leads_by.ensures (λ led. local_leads a.program.now a.outside a.call.now a.states.now a.own.now c.args.instr
+    c.requires (subst (λ f. Leads a.states.now (to a.own.now f)) c.in_ok-frame.ensures led))

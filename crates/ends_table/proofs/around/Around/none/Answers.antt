@@ -22,4 +22,5 @@ first_leads states own place seen after failed same leads i part e may fails ear
     subst (λ (n : ℕ). Leads states (joined own place (decided (after_all seen) i e part) (result_of seen.joiner (e ∷ []) n) failed)) (length-map seen.parts ended) (all i (ended part) e at first)
 
 pub returns : goal.returns
-returns c = on_ok c.by_each.result c.by_each.ensures (λ leads. λ free any. first_leads c.args.self.now.states.now c.args.self.now.own.now c.args.place c.args.seen.now c.in_ok-after.after c.args.failed c.in_ok-after.ensures leads)
+returns c = on_ok c.by_each.result c.by_each.ensures (λ leads. λ free any. first_leads c.args.self.now.states.now c.args.self.now.own.now
+    c.args.place c.args.seen.now c.in_ok-after.after c.args.failed c.in_ok-after.ensures leads)

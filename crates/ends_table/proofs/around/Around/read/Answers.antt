@@ -9,4 +9,5 @@ reads-requires c = get_less _ _ _ c.in_ok-place.ensures.known
 pub returns : goal.returns
 returns c =
     let a = c.args.self.now in
-    on_ok c.reads.result c.reads.ensures (λ led. reads_lead a.program.now a.outside a.call.now a.states.now a.own.now c.args.succeeds c.args.handle _ _ _ _ c.in_ok-place.ensures led)
+    on_ok c.reads.result c.reads.ensures (λ led. reads_lead a.program.now a.outside a.call.now a.states.now a.own.now c.args.succeeds
+    c.args.handle _ _ _ _ c.in_ok-place.ensures led)

@@ -11,5 +11,6 @@ returns c =
     record {
       row = row;
       is_row = c.in_ok-row.ensures;
-      leads = subst (λ (n : ℕ). LeadsBy n a.states.now (forked a.program.now a.own.now c.args.place c.args.seen.now row.ways c.args.function c.args.handle)) c.in_ok-born.ensures leads;
+      leads = subst (λ (n : ℕ). LeadsBy n a.states.now
+          (forked a.program.now a.own.now c.args.place c.args.seen.now row.ways c.args.function c.args.handle)) c.in_ok-born.ensures leads;
     })

@@ -12,4 +12,5 @@ returns c =
     let here = c.in_ok-get.ensures.lookup in
     let at : slice_get s.functions.items c.args.function ≡ Some c.in_ok-get.field-0.now =
     sym (ap (λ xs. slice_get xs c.args.function) c.deref.ensures.value) ∙ slice_get_read _ _ _ _ refl here.3.0 here.1 in
-    rw (← c.self.view_is) (found_at (λ x. option_map (λ n. n.now) x) name_in s.functions.items (filter begins_function (lines s.text.now)) c.args.function c.in_ok-get.field-0.now c.self.invariant.1 at)
+    rw (← c.self.view_is) (found_at (λ x. option_map (λ n. n.now) x) name_in s.functions.items (filter begins_function (lines s.text.now))
+    c.args.function c.in_ok-get.field-0.now c.self.invariant.1 at)

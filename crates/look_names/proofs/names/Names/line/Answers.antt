@@ -12,4 +12,5 @@ returns c =
     let here = c.in_ok-get.ensures.lookup in
     let at : slice_get s.lines.items (c.args.number - 1) ≡ Some c.in_ok-get.field-0.now =
     sym (ap₂ slice_get c.deref.ensures.value c.saturating_sub.ensures) ∙ slice_get_read _ _ _ _ refl here.3.0 here.1 in
-    rw (← c.self.view_is) (found_at (λ x. option_map (λ n. n.now) x) name_in s.lines.items (lines s.text.now) (c.args.number - 1) c.in_ok-get.field-0.now c.self.invariant.0 at)
+    rw (← c.self.view_is) (found_at (λ x. option_map (λ n. n.now) x) name_in s.lines.items (lines s.text.now) (c.args.number - 1)
+    c.in_ok-get.field-0.now c.self.invariant.0 at)

@@ -16,4 +16,5 @@ returns-clause-words c =
     let two : List ℕ = string_bytes c.push_str.new.self in
     let three : List ℕ = string_bytes c.write_origin.new.out in
     on_ok_weaker c.write_origin.result
-    (two_parts before (part ++ from) way two three (two_parts before part from one two c.in_ok-write_part.ensures.words c.in_ok-push_str.ensures.bytes)) c.write_origin.ensures
+    (two_parts before (part ++ from) way two three
+    (two_parts before part from one two c.in_ok-write_part.ensures.words c.in_ok-push_str.ensures.bytes)) c.write_origin.ensures

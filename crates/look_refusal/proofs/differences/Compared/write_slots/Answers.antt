@@ -14,4 +14,5 @@ loop-slot-preserved c =
     let l = c.loop-slot in
     let t = c.args.self.now in
     let m = t.meeting.now in
-    slot_said m (way_words t m.one) (way_words t m.other) l.slot (string_bytes c.args.out.now) (string_bytes l.out) (string_bytes c.write_difference.new.out) l.invariant c.in_ok-write_difference.ensures
+    slot_said m (way_words t m.one) (way_words t m.other) l.slot (string_bytes c.args.out.now) (string_bytes l.out)
+    (string_bytes c.write_difference.new.out) l.invariant c.in_ok-write_difference.ensures

@@ -14,6 +14,7 @@ returns c =
     let head : List ℕ = codes "accepted\n" in
     let said : c.say.new.out.items ≡ head = c.in_ok-say.ensures ∙ ap (λ (b : List ℕ). b ++ head) c.new-bytes.ensures.items in
     let all : c.note_lines.new.out.items ≡ head ++ note_lines o p c.in_ok-notes.notes.items =
-    c.in_ok-note_lines.ensures ∙ ap (λ (b : List ℕ). b ++ note_lines o p notes) said ∙ ap (λ (ns : List Note). head ++ note_lines o p ns) c.as_slice.ensures.value in
+    c.in_ok-note_lines.ensures ∙ ap (λ (b : List ℕ). b ++ note_lines o p notes) said ∙ ap (λ (ns : List Note). head ++ note_lines o p ns)
+    c.as_slice.ensures.value in
     let made : (b : List ℕ) → Output = λ b. record { bytes = b; status = 0 } in
     accepted c.in_ok-notes.notes.items (record { sound = c.requires.sound }) c.in_ok-notes.ensures (ap made all)

@@ -16,10 +16,12 @@ weight_lines-requires c =
 pub returns-in-None : goal.returns-in-None
 returns-in-None c =
     let u : IsUntold c.args.self.program.now c.args.function c.args.resource = rw c.in-None.is at c.in_ok-heaviest.ensures in
-    nothing_told c.args.self.program.now c.args.self.outline.now c.args.function c.args.pc (cause_of c.args.resource) c.args.out.now.items (heavy_cause c.args.resource) (untold_budget c.args.self.program.now c.args.function c.args.pc c.args.resource c.requires.1 u)
+    nothing_told c.args.self.program.now c.args.self.outline.now c.args.function c.args.pc (cause_of c.args.resource) c.args.out.now.items
+    (heavy_cause c.args.resource) (untold_budget c.args.self.program.now c.args.function c.args.pc c.args.resource c.requires.1 u)
 
 pub returns-in-Some : goal.returns-in-Some
 returns-in-Some c =
     on_ok_weaker c.weight_lines.result
-    (heavy_told c.args.self.program.now c.args.self.outline.now c.args.function c.args.pc c.args.resource c.in-Some.heavy c.args.out.now.items c.weight_lines.new.out.items
+    (heavy_told c.args.self.program.now c.args.self.outline.now c.args.function c.args.pc c.args.resource c.in-Some.heavy
+    c.args.out.now.items c.weight_lines.new.out.items
     (rw c.in-Some.is at c.in_ok-heaviest.ensures)) c.weight_lines.ensures

@@ -13,5 +13,6 @@ returns-in-None c =
 pub returns-in-Some : goal.returns-in-Some
 returns-in-Some c =
     on_ok_weaker c.difference_lines.result
-    (meeting_told c.args.self.program.now c.args.self.outline.now c.args.function c.args.pc c.in-Some.meeting c.args.out.now.items c.difference_lines.new.out.items
+    (meeting_told c.args.self.program.now c.args.self.outline.now c.args.function c.args.pc c.in-Some.meeting c.args.out.now.items
+    c.difference_lines.new.out.items
     (rw c.in-Some.is at c.in_ok-find_meeting.ensures)) c.difference_lines.ensures

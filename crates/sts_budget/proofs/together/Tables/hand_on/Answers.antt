@@ -39,8 +39,11 @@ pub step_on-requires : goal.step_on-requires
 step_on-requires g c =
     let (at, quiet) = not_quiet c.args.source.now.code.now c.args.pc _ c.requires.in_code c.is_quiet.ensures c.if-is_quiet.false in
     let goes = sym (ap goes_straight_on at) ∙ c.only_steps.ensures.straight c.if-only_steps.true in
-    let next : c.args.pc + 1 < length c.args.source.now.code.now = leads_in Steps c.args.source.now.earlier.now c.args.source.now.code.now c.args.source.now.layout.now c.requires.ready c.args.pc (c.args.pc + 1) quiet (subst (λ ps. Among ps (c.args.pc + 1)) (straight (instr_at c.args.source.now.code.now c.args.pc) c.args.pc goes) (inl refl)) in
-    let inside : (k : Resource) → c.args.pc + 1 < length (rows_of c.args.self.now k) = λ k. (let long = c.requires.rows k in omega (arith, next, long)) in
+    let next : c.args.pc + 1 < length c.args.source.now.code.now = leads_in Steps c.args.source.now.earlier.now c.args.source.now.code.now
+    c.args.source.now.layout.now c.requires.ready c.args.pc (c.args.pc + 1) quiet
+    (subst (λ ps. Among ps (c.args.pc + 1)) (straight (instr_at c.args.source.now.code.now c.args.pc) c.args.pc goes) (inl refl)) in
+    let inside : (k : Resource) → c.args.pc + 1 < length (rows_of c.args.self.now k) =
+    λ k. (let long = c.requires.rows k in omega (arith, next, long)) in
     search (rules, inside, c.requires.small)
 
 pub returns-then-only_steps : goal.returns-then-only_steps
@@ -48,15 +51,22 @@ returns-then-only_steps g c = λ yes k.
     (let (at, quiet) = not_quiet c.args.source.now.code.now c.args.pc _ c.requires.in_code c.is_quiet.ensures c.if-is_quiet.false in
     let ordinary = sym (ap is_ordinary at) ∙ c.only_steps.ensures.ordinary c.if-only_steps.true in
     let goes = sym (ap goes_straight_on at) ∙ c.only_steps.ensures.straight c.if-only_steps.true in
-    carried_spread k c.args.source.now.earlier.now c.args.source.now.code.now c.args.source.now.layout.now c.requires.ready (width g.row.N k) c.args.pc (rows_of c.args.self.now k) (rows_of c.step_on.new.self k) (fits_width g.row.N c.args.source.now.layout.now c.requires.fits k) quiet ordinary goes (c.step_on.ensures yes k))
+    carried_spread k c.args.source.now.earlier.now c.args.source.now.code.now c.args.source.now.layout.now c.requires.ready
+    (width g.row.N k) c.args.pc (rows_of c.args.self.now k) (rows_of c.step_on.new.self k)
+    (fits_width g.row.N c.args.source.now.layout.now c.requires.fits k) quiet ordinary goes (c.step_on.ensures yes k))
 
 pub returns-then-is_quiet : goal.returns-then-is_quiet
 returns-then-is_quiet g c = λ yes k.
-    (let at : get_or c.args.source.now.code.now c.args.pc (Push (pos 0)) ≡ instr_at c.args.source.now.code.now c.args.pc = get_or_default c.args.source.now.code.now c.args.pc _ Ret c.requires.in_code in
-    quiet_spread k c.args.source.now.earlier.now c.args.source.now.code.now c.args.source.now.layout.now c.requires.ready c.args.pc (rows_of c.args.self.now k) (sym (ap is_quiet at) ∙ sym c.is_quiet.ensures ∙ c.if-is_quiet.true))
+    (let at : get_or c.args.source.now.code.now c.args.pc (Push (pos 0)) ≡ instr_at c.args.source.now.code.now c.args.pc =
+    get_or_default c.args.source.now.code.now c.args.pc _ Ret c.requires.in_code in
+    quiet_spread k c.args.source.now.earlier.now c.args.source.now.code.now c.args.source.now.layout.now c.requires.ready c.args.pc
+    (rows_of c.args.self.now k) (sym (ap is_quiet at) ∙ sym c.is_quiet.ensures ∙ c.if-is_quiet.true))
 
 pub returns : goal.returns
 returns g c = λ yes k.
     (let (at, quiet) = not_quiet c.args.source.now.code.now c.args.pc _ c.requires.in_code c.is_quiet.ensures c.if-is_quiet.false in
-    let sent = subst (λ i. IsSent (sums_of c.handed-values.result k) (λ q. depth_of k (names_in c.args.source.now.layout.now q)) (most k) (targets i ++ next_place c.args.pc i) (rows_of c.args.self.now k) (rows_of c.send_on.new.self k)) at (c.send_on.ensures yes k) in
-    sent_spread k c.args.source.now.earlier.now c.args.source.now.code.now c.args.source.now.layout.now c.requires.ready (width g.row.N k) c.args.pc (most k) (sums_of c.handed-values.result k) (rows_of c.args.self.now k) (rows_of c.send_on.new.self k) (fits_width g.row.N c.args.source.now.layout.now c.requires.fits k) quiet (most_small k) (c.handed-values.ensures k) sent)
+    let sent = subst (λ i. IsSent (sums_of c.handed-values.result k) (λ q. depth_of k (names_in c.args.source.now.layout.now q)) (most k)
+    (targets i ++ next_place c.args.pc i) (rows_of c.args.self.now k) (rows_of c.send_on.new.self k)) at (c.send_on.ensures yes k) in
+    sent_spread k c.args.source.now.earlier.now c.args.source.now.code.now c.args.source.now.layout.now c.requires.ready (width g.row.N k)
+    c.args.pc (most k) (sums_of c.handed-values.result k) (rows_of c.args.self.now k) (rows_of c.send_on.new.self k)
+    (fits_width g.row.N c.args.source.now.layout.now c.requires.fits k) quiet (most_small k) (c.handed-values.ensures k) sent)

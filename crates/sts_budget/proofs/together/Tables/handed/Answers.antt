@@ -6,16 +6,40 @@ use Rattle.sts_budget.proofs.TogetherLemmas.{each}
 use Rattle.sts_budget.proofs.together.Tables.handed.Goals as goal
 
 pub values_of-requires : goal.values_of-requires
-values_of-requires g c = (omega (arith, c.requires.small), (omega (arith, c.requires.small), (c.requires.ready, ((λ q. omega arith), (c.requires.in_code, ap length c.as_slice.ensures.value ∙ c.requires.rows Steps)))))
+values_of-requires g c = (
+  omega (arith, c.requires.small),
+  (
+    omega (arith, c.requires.small),
+    (c.requires.ready, ((λ q. omega arith), (c.requires.in_code, ap length c.as_slice.ensures.value ∙ c.requires.rows Steps))),
+  ),
+)
 
 pub values_of-requires-2 : goal.values_of-requires-2
-values_of-requires-2 g c = (omega (arith, c.requires.small), (omega (arith, c.requires.small), (c.requires.ready, (c.requires.fits, (c.requires.in_code, ap length c.as_slice-2.ensures.value ∙ c.requires.rows Tasks)))))
+values_of-requires-2 g c = (
+  omega (arith, c.requires.small),
+  (
+    omega (arith, c.requires.small),
+    (c.requires.ready, (c.requires.fits, (c.requires.in_code, ap length c.as_slice-2.ensures.value ∙ c.requires.rows Tasks))),
+  ),
+)
 
 pub values_of-requires-3 : goal.values_of-requires-3
-values_of-requires-3 g c = (omega (arith, c.requires.small), (omega (arith, c.requires.small), (c.requires.ready, (c.requires.fits, (c.requires.in_code, ap length c.as_slice-3.ensures.value ∙ c.requires.rows Scopes)))))
+values_of-requires-3 g c = (
+  omega (arith, c.requires.small),
+  (
+    omega (arith, c.requires.small),
+    (c.requires.ready, (c.requires.fits, (c.requires.in_code, ap length c.as_slice-3.ensures.value ∙ c.requires.rows Scopes))),
+  ),
+)
 
 pub values_of-requires-4 : goal.values_of-requires-4
-values_of-requires-4 g c = (omega (arith, c.requires.small), (omega (arith, c.requires.small), (c.requires.ready, (c.requires.fits, (c.requires.in_code, ap length c.as_slice-4.ensures.value ∙ c.requires.rows Binds)))))
+values_of-requires-4 g c = (
+  omega (arith, c.requires.small),
+  (
+    omega (arith, c.requires.small),
+    (c.requires.ready, (c.requires.fits, (c.requires.in_code, ap length c.as_slice-4.ensures.value ∙ c.requires.rows Binds))),
+  ),
+)
 
 pub returns : goal.returns
 returns g c = each _

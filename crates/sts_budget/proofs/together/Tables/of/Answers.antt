@@ -11,10 +11,14 @@ use Rattle.sts_budget.proofs.together.Tables.of.Goals as goal
 
 pub loop-pc-init : goal.loop-pc-init
 loop-pc-init g c = each _
-    (partial_none Steps c.args.source.now.earlier.now c.args.source.now.code.now c.args.source.now.layout.now c.requires.ready 1 c.in_ok-steps.steps.items (c.in_ok-steps.ensures {u = tt}))
-    (partial_none Tasks c.args.source.now.earlier.now c.args.source.now.code.now c.args.source.now.layout.now c.requires.ready g.row.N c.in_ok-tasks.tasks.items (c.in_ok-tasks.ensures {u = tt}))
-    (partial_none Scopes c.args.source.now.earlier.now c.args.source.now.code.now c.args.source.now.layout.now c.requires.ready g.row.N c.in_ok-scopes.scopes.items (c.in_ok-scopes.ensures {u = tt}))
-    (partial_none Binds c.args.source.now.earlier.now c.args.source.now.code.now c.args.source.now.layout.now c.requires.ready g.row.N c.in_ok-binds.binds.items (c.in_ok-binds.ensures {u = tt}))
+    (partial_none Steps c.args.source.now.earlier.now c.args.source.now.code.now c.args.source.now.layout.now c.requires.ready 1
+    c.in_ok-steps.steps.items (c.in_ok-steps.ensures {u = tt}))
+    (partial_none Tasks c.args.source.now.earlier.now c.args.source.now.code.now c.args.source.now.layout.now c.requires.ready g.row.N
+    c.in_ok-tasks.tasks.items (c.in_ok-tasks.ensures {u = tt}))
+    (partial_none Scopes c.args.source.now.earlier.now c.args.source.now.code.now c.args.source.now.layout.now c.requires.ready g.row.N
+    c.in_ok-scopes.scopes.items (c.in_ok-scopes.ensures {u = tt}))
+    (partial_none Binds c.args.source.now.earlier.now c.args.source.now.code.now c.args.source.now.layout.now c.requires.ready g.row.N
+    c.in_ok-binds.binds.items (c.in_ok-binds.ensures {u = tt}))
 
 pub hand_on-requires : goal.hand_on-requires
 hand_on-requires g c =
@@ -23,9 +27,13 @@ hand_on-requires g c =
     search (rules, rows, within, c.requires.ready, c.requires.small, c.requires.fits)
 
 pub loop-pc-preserved : goal.loop-pc-preserved
-loop-pc-preserved g c = λ k. partial_next k c.args.source.now.earlier.now c.args.source.now.code.now c.args.source.now.layout.now c.requires.ready c.loop-pc.pc (rows_of c.loop-pc.tables k) (rows_of c.hand_on.new.self k) (c.loop-pc.invariant k) (c.hand_on.ensures c.if-not-hand_on.false k)
+loop-pc-preserved g c = λ k. partial_next k c.args.source.now.earlier.now c.args.source.now.code.now c.args.source.now.layout.now
+    c.requires.ready c.loop-pc.pc (rows_of c.loop-pc.tables k) (rows_of c.hand_on.new.self k) (c.loop-pc.invariant k)
+    (c.hand_on.ensures c.if-not-hand_on.false k)
 
 pub returns : goal.returns
 returns g c = λ k.
     (let n : c.loop-pc.pc ≡ length c.args.source.now.code.now = omega arith in
-    subst (λ n. IsPartial (skeleton c.args.source.now.earlier.now c.args.source.now.code.now) (flows_in k c.args.source.now.earlier.now c.args.source.now.code.now c.args.source.now.layout.now) n (rows_of c.loop-pc.tables k)) n (c.loop-pc.invariant k))
+    subst (λ n. IsPartial (skeleton c.args.source.now.earlier.now c.args.source.now.code.now)
+    (flows_in k c.args.source.now.earlier.now c.args.source.now.code.now c.args.source.now.layout.now) n (rows_of c.loop-pc.tables k)) n
+    (c.loop-pc.invariant k))

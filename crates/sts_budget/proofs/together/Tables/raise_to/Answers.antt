@@ -26,7 +26,11 @@ raise_row-requires-4 g c =
 
 pub returns : goal.returns
 returns g c = λ yes. each _
-    (subst (λ m. IsRaisedAt c.args.values.now.steps 0 m c.args.to c.args.self.now.steps.items c.raise_row.new.best.items) c.most_of-steps.ensures (c.raise_row.ensures.raised c.if-not-raise_row.false))
-    (subst (λ m. IsRaisedAt c.args.values.now.tasks c.args.low m c.args.to c.args.self.now.tasks.items c.raise_row-2.new.best.items) c.most_of-tasks.ensures (c.raise_row-2.ensures.raised c.if-not-raise_row-2.false))
-    (subst (λ m. IsRaisedAt c.args.values.now.scopes c.args.low m c.args.to c.args.self.now.scopes.items c.raise_row-3.new.best.items) c.most_of-scopes.ensures (c.raise_row-3.ensures.raised c.if-not-raise_row-3.false))
-    (subst (λ m. IsRaisedAt c.args.values.now.binds c.args.low m c.args.to c.args.self.now.binds.items c.raise_row-4.new.best.items) c.most_of-binds.ensures (c.raise_row-4.ensures.raised yes))
+    (subst (λ m. IsRaisedAt c.args.values.now.steps 0 m c.args.to c.args.self.now.steps.items c.raise_row.new.best.items)
+    c.most_of-steps.ensures (c.raise_row.ensures.raised c.if-not-raise_row.false))
+    (subst (λ m. IsRaisedAt c.args.values.now.tasks c.args.low m c.args.to c.args.self.now.tasks.items c.raise_row-2.new.best.items)
+    c.most_of-tasks.ensures (c.raise_row-2.ensures.raised c.if-not-raise_row-2.false))
+    (subst (λ m. IsRaisedAt c.args.values.now.scopes c.args.low m c.args.to c.args.self.now.scopes.items c.raise_row-3.new.best.items)
+    c.most_of-scopes.ensures (c.raise_row-3.ensures.raised c.if-not-raise_row-3.false))
+    (subst (λ m. IsRaisedAt c.args.values.now.binds c.args.low m c.args.to c.args.self.now.binds.items c.raise_row-4.new.best.items)
+    c.most_of-binds.ensures (c.raise_row-4.ensures.raised yes))

@@ -11,11 +11,13 @@ use Rattle.sts_budget.proofs.TogetherLemmas.{as_many, sent_next}
 use Rattle.sts_budget.proofs.together.Tables.send.Goals as goal
 
 pub loop-i-init : goal.loop-i-init
-loop-i-init g c = λ k. sent_none (sums_of c.args.values.now k) (λ pc. depth_of k (names_in c.args.layout.now pc)) (most k) c.args.places.now (rows_of c.args.self.now k)
+loop-i-init g c = λ k. sent_none (sums_of c.args.values.now k) (λ pc. depth_of k (names_in c.args.layout.now pc)) (most k) c.args.places.now
+    (rows_of c.args.self.now k)
 
 pub entries-requires : goal.entries-requires
 entries-requires g c =
-    (let lt : get_or c.args.places.now c.loop-i.i 0 < length (rows_of c.args.self.now Steps) = c.requires.inside Steps c.loop-i.i 0 c.loop-i-test.true in let e = c.requires.named Steps in omega arith)
+    (let lt : get_or c.args.places.now c.loop-i.i 0 < length (rows_of c.args.self.now Steps) = c.requires.inside Steps c.loop-i.i 0
+    c.loop-i-test.true in let e = c.requires.named Steps in omega arith)
 
 pub raise_to-requires : goal.raise_to-requires
 raise_to-requires g c =
@@ -31,11 +33,17 @@ raise_to-requires g c =
 
 pub loop-i-preserved : goal.loop-i-preserved
 loop-i-preserved g c = λ k.
-    (let there : c.len.result ≡ length (names_in c.args.layout.now (get_or c.args.places.now c.loop-i.i 0)) = as_many _ _ _ c.len.ensures.len c.entries.ensures in
-    let raised = subst (λ n. IsRaisedAt (sums_of c.args.values.now k) (over_open k n) (most k) (get_or c.args.places.now c.loop-i.i 0) (rows_of c.loop-i.self k) (rows_of c.raise_to.new.self k)) there (c.raise_to.ensures c.if-not-raise_to.false k) in
-    sent_next k (sums_of c.args.values.now k) c.args.layout.now c.args.places.now c.loop-i.i (get_or c.args.places.now c.loop-i.i 0) (rows_of c.args.self.now k) (rows_of c.loop-i.self k) (rows_of c.raise_to.new.self k) c.loop-i-test.true refl (c.requires.inside k c.loop-i.i 0 c.loop-i-test.true) (c.loop-i.invariant k) raised)
+    (let there : c.len.result ≡ length (names_in c.args.layout.now (get_or c.args.places.now c.loop-i.i 0)) =
+    as_many _ _ _ c.len.ensures.len c.entries.ensures in
+    let raised = subst (λ n. IsRaisedAt (sums_of c.args.values.now k) (over_open k n) (most k) (get_or c.args.places.now c.loop-i.i 0)
+    (rows_of c.loop-i.self k) (rows_of c.raise_to.new.self k)) there (c.raise_to.ensures c.if-not-raise_to.false k) in
+    sent_next k (sums_of c.args.values.now k) c.args.layout.now c.args.places.now c.loop-i.i (get_or c.args.places.now c.loop-i.i 0)
+    (rows_of c.args.self.now k) (rows_of c.loop-i.self k) (rows_of c.raise_to.new.self k) c.loop-i-test.true refl
+    (c.requires.inside k c.loop-i.i 0 c.loop-i-test.true) (c.loop-i.invariant k) raised)
 
 pub returns : goal.returns
 returns g c = λ yes k.
     (let all : c.loop-i.i ≡ length c.args.places.now = omega arith in
-    subst (λ ps. IsSent (sums_of c.args.values.now k) (λ pc. depth_of k (names_in c.args.layout.now pc)) (most k) ps (rows_of c.args.self.now k) (rows_of c.loop-i.self k)) (ap (λ n. take n c.args.places.now) all ∙ take-length c.args.places.now) (c.loop-i.invariant k))
+    subst (λ ps. IsSent (sums_of c.args.values.now k) (λ pc. depth_of k (names_in c.args.layout.now pc)) (most k) ps
+    (rows_of c.args.self.now k) (rows_of c.loop-i.self k)) (ap (λ n. take n c.args.places.now) all ∙ take-length c.args.places.now)
+    (c.loop-i.invariant k))

@@ -13,14 +13,18 @@ use Rattle.sts_budget.proofs.together.Tables.send_on.Goals as goal
 pub entries-requires : goal.entries-requires
 entries-requires g c =
     let e = straight c.args.instr c.args.pc (sym c.goes_straight_on.ensures ∙ c.if-goes_straight_on.true) in
-    let within : c.args.pc + 1 < length (rows_of c.args.self.now Steps) = subst (λ ps. (i d : ℕ) → i < length ps → get_or ps i d < length (rows_of c.args.self.now Steps)) (sym e) (c.requires.inside Steps) 0 0 (omega arith) in
+    let within : c.args.pc + 1 < length (rows_of c.args.self.now Steps) = subst
+    (λ ps. (i d : ℕ) → i < length ps → get_or ps i d < length (rows_of c.args.self.now Steps)) (sym e) (c.requires.inside Steps) 0 0
+    (omega arith) in
     let named = c.requires.named Steps in
     omega arith
 
 pub raise_to-requires : goal.raise_to-requires
 raise_to-requires g c =
     let e = straight c.args.instr c.args.pc (sym c.goes_straight_on.ensures ∙ c.if-goes_straight_on.true) in
-    let inside : (k : Resource) → c.args.pc + 1 < length (rows_of c.args.self.now k) = λ k. subst (λ ps. (i d : ℕ) → i < length ps → get_or ps i d < length (rows_of c.args.self.now k)) (sym e) (c.requires.inside k) 0 0 (omega arith) in
+    let inside : (k : Resource) → c.args.pc + 1 < length (rows_of c.args.self.now k) = λ k. subst
+    (λ ps. (i d : ℕ) → i < length ps → get_or ps i d < length (rows_of c.args.self.now k)) (sym e) (c.requires.inside k) 0 0
+    (omega arith) in
     let there : c.len.result ≡ length (names_in c.args.layout.now (c.args.pc + 1)) = as_many _ _ _ c.len.ensures.len c.entries.ensures in
     let few : length (names_in c.args.layout.now (c.args.pc + 1)) < g.row.N = c.requires.fits (c.args.pc + 1) in
     let low : c.len.result < g.row.N = omega arith in
@@ -29,16 +33,25 @@ raise_to-requires g c =
 pub send-requires : goal.send-requires
 send-requires g c =
     let places = c.as_slice.ensures.value ∙ c.next_places-places.ensures in
-    let inside : (k : Resource) (i d : ℕ) → i < length c.as_slice.result.now → get_or c.as_slice.result.now i d < length (rows_of c.args.self.now k) = λ k. subst (λ ps. (i d : ℕ) → i < length ps → get_or ps i d < length (rows_of c.args.self.now k)) (sym places) (c.requires.inside k) in
+    let inside : (k : Resource) (i d : ℕ) → i < length c.as_slice.result.now → get_or c.as_slice.result.now i d < length
+    (rows_of c.args.self.now k) = λ k. subst (λ ps. (i d : ℕ) → i < length ps → get_or ps i d < length (rows_of c.args.self.now k))
+    (sym places) (c.requires.inside k) in
     search (rules, inside, c.requires.small, c.requires.named, c.requires.fits)
 
 pub returns-then-goes_straight_on : goal.returns-then-goes_straight_on
 returns-then-goes_straight_on g c = λ yes k.
     (let e = straight c.args.instr c.args.pc (sym c.goes_straight_on.ensures ∙ c.if-goes_straight_on.true) in
-    let within : c.args.pc + 1 < length (rows_of c.args.self.now k) = subst (λ ps. (i d : ℕ) → i < length ps → get_or ps i d < length (rows_of c.args.self.now k)) (sym e) (c.requires.inside k) 0 0 (omega arith) in
-    let low : over_open k c.len.result ≡ depth_of k (names_in c.args.layout.now (c.args.pc + 1)) = ap (over_open k) (as_many _ _ _ c.len.ensures.len c.entries.ensures) ∙ open_depth k (names_in c.args.layout.now (c.args.pc + 1)) in
-    let raised = subst (λ n. IsRaisedAt (sums_of c.args.values.now k) n (most k) (c.args.pc + 1) (rows_of c.args.self.now k) (rows_of c.raise_to.new.self k)) low (c.raise_to.ensures yes k) in
-    subst (λ ps. IsSent (sums_of c.args.values.now k) (λ q. depth_of k (names_in c.args.layout.now q)) (most k) ps (rows_of c.args.self.now k) (rows_of c.raise_to.new.self k)) e (sent_one (sums_of c.args.values.now k) (λ q. depth_of k (names_in c.args.layout.now q)) (most k) (c.args.pc + 1) (rows_of c.args.self.now k) (rows_of c.raise_to.new.self k) within raised))
+    let within : c.args.pc + 1 < length (rows_of c.args.self.now k) =
+    subst (λ ps. (i d : ℕ) → i < length ps → get_or ps i d < length (rows_of c.args.self.now k)) (sym e) (c.requires.inside k) 0 0 (omega arith) in
+    let low : over_open k c.len.result ≡ depth_of k (names_in c.args.layout.now (c.args.pc + 1)) =
+    ap (over_open k) (as_many _ _ _ c.len.ensures.len c.entries.ensures) ∙ open_depth k (names_in c.args.layout.now (c.args.pc + 1)) in
+    let raised = subst (λ n. IsRaisedAt (sums_of c.args.values.now k) n (most k) (c.args.pc + 1) (rows_of c.args.self.now k) (rows_of c.raise_to.new.self k))
+    low (c.raise_to.ensures yes k) in
+    subst (λ ps. IsSent (sums_of c.args.values.now k) (λ q. depth_of k (names_in c.args.layout.now q)) (most k) ps (rows_of c.args.self.now k)
+    (rows_of c.raise_to.new.self k)) e (sent_one (sums_of c.args.values.now k) (λ q. depth_of k (names_in c.args.layout.now q)) (most k) (c.args.pc + 1)
+    (rows_of c.args.self.now k) (rows_of c.raise_to.new.self k) within raised))
 
 pub returns : goal.returns
-returns g c = λ yes k. subst (λ ps. IsSent (sums_of c.args.values.now k) (λ q. depth_of k (names_in c.args.layout.now q)) (most k) ps (rows_of c.args.self.now k) (rows_of c.send.new.self k)) (c.as_slice.ensures.value ∙ c.next_places-places.ensures) (c.send.ensures yes k)
+returns g c = λ yes k. subst (λ ps. IsSent (sums_of c.args.values.now k) (λ q. depth_of k (names_in c.args.layout.now q)) (most k) ps
+    (rows_of c.args.self.now k) (rows_of c.send.new.self k)) (c.as_slice.ensures.value ∙ c.next_places-places.ensures)
+    (c.send.ensures yes k)

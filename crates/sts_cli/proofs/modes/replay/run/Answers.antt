@@ -13,5 +13,7 @@ returns c =
     let state_is = c.state_of-state.ensures ∙ ap ended_or_running c.root_end.ensures.seen ∙ alike.0 in
     let steps_is = c.steps-steps.ensures.seen ∙ alike.1 in
     IfOk-weaker c.state_output.result _ _
-    (λ a h. def.accepted c.program.ensures.accepted (h ∙ ap (λ (q : Program). def.state_output q c.state_of-state.result c.steps-steps.result) c.program.ensures.value ∙ ap₂ (def.state_output c.args.verified.now) state_is steps_is))
+    (λ a h. def.accepted c.program.ensures.accepted (h ∙ ap
+    (λ (q : Program). def.state_output q c.state_of-state.result c.steps-steps.result) c.program.ensures.value ∙ ap₂
+    (def.state_output c.args.verified.now) state_is steps_is))
     c.state_output.ensures

@@ -13,5 +13,6 @@ returns-in-Ok g c =
     let outside = c.args.outside.now in
     let told : judged text ≡ Ok p = c.in-Ok.ensures in
     IfOk-weaker c.with_outside.result _ _
-    (λ r h. told_as c.args.manner.kept (OutsideRuns p (outside_read outside)) (TextRuns (judged text) outside) r (λ o is. subst (λ x. TextRuns x outside o) (sym told) is) h)
+    (λ r h. told_as c.args.manner.kept (OutsideRuns p (outside_read outside)) (TextRuns (judged text) outside) r
+    (λ o is. subst (λ x. TextRuns x outside o) (sym told) is) h)
     c.with_outside.ensures

@@ -6,7 +6,9 @@ use Rattle.sts_cli.proofs.modes.run.run_accepted.Goals as goal
 pub returns-in-Ok : goal.returns-in-Ok
 returns-in-Ok g c =
     let lines = c.in_ok-budgets.ensures in
-    IfOk-weaker c.reported.result _ _ (λ r h. reported_run c.args.manner.kept c.args.verified.now c.args.dues _ c.in-Ok.report r lines.accepted lines c.in-Ok.ensures h) c.reported.ensures
+    IfOk-weaker c.reported.result _ _
+    (λ r h. reported_run c.args.manner.kept c.args.verified.now c.args.dues _ c.in-Ok.report r lines.accepted lines c.in-Ok.ensures h)
+    c.reported.ensures
 
 pub returns-in-Err : goal.returns-in-Err
 returns-in-Err g c =

@@ -13,7 +13,9 @@ overflow_add-result c =
 pub returns : goal.returns
 returns c =
     let left = rw (← c.self.view_is) at c.requires.room in
-    let b = binds _ _ _ _ _ c.insert_reserved-front.result c.insert_reserved-front.ensures.was_vacant c.insert_reserved-front.ensures.updates.changed c.insert_reserved-front.ensures.updates.others (rw (← c.self.view_is) at c.requires.whole) refl (add-one _) in
+    let b = binds _ _ _ _ _ c.insert_reserved-front.result c.insert_reserved-front.ensures.was_vacant
+    c.insert_reserved-front.ensures.updates.changed c.insert_reserved-front.ensures.updates.others
+    (rw (← c.self.view_is) at c.requires.whole) refl (add-one _) in
     record {
       whole = b.whole;
       list = rw (← c.self.view_is) b.list;

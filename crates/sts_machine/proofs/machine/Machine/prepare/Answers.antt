@@ -12,7 +12,8 @@ invariant_of-result c =
     let p = c.args.verified.now in
     let unseen = c.in_ok-store.ensures.unseen in
     let view : live_of c.in_ok-store.store ≡ live_opening p =
-    c.in_ok-store.ensures.live ∙ ap root_alone (c.main_frame.ensures ∙ ap (λ (q : Program). entry_frame (length q.routines - 1) [] Empty) c.program.ensures.value) in
+    c.in_ok-store.ensures.live ∙ ap root_alone
+    (c.main_frame.ensures ∙ ap (λ (q : Program). entry_frame (length q.routines - 1) [] Empty) c.program.ensures.value) in
     begins p c.in_ok-store.store c.laws-budgets.result unseen.0 c.laws-budgets.ensures.laws c.laws-budgets.ensures.printed
     c.run_is_seen.ensures c.stands_are_owned.ensures view unseen.1
 
@@ -20,5 +21,6 @@ pub returns-clause-stands : goal.returns-clause-stands
 returns-clause-stands c =
     let p = c.args.verified.now in
     let view : live_of c.in_ok-store.store ≡ live_opening p =
-    c.in_ok-store.ensures.live ∙ ap root_alone (c.main_frame.ensures ∙ ap (λ (q : Program). entry_frame (length q.routines - 1) [] Empty) c.program.ensures.value) in
+    c.in_ok-store.ensures.live ∙ ap root_alone
+    (c.main_frame.ensures ∙ ap (λ (q : Program). entry_frame (length q.routines - 1) [] Empty) c.program.ensures.value) in
     stands_begun p (live_of c.in_ok-store.store) c.run_is_seen.ensures view

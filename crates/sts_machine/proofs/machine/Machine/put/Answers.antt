@@ -28,20 +28,23 @@ say_stand-requires-clause-others c =
 
 pub overflow_add-self : goal.overflow_add-self
 overflow_add-self c =
-    let g = puts c.self.invariant c.self.view_is c.requires c.task-task.ensures c.frame-frame.ensures.value (c.from.ensures ∙ c.count-2.ensures.value) c.frame-frame.ensures.local in
+    let g = puts c.self.invariant c.self.view_is c.requires c.task-task.ensures c.frame-frame.ensures.value
+    (c.from.ensures ∙ c.count-2.ensures.value) c.frame-frame.ensures.local in
     let few = g.few in
     omega (arith, few)
 
 pub invariant_of-self : goal.invariant_of-self
 invariant_of-self c =
-    let g = puts c.self.invariant c.self.view_is c.requires c.task-task.ensures c.frame-frame.ensures.value (c.from.ensures ∙ c.count-2.ensures.value) c.frame-frame.ensures.local in
+    let g = puts c.self.invariant c.self.view_is c.requires c.task-task.ensures c.frame-frame.ensures.value
+    (c.from.ensures ∙ c.count-2.ensures.value) c.frame-frame.ensures.local in
     put_back c.put_frame.new.self g c.put_frame.ensures.live c.say_stand.new.store c.say_stand.ensures.live
     c.program.result.now c.program.ensures.value c.put_frame.ensures.unseen c.self.invariant
     c.say_stand.ensures.standing c.say_stand.ensures.room
 
 pub returns-clause-stands : goal.returns-clause-stands
 returns-clause-stands c =
-    let g = puts c.self.invariant c.self.view_is c.requires c.task-task.ensures c.frame-frame.ensures.value (c.from.ensures ∙ c.count-2.ensures.value) c.frame-frame.ensures.local in
+    let g = puts c.self.invariant c.self.view_is c.requires c.task-task.ensures c.frame-frame.ensures.value
+    (c.from.ensures ∙ c.count-2.ensures.value) c.frame-frame.ensures.local in
     stands_there c.put_frame.new.self g c.put_frame.ensures.live c.say_stand.new.store c.say_stand.ensures.live
     c.args.self.now c.args.slice.now c.self.view_is c.task-task.ensures (c.from.ensures ∙ c.count-2.ensures.value)
 

@@ -15,7 +15,9 @@ returns-clause-stands c =
     let p = c.self.inside.verified.now in
     let m = c.self.inside.store in
     let o = c.ready_front.result in
-    let picked = picks (live_can_step p (live_of m)) (can_go_on m) o (can_same p m c.self.invariant.standing) c.ready_front.ensures.some c.ready_front.ensures.none in
+    let picked = picks (live_can_step p (live_of m)) (can_go_on m) o (can_same p m c.self.invariant.standing) c.ready_front.ensures.some
+    c.ready_front.ensures.none in
     λ events h.
     subst (λ (s : Seen). In (λ w. Picks (can_step s.program w) o) (after s.program events)) c.self.view_is
-    (ready_there p events (live_of m) c.self.inside.steps (subst (λ (s : Seen). Stands s events) (sym c.self.view_is) h) c.self.invariant.laws o picked)
+    (ready_there p events (live_of m) c.self.inside.steps (subst (λ (s : Seen). Stands s events) (sym c.self.view_is) h)
+    c.self.invariant.laws o picked)

@@ -11,4 +11,5 @@ returns c =
     let m = c.self.inside.store in
     let is_in = λ (t : ℕ). not (is_out c.args.out.now t) in
     rw (← c.self.view_is)
-    (picks (λ t. live_can_step p (live_of m) t && is_in t) (λ t. can_go_on m t && is_in t) c.ready_beside.result (λ t. ap (λ b. b && is_in t) (can_same p m c.self.invariant.standing t)) c.ready_beside.ensures.some c.ready_beside.ensures.none)
+    (picks (λ t. live_can_step p (live_of m) t && is_in t) (λ t. can_go_on m t && is_in t) c.ready_beside.result
+    (λ t. ap (λ b. b && is_in t) (can_same p m c.self.invariant.standing t)) c.ready_beside.ensures.some c.ready_beside.ensures.none)

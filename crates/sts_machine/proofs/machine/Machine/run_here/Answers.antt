@@ -19,9 +19,11 @@ run_local-done-requires-clause-safe c =
     let m = c.self.inside.store in
     let t = c.args.task in
     let can = subst (λ (s : Seen). live_can_step s.program s.live t ≡ true) (sym c.self.view_is) c.requires in
-    let own = c.code-code.ensures.value ∙ ap (λ q. code q c.frame.result.now) c.program-program.ensures.value ∙ ap (code p) c.frame.ensures in
+    let own =
+    c.code-code.ensures.value ∙ ap (λ q. code q c.frame.result.now) c.program-program.ensures.value ∙ ap (code p) c.frame.ensures in
     subst (λ q. AreSafe q c.code-code.result.now (frame_of m t)) (sym c.program-program.ensures.value)
-    (are_safe p t (lawful p m c.self.inside.steps c.self.invariant) (frame_of m t) c.code-code.result.now own (reached p m c.self.inside.steps c.self.invariant t can))
+    (are_safe p t (lawful p m c.self.inside.steps c.self.invariant) (frame_of m t) c.code-code.result.now own
+    (reached p m c.self.inside.steps c.self.invariant t can))
 
 pub say_stand-requires-clause-order : goal.say_stand-requires-clause-order
 say_stand-requires-clause-order c =
@@ -47,7 +49,8 @@ say_stand-requires-clause-others c =
     let own = c.code-code.ensures.value ∙ ap (λ q. code q c.frame.result.now) c.program-program.ensures.value ∙ ap (code p) c.frame.ensures in
     let done = ap (λ is. locals is (frame_of m t) c.run_local-done.result) (sym own) ∙ c.run_local-done.ensures.local in
     let g = put_on p m n c.self.invariant t (alive p m n c.self.invariant t can) f c.run_local-done.result done in
-    others_there c.run_local-done.new.self g c.run_local-done.ensures.live c.program-program.result.now c.program-program.ensures.value c.run_local-done.ensures.unseen
+    others_there c.run_local-done.new.self g c.run_local-done.ensures.live c.program-program.result.now c.program-program.ensures.value
+    c.run_local-done.ensures.unseen
 
 pub say_stand-requires-clause-free : goal.say_stand-requires-clause-free
 say_stand-requires-clause-free c = λ some.
@@ -137,9 +140,12 @@ pub returns-clause-local : goal.returns-clause-local
 returns-clause-local c =
     let m = c.self.inside.store in
     let t = c.args.task in
-    let own = c.code-code.ensures.value ∙ ap (λ q. code q c.frame.result.now) c.program-program.ensures.value ∙ ap (code c.self.inside.verified.now) c.frame.ensures in
-    subst (λ (s : Seen). locals (code_at s t) (frame_at s t) c.run_local-done.result ≡ Some (alive_at (live_of c.say_stand.new.store) t).frame) c.self.view_is
-    (ap (λ is. locals is (frame_of m t) c.run_local-done.result) (sym own) ∙ c.run_local-done.ensures.local ∙ ap (λ (v : Live). Some (alive_at v t).frame) (sym c.say_stand.ensures.live))
+    let own = c.code-code.ensures.value ∙ ap (λ q. code q c.frame.result.now) c.program-program.ensures.value ∙ ap
+    (code c.self.inside.verified.now) c.frame.ensures in
+    subst (λ (s : Seen). locals (code_at s t) (frame_at s t) c.run_local-done.result ≡ Some
+    (alive_at (live_of c.say_stand.new.store) t).frame) c.self.view_is
+    (ap (λ is. locals is (frame_of m t) c.run_local-done.result) (sym own) ∙ c.run_local-done.ensures.local ∙ ap
+    (λ (v : Live). Some (alive_at v t).frame) (sym c.say_stand.ensures.live))
 
 pub returns-clause-most : goal.returns-clause-most
 returns-clause-most c = c.run_local-done.ensures.most
@@ -147,9 +153,11 @@ returns-clause-most c = c.run_local-done.ensures.most
 pub returns-clause-stops : goal.returns-clause-stops
 returns-clause-stops c = λ less.
     let t = c.args.task in
-    let own = c.code-code.ensures.value ∙ ap (λ q. code q c.frame.result.now) c.program-program.ensures.value ∙ ap (code c.self.inside.verified.now) c.frame.ensures in
+    let own = c.code-code.ensures.value ∙ ap (λ q. code q c.frame.result.now) c.program-program.ensures.value ∙ ap
+    (code c.self.inside.verified.now) c.frame.ensures in
     subst (λ (s : Seen). local_at (code_at s t) (alive_at (live_of c.say_stand.new.store) t).frame ≡ None) c.self.view_is
-    (ap (λ (v : Live). local_at (code c.self.inside.verified.now (frame_of c.self.inside.store t)) (alive_at v t).frame) c.say_stand.ensures.live
+    (ap (λ (v : Live). local_at (code c.self.inside.verified.now (frame_of c.self.inside.store t)) (alive_at v t).frame)
+    c.say_stand.ensures.live
     ∙ ap (λ is. local_at is (frame_of c.run_local-done.new.self t)) (sym own) ∙ c.run_local-done.ensures.stops less)
 
 pub returns-clause-unseen : goal.returns-clause-unseen

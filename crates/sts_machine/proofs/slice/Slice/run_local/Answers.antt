@@ -15,11 +15,13 @@ pub overflow_add-self : goal.overflow_add-self
 overflow_add-self c =
     let s = c.self.inside in
     let own = c.code-code.ensures.value ∙ sym (ap (λ (x : Cut). x.code) c.self.view_is) in
-    let few = (goes s.verified.now s.task s.start s.frame s.count c.self.invariant c.code-code.result.now own c.run_local-done.result c.run_local-done.new.frame c.run_local-done.ensures.local).few in
+    let few = (goes s.verified.now s.task s.start s.frame s.count c.self.invariant c.code-code.result.now own c.run_local-done.result
+    c.run_local-done.new.frame c.run_local-done.ensures.local).few in
     omega (arith, few)
 
 pub invariant_of-self : goal.invariant_of-self
 invariant_of-self c =
     let s = c.self.inside in
     let own = c.code-code.ensures.value ∙ sym (ap (λ (x : Cut). x.code) c.self.view_is) in
-    (goes s.verified.now s.task s.start s.frame s.count c.self.invariant c.code-code.result.now own c.run_local-done.result c.run_local-done.new.frame c.run_local-done.ensures.local).kept
+    (goes s.verified.now s.task s.start s.frame s.count c.self.invariant c.code-code.result.now own c.run_local-done.result
+    c.run_local-done.new.frame c.run_local-done.ensures.local).kept

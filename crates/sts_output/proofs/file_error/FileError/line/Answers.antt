@@ -11,7 +11,8 @@ returns-in-Unwritten c =
     let program = c.args.program.now in
     let path = c.in-Unwritten.path.now in
     rw c.in-Unwritten.is
-    (subst (λ w. IfOk c.unwritten_line.result (λ line. line.items ≡ def.unwritten_line program path w)) c.kind_words-in-Unwritten.ensures c.unwritten_line.ensures)
+    (subst (λ w. IfOk c.unwritten_line.result (λ line. line.items ≡ def.unwritten_line program path w)) c.kind_words-in-Unwritten.ensures
+    c.unwritten_line.ensures)
 
 pub returns-in-Overwrites : goal.returns-in-Overwrites
 returns-in-Overwrites c = rw c.in-Overwrites.is c.unwritten_line-in-Overwrites.ensures

@@ -15,9 +15,11 @@ returns-in_err-events c =
     let trace = c.args.trace.now in
     let whole = ap (λ r. plain_output r trace) c.in_ok-program.ensures in
     let p = err_from_is_err_and c.from_residual-in_err-events.result c.from_residual-in_err-events.ensures.1 in
-    rw (p.1, p.2) (says_less c.in_err-events.field-0.0 _ _ (λ o h. h.printed ∙ sym (whole ∙ ap (traced_output c.in_ok-program.program) h.fault)) c.in_err-events.ensures)
+    rw (p.1, p.2) (says_less c.in_err-events.field-0.0 _ _
+    (λ o h. h.printed ∙ sym (whole ∙ ap (traced_output c.in_ok-program.program) h.fault)) c.in_err-events.ensures)
 
 pub returns : goal.returns
 returns c =
     let trace = c.args.trace.now in
-    c.in_ok-output.ensures ∙ ap (run_output c.in_ok-program.program) c.as_slice.ensures.value ∙ sym (ap (λ r. plain_output r trace) c.in_ok-program.ensures ∙ ap (traced_output c.in_ok-program.program) c.in_ok-events.ensures)
+    c.in_ok-output.ensures ∙ ap (run_output c.in_ok-program.program) c.as_slice.ensures.value ∙ sym
+    (ap (λ r. plain_output r trace) c.in_ok-program.ensures ∙ ap (traced_output c.in_ok-program.program) c.in_ok-events.ensures)

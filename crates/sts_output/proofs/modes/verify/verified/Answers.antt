@@ -13,7 +13,8 @@ returns-in_err-program c =
 pub returns-in_err-verified : goal.returns-in_err-verified
 returns-in_err-verified c =
     let p = err_from_is_err_and c.from_residual-in_err-verified.result c.from_residual-in_err-verified.ensures.1 in
-    rw (p.1, p.2) (says_less c.in_err-verified.field-0.0 _ _ (λ o h. subst (λ r. VerifyShows r o) (sym c.in_ok-program.ensures) (def.refused h)) c.in_err-verified.ensures)
+    rw (p.1, p.2) (says_less c.in_err-verified.field-0.0 _ _
+    (λ o h. subst (λ r. VerifyShows r o) (sym c.in_ok-program.ensures) (def.refused h)) c.in_err-verified.ensures)
 
 pub returns : goal.returns
 returns c =

@@ -13,5 +13,6 @@ push_reserved-requires c =
 
 pub invariant_of-self : goal.invariant_of-self
 invariant_of-self c =
-    let more = claimed c.self.inside.machine c.self.inside.journal c.self.inside.outside c.self.inside.out.items _ c.in_ok-task.task _ c.self.view_is c.self.invariant c.in_ok-task.ensures.free in
+    let more = claimed c.self.inside.machine c.self.inside.journal c.self.inside.outside c.self.inside.out.items _ c.in_ok-task.task _
+    c.self.view_is c.self.invariant c.in_ok-task.ensures.free in
     rw (c.push_reserved.ensures.items, c.push_reserved.ensures.capacity) more

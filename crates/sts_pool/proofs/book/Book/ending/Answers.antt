@@ -9,8 +9,10 @@ use Rattle.sts_pool.proofs.book.Book.ending.Goals as goal
 
 pub returns-clause-report : goal.returns-clause-report
 returns-clause-report c =
-    let told = ends c.self.inside.machine c.self.inside.journal c.self.inside.outside c.self.inside.out.items _ c.root_end.result c.in-Some.end c.self.invariant c.root_end.ensures.stands c.in-Some.is in
-    subst (λ (b : BookSeen). (events : List Event) → MayBe b events → IsReport b.program events c.in-Some.end × (c.steps.result ≡ count_by is_step events)) c.self.view_is
+    let told = ends c.self.inside.machine c.self.inside.journal c.self.inside.outside c.self.inside.out.items _ c.root_end.result
+    c.in-Some.end c.self.invariant c.root_end.ensures.stands c.in-Some.is in
+    subst (λ (b : BookSeen). (events : List Event) → MayBe b events → IsReport b.program events c.in-Some.end
+    × (c.steps.result ≡ count_by is_step events)) c.self.view_is
     (λ events may. ((told events may).0, c.steps.ensures.seen ∙ (told events may).1))
 
 pub returns-in_default-clause-unfinished : goal.returns-in_default-clause-unfinished

@@ -9,5 +9,6 @@ returns-clause-entries c = c.into_entries.ensures ∙ ap (λ (b : BookSeen). b.j
 
 pub returns-clause-may : goal.returns-clause-may
 returns-clause-may c =
-    let may = taken_may (λ v. v.items) c.self.inside.machine c.self.inside.journal c.self.inside.outside c.self.inside.out.items _ c.into_entries.result c.self.invariant c.into_entries.ensures in
+    let may = taken_may (λ v. v.items) c.self.inside.machine c.self.inside.journal c.self.inside.outside c.self.inside.out.items _
+    c.into_entries.result c.self.invariant c.into_entries.ensures in
     subst (λ (b : BookSeen). IfSome c.into_entries.result (λ v. MayBe b v.items)) c.self.view_is may

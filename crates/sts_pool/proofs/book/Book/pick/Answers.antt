@@ -12,7 +12,8 @@ pub returns-clause-free : goal.returns-clause-free
 returns-clause-free c =
     let m = c.self.inside.machine in
     let out = c.self.inside.out.items in
-    let beside : Picks (λ t. live_can_step m.program m.live t && not (list_any (λ o. o == t) out)) c.ready_beside.result = rw (← c.as_slice.ensures.value) c.ready_beside.ensures in
+    let beside : Picks (λ t. live_can_step m.program m.live t && not (list_any (λ o. o == t) out)) c.ready_beside.result =
+    rw (← c.as_slice.ensures.value) c.ready_beside.ensures in
     rw (← c.self.view_is) beside
 
 pub returns-clause-told : goal.returns-clause-told
@@ -22,6 +23,8 @@ returns-clause-told c =
     let n = c.self.inside.outside in
     let out = c.self.inside.out.items in
     let b = book_of m (written j) n out in
-    let beside : Picks (λ t. live_can_step m.program m.live t && not (list_any (λ o. o == t) out)) c.ready_beside.result = rw (← c.as_slice.ensures.value) c.ready_beside.ensures in
+    let beside : Picks (λ t. live_can_step m.program m.live t && not (list_any (λ o. o == t) out)) c.ready_beside.result =
+    rw (← c.as_slice.ensures.value) c.ready_beside.ensures in
     told m j n out _ c.args.self.now c.self.view_is (λ z events. Picks (may_turn z events) c.ready_beside.result) c.self.invariant
-    (λ events may. picks_alike (is_free b) (may_turn b events) c.ready_beside.result (λ t. ap (λ can. can && not (list_any (λ o. o == t) out)) (step_seen m events may.stands c.self.invariant.room.turns t)) beside)
+    (λ events may. picks_alike (is_free b) (may_turn b events) c.ready_beside.result
+    (λ t. ap (λ can. can && not (list_any (λ o. o == t) out)) (step_seen m events may.stands c.self.invariant.room.turns t)) beside)

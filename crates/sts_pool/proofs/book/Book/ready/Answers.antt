@@ -8,4 +8,5 @@ use Rattle.sts_pool.proofs.book.Book.ready.Goals as goal
 pub returns : goal.returns
 returns c =
     told c.self.inside.machine c.self.inside.journal c.self.inside.outside c.self.inside.out.items _ c.args.self.now c.self.view_is
-    (λ b events. In (λ w. Picks (can_step b.program w) c.ready.result) (after b.program events)) c.self.invariant (λ events may. c.ready.ensures.stands events may.stands)
+    (λ b events. In (λ w. Picks (can_step b.program w) c.ready.result) (after b.program events)) c.self.invariant
+    (λ events may. c.ready.ensures.stands events may.stands)

@@ -14,14 +14,16 @@ push_steps-requires c =
     let run = c.run_here-done.ensures in
     let x = c.run_here-done.new.self in
     let n = c.run_here-done.result in
-    ran_fits b.machine x b.journal b.outside b.out.items _ n c.args.task (frame_at x c.args.task) c.self.invariant run.program run.stands run.live run.steps (length-replicate n (event.Step c.args.task))
+    ran_fits b.machine x b.journal b.outside b.out.items _ n c.args.task (frame_at x c.args.task) c.self.invariant run.program run.stands
+    run.live run.steps (length-replicate n (event.Step c.args.task))
 
 pub invariant_of-self : goal.invariant_of-self
 invariant_of-self c =
     let b = c.self.inside in
     let run = c.run_here-done.ensures in
     let x = c.run_here-done.new.self in
-    ran_kept b.machine x b.journal b.outside b.out.items _ c.run_here-done.result c.args.task (frame_at x c.args.task) c.self.invariant run.program run.stands run.live run.steps c.push_steps.new.self c.push_steps.ensures
+    ran_kept b.machine x b.journal b.outside b.out.items _ c.run_here-done.result c.args.task (frame_at x c.args.task) c.self.invariant
+    run.program run.stands run.live run.steps c.push_steps.new.self c.push_steps.ensures
 
 pub returns-clause-journal : goal.returns-clause-journal
 returns-clause-journal c =
@@ -29,4 +31,5 @@ returns-clause-journal c =
     let run = c.run_here-done.ensures in
     let x = c.run_here-done.new.self in
     let n = c.run_here-done.result in
-    records b.machine x b.journal c.push_steps.new.self b.outside b.outside b.out.items b.out.items _ c.args.self.now c.self.view_is c.push_steps.ensures (all_steps n c.args.task b.machine.steps x.steps run.steps) (none_outside n c.args.task b.outside) run.stands
+    records b.machine x b.journal c.push_steps.new.self b.outside b.outside b.out.items b.out.items _ c.args.self.now c.self.view_is
+    c.push_steps.ensures (all_steps n c.args.task b.machine.steps x.steps run.steps) (none_outside n c.args.task b.outside) run.stands

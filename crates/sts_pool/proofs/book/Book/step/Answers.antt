@@ -19,7 +19,8 @@ push-requires c =
     let free = subst (λ (x : BookSeen). is_free x c.args.task ≡ true) (sym c.self.view_is) c.requires in
     let parts = free_parts (live_can_step b.machine.program b.machine.live c.args.task) b.out.items c.args.task free in
     let step = c.step-can_step.ensures in
-    step_fits b.machine c.step-can_step.new.self b.journal b.outside b.out.items _ c.args.task c.self.invariant step.program step.stands step.live (counted_step b.machine c.args.task c.step-can_step.new.self.steps parts.0 step.steps) parts.0 parts.1
+    step_fits b.machine c.step-can_step.new.self b.journal b.outside b.out.items _ c.args.task c.self.invariant step.program step.stands
+    step.live (counted_step b.machine c.args.task c.step-can_step.new.self.steps parts.0 step.steps) parts.0 parts.1
 
 pub invariant_of-self : goal.invariant_of-self
 invariant_of-self c =
@@ -27,7 +28,9 @@ invariant_of-self c =
     let free = subst (λ (x : BookSeen). is_free x c.args.task ≡ true) (sym c.self.view_is) c.requires in
     let parts = free_parts (live_can_step b.machine.program b.machine.live c.args.task) b.out.items c.args.task free in
     let step = c.step-can_step.ensures in
-    step_kept b.machine c.step-can_step.new.self b.journal b.outside b.out.items _ c.args.task c.self.invariant step.program step.stands step.live (counted_step b.machine c.args.task c.step-can_step.new.self.steps parts.0 step.steps) parts.0 parts.1 c.push.new.self c.push.ensures
+    step_kept b.machine c.step-can_step.new.self b.journal b.outside b.out.items _ c.args.task c.self.invariant step.program step.stands
+    step.live (counted_step b.machine c.args.task c.step-can_step.new.self.steps parts.0 step.steps) parts.0 parts.1 c.push.new.self
+    c.push.ensures
 
 pub returns-clause-free : goal.returns-clause-free
 returns-clause-free c =
@@ -42,4 +45,5 @@ returns-clause-journal c =
     let b = c.self.inside in
     let x = c.step-can_step.new.self in
     let step = c.step-can_step.ensures in
-    records b.machine x b.journal c.push.new.self b.outside b.outside b.out.items b.out.items _ c.args.self.now c.self.view_is c.push.ensures (counts_one c.args.task b.machine.steps x.steps step.steps) (none_outside 1 c.args.task b.outside) step.stands
+    records b.machine x b.journal c.push.new.self b.outside b.outside b.out.items b.out.items _ c.args.self.now c.self.view_is
+    c.push.ensures (counts_one c.args.task b.machine.steps x.steps step.steps) (none_outside 1 c.args.task b.outside) step.stands

@@ -13,23 +13,32 @@ push_steps-requires c =
     let t = c.args.slice.now.task in
     let put = c.put.ensures in
     rw c.count.ensures.value
-    (back_fits c.self.inside.machine c.put.new.self c.self.inside.journal c.self.inside.outside c.self.inside.out.items _ c.args.slice.now.count t c.args.slice.now.frame c.self.invariant put.program put.stands put.live put.steps (length-replicate c.args.slice.now.count (event.Step t)))
+    (back_fits c.self.inside.machine c.put.new.self c.self.inside.journal c.self.inside.outside c.self.inside.out.items _
+    c.args.slice.now.count t c.args.slice.now.frame c.self.invariant put.program put.stands put.live put.steps
+    (length-replicate c.args.slice.now.count (event.Step t)))
 
 pub invariant_of-self : goal.invariant_of-self
 invariant_of-self c =
     let t = c.args.slice.now.task in
     let put = c.put.ensures in
-    let recorded : IsRecorded c.self.inside.journal c.push_steps.new.self (steps_of c.args.slice.now.count t) = rw (c.count.ensures.value, c.task-task.ensures) at c.push_steps.ensures in
+    let recorded : IsRecorded c.self.inside.journal c.push_steps.new.self (steps_of c.args.slice.now.count t) =
+    rw (c.count.ensures.value, c.task-task.ensures) at c.push_steps.ensures in
     let left : c.remove_task.new.out.items ≡ without t c.self.inside.out.items = rw c.task-task.ensures at c.remove_task.ensures.items in
     rw (left, c.remove_task.ensures.capacity)
-    (back_kept c.self.inside.machine c.put.new.self c.self.inside.journal c.self.inside.outside c.self.inside.out.items _ c.args.slice.now.count t c.args.slice.now.frame c.self.invariant put.program put.stands put.live put.steps c.push_steps.new.self recorded)
+    (back_kept c.self.inside.machine c.put.new.self c.self.inside.journal c.self.inside.outside c.self.inside.out.items _
+    c.args.slice.now.count t c.args.slice.now.frame c.self.invariant put.program put.stands put.live put.steps c.push_steps.new.self
+    recorded)
 
 pub returns-clause-journal : goal.returns-clause-journal
 returns-clause-journal c =
     let t = c.args.slice.now.task in
     let put = c.put.ensures in
-    let recorded : IsRecorded c.self.inside.journal c.push_steps.new.self (steps_of c.args.slice.now.count t) = rw (c.count.ensures.value, c.task-task.ensures) at c.push_steps.ensures in
-    λ is. records c.self.inside.machine c.put.new.self c.self.inside.journal c.push_steps.new.self c.self.inside.outside c.self.inside.outside c.self.inside.out.items c.remove_task.new.out.items _ c.args.self.now c.self.view_is recorded (all_steps c.args.slice.now.count t c.self.inside.machine.steps c.put.new.self.steps put.steps) (none_outside c.args.slice.now.count t c.self.inside.outside) put.stands
+    let recorded : IsRecorded c.self.inside.journal c.push_steps.new.self (steps_of c.args.slice.now.count t) =
+    rw (c.count.ensures.value, c.task-task.ensures) at c.push_steps.ensures in
+    λ is. records c.self.inside.machine c.put.new.self c.self.inside.journal c.push_steps.new.self c.self.inside.outside
+    c.self.inside.outside c.self.inside.out.items c.remove_task.new.out.items _ c.args.self.now c.self.view_is recorded
+    (all_steps c.args.slice.now.count t c.self.inside.machine.steps c.put.new.self.steps put.steps)
+    (none_outside c.args.slice.now.count t c.self.inside.outside) put.stands
 
 pub returns-clause-back : goal.returns-clause-back
 returns-clause-back c =

@@ -27,4 +27,5 @@ invariant_of-result c =
 
 pub returns-clause-opening : goal.returns-clause-opening
 returns-clause-opening c =
-    opening_journal c.in_ok-machine.machine c.in_ok-journal.journal (c.every_run-budget.result.steps + 4096) c.in_ok-out.out.items c.in_ok-machine.ensures.stands c.in_ok-machine.ensures.steps c.in_ok-journal.ensures.holds
+    opening_journal c.in_ok-machine.machine c.in_ok-journal.journal (c.every_run-budget.result.steps + 4096) c.in_ok-out.out.items
+    c.in_ok-machine.ensures.stands c.in_ok-machine.ensures.steps c.in_ok-journal.ensures.holds

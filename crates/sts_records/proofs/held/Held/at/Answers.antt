@@ -18,7 +18,8 @@ at-requires g c =
     let keys = c.self.inside.given.keys in
     let places = c.self.inside.places in
     let s = stands keys places.slots c.args.birth (rw (← c.self.view_is) at c.requires) in
-    let at = c.key-key.ensures (c.self.inside.born / 4096) (births places.slots) (get_or keys c.args.birth 0) c.self.invariant.5 (birth_is keys places.slots c.args.birth s) in
+    let at = c.key-key.ensures (c.self.inside.born / 4096) (births places.slots) (get_or keys c.args.birth 0) c.self.invariant.5
+    (birth_is keys places.slots c.args.birth s) in
     is_at_key places.slots c.key-key.result (get_or keys c.args.birth 0) s.entry at s.is
 
 pub returns : goal.returns
@@ -26,7 +27,8 @@ returns g c =
     let keys = c.self.inside.given.keys in
     let places = c.self.inside.places in
     let s = stands keys places.slots c.args.birth (rw (← c.self.view_is) at c.requires) in
-    let at = c.key-key.ensures (c.self.inside.born / 4096) (births places.slots) (get_or keys c.args.birth 0) c.self.invariant.5 (birth_is keys places.slots c.args.birth s) in
+    let at = c.key-key.ensures (c.self.inside.born / 4096) (births places.slots) (get_or keys c.args.birth 0) c.self.invariant.5
+    (birth_is keys places.slots c.args.birth s) in
     let own = c.at.ensures.value s.entry (at_key places.slots c.key-key.result (get_or keys c.args.birth 0) s.entry at s.is) in (
       (refl, λ w. rw (← c.self.view_is, at, s.is) (lent keys places.slots c.args.birth w c.self.inside.room s)),
       record { writes_back = tt; value = rw (← c.self.view_is, own) s.body },
@@ -38,8 +40,18 @@ invariant_of-self-lent g c w =
     let keys = c.self.inside.given.keys in
     let places = c.self.inside.places in
     let s = stands keys places.slots c.args.birth (rw (← c.self.view_is) at c.requires) in
-    let at = c.key-key.ensures (c.self.inside.born / 4096) (births places.slots) (get_or keys c.args.birth 0) c.self.invariant.5 (birth_is keys places.slots c.args.birth s) in
+    let at = c.key-key.ensures (c.self.inside.born / 4096) (births places.slots) (get_or keys c.args.birth 0) c.self.invariant.5
+    (birth_is keys places.slots c.args.birth s) in
     let k : ℕ = get_or keys c.args.birth 0 in
     let inside : k < length places.slots = read_within places.slots k s.entry s.is in
     let many = as_many places.slots k s.entry (record { birth = s.entry.birth; body = w }) s.is inside in
-    rw (at, s.is, many) (i.0, i.1, i.2, i.3, lent_given keys places.slots k s.entry w s.is inside i.4, lent_kept c.self.inside.pages places.slots (c.self.inside.born / 4096) k s.entry w s.is inside i.5, i.6)
+    rw (at, s.is, many) (
+      i.0,
+      i.1,
+      i.2,
+      i.3,
+      lent_given keys places.slots k s.entry w s.is inside i.4,
+      lent_kept c.self.inside.pages
+          places.slots (c.self.inside.born / 4096) k s.entry w s.is inside i.5,
+      i.6,
+    )

@@ -18,7 +18,8 @@ discard-requires g c =
     let keys = c.self.inside.given.keys in
     let places = c.self.inside.places in
     let s = stands keys places.slots c.args.birth (rw (← c.self.view_is) at c.requires) in
-    let at = c.key-key.ensures (c.self.inside.born / 4096) (births places.slots) (get_or keys c.args.birth 0) c.self.invariant.5 (birth_is keys places.slots c.args.birth s) in
+    let at = c.key-key.ensures (c.self.inside.born / 4096) (births places.slots) (get_or keys c.args.birth 0) c.self.invariant.5
+    (birth_is keys places.slots c.args.birth s) in
     is_at_key places.slots c.key-key.result (get_or keys c.args.birth 0) s.entry at s.is
 
 pub invariant_of-self : goal.invariant_of-self
@@ -49,7 +50,9 @@ returns-clause-slots g c =
     let keys = c.self.inside.given.keys in
     let places = c.self.inside.places in
     let s = stands keys places.slots c.args.birth (rw (← c.self.view_is) at c.requires) in
-    let at = c.key-key.ensures (c.self.inside.born / 4096) (births places.slots) (get_or keys c.args.birth 0) c.self.invariant.5 (birth_is keys places.slots c.args.birth s) in
+    let at = c.key-key.ensures (c.self.inside.born / 4096) (births places.slots) (get_or keys c.args.birth 0) c.self.invariant.5
+    (birth_is keys places.slots c.args.birth s) in
     let u = c.discard.ensures.updates in
-    let e = emptied keys places.slots c.discard.new.self.slots c.args.birth s.entry s.less s.is s.own (rw (← at) u.changed) (rw (← at) u.others) in
+    let e = emptied keys places.slots c.discard.new.self.slots c.args.birth s.entry s.less s.is s.own (rw (← at) u.changed)
+    (rw (← at) u.others) in
     rw (← c.self.view_is, e) refl

@@ -17,4 +17,5 @@ key-requires g c =
 pub returns : goal.returns
 returns g c =
     let places = c.self.inside.places in
-    rw (← c.self.view_is) (c.get.ensures ∙ looked_up c.self.inside.given.keys places.slots c.args.birth c.key.result c.self.invariant.4 (λ k is. c.key.ensures (c.self.inside.born / 4096) (births places.slots) k c.self.invariant.5 is))
+    rw (← c.self.view_is) (c.get.ensures ∙ looked_up c.self.inside.given.keys places.slots c.args.birth c.key.result c.self.invariant.4
+    (λ k is. c.key.ensures (c.self.inside.born / 4096) (births places.slots) k c.self.invariant.5 is))

@@ -17,5 +17,6 @@ returns-in-Some g c =
     let places = c.self.inside.places in
     let is = rw (← c.self.view_is) at c.in-Some.ensures in
     let s = is_there keys places.slots c.args.birth c.in-Some.field-0.now is in
-    let key = c.key.ensures (c.self.inside.born / 4096) (births places.slots) (get_or keys c.args.birth 0) c.self.invariant.5 (birth_is keys places.slots c.args.birth s) in
+    let key = c.key.ensures (c.self.inside.born / 4096) (births places.slots) (get_or keys c.args.birth 0) c.self.invariant.5
+    (birth_is keys places.slots c.args.birth s) in
     rw (← c.self.view_is) (key_some keys places.slots c.args.birth c.key.result c.in-Some.field-0.now is key)

@@ -22,7 +22,8 @@ turn-requires-clause-keys g c =
     let after = c.insert-key.new.self in
     let i = c.self.invariant in
     let e = c.insert-key.ensures in
-    same_latest c.put.new.self c.self.inside.born (births after.slots) (c.put.ensures.keys (births places.slots) (births after.slots) i.5 (comes keys places after c.insert-key.result c.self.inside.born c.args.body i.2 i.4 e.was_vacant e.updates))
+    same_latest c.put.new.self c.self.inside.born (births after.slots) (c.put.ensures.keys (births places.slots) (births after.slots) i.5
+    (comes keys places after c.insert-key.result c.self.inside.born c.args.body i.2 i.4 e.was_vacant e.updates))
 
 pub turn-requires-clause-room : goal.turn-requires-clause-room
 turn-requires-clause-room g c =
@@ -30,7 +31,8 @@ turn-requires-clause-room g c =
     let places = c.self.inside.places in
     let after = c.insert-key.new.self in
     let len = c.insert-key.ensures.filled in
-    has_pages c.self.inside.pages c.put.new.self (filled after) (filled places + c.self.inside.room) c.put.ensures.pages (omega (arith, len, some)) c.self.invariant.6
+    has_pages c.self.inside.pages c.put.new.self (filled after) (filled places + c.self.inside.room) c.put.ensures.pages
+    (omega (arith, len, some)) c.self.invariant.6
 
 pub invariant_of-self : goal.invariant_of-self
 invariant_of-self g c =
@@ -66,5 +68,6 @@ returns-clause-birth g c = rw (← c.self.view_is) (c.self.invariant.2 ∙ sym (
 pub returns-clause-slots : goal.returns-clause-slots
 returns-clause-slots g c =
     let e = c.insert-key.ensures in
-    let b = born c.self.inside.given.keys c.self.inside.places.slots c.insert-key.new.self.slots c.insert-key.result c.args.body e.was_vacant (rw c.self.invariant.2 at e.updates.changed) e.updates.others in
+    let b = born c.self.inside.given.keys c.self.inside.places.slots c.insert-key.new.self.slots c.insert-key.result c.args.body
+    e.was_vacant (rw c.self.invariant.2 at e.updates.changed) e.updates.others in
     rw (← c.self.view_is, c.and-self-inside.ensures, b) refl

@@ -16,7 +16,8 @@ record-requires g c =
     let keys = c.self.inside.given.keys in
     let places = c.self.inside.places in
     let s = stands keys places.slots c.args.birth (rw (← c.self.view_is) at c.requires) in
-    let at = c.key-key.ensures (c.self.inside.born / 4096) (births places.slots) (get_or keys c.args.birth 0) c.self.invariant.5 (birth_is keys places.slots c.args.birth s) in
+    let at = c.key-key.ensures (c.self.inside.born / 4096) (births places.slots) (get_or keys c.args.birth 0) c.self.invariant.5
+    (birth_is keys places.slots c.args.birth s) in
     is_at_key places.slots c.key-key.result (get_or keys c.args.birth 0) s.entry at s.is
 
 pub returns : goal.returns
@@ -24,6 +25,7 @@ returns g c =
     let keys = c.self.inside.given.keys in
     let places = c.self.inside.places in
     let s = stands keys places.slots c.args.birth (rw (← c.self.view_is) at c.requires) in
-    let at = c.key-key.ensures (c.self.inside.born / 4096) (births places.slots) (get_or keys c.args.birth 0) c.self.invariant.5 (birth_is keys places.slots c.args.birth s) in
+    let at = c.key-key.ensures (c.self.inside.born / 4096) (births places.slots) (get_or keys c.args.birth 0) c.self.invariant.5
+    (birth_is keys places.slots c.args.birth s) in
     let own = c.record.ensures s.entry (at_key places.slots c.key-key.result (get_or keys c.args.birth 0) s.entry at s.is) in
     rw (← c.self.view_is, own) s.body

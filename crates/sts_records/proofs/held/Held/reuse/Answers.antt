@@ -22,7 +22,8 @@ turn-requires-clause-keys g c =
     let after = c.reuse.new.self in
     let i = c.self.invariant in
     let e = c.in-Some.ensures in
-    same_latest c.put.new.self c.self.inside.born (births after.slots) (c.put.ensures.keys (births places.slots) (births after.slots) i.5 (comes keys places after c.in-Some.key c.self.inside.born e.updates.0 i.2 i.4 e.was_vacant e.updates.1))
+    same_latest c.put.new.self c.self.inside.born (births after.slots) (c.put.ensures.keys (births places.slots) (births after.slots) i.5
+    (comes keys places after c.in-Some.key c.self.inside.born e.updates.0 i.2 i.4 e.was_vacant e.updates.1))
 
 pub invariant_of-self-2 : goal.invariant_of-self-2
 invariant_of-self-2 g c =
@@ -55,5 +56,6 @@ invariant_of-self-2 g c =
 pub returns-clause-slots : goal.returns-clause-slots
 returns-clause-slots g c _ =
     let e = c.in-Some.ensures in
-    let b = born c.self.inside.given.keys c.self.inside.places.slots c.reuse.new.self.slots c.in-Some.key e.updates.0 e.was_vacant (rw c.self.invariant.2 at e.updates.1.changed) e.updates.1.others in
+    let b = born c.self.inside.given.keys c.self.inside.places.slots c.reuse.new.self.slots c.in-Some.key e.updates.0 e.was_vacant
+    (rw c.self.invariant.2 at e.updates.1.changed) e.updates.1.others in
     (e.updates.0, rw (← c.self.view_is, c.and-self-inside.ensures, b) refl)

@@ -15,7 +15,8 @@ pub turn-requires-clause-keys : goal.turn-requires-clause-keys
 turn-requires-clause-keys g c = same_latest c.self.inside.pages c.self.inside.born (births c.self.inside.places.slots) c.self.invariant.5
 
 pub turn-requires-clause-room : goal.turn-requires-clause-room
-turn-requires-clause-room g c = has_pages c.self.inside.pages c.self.inside.pages (filled c.self.inside.places) (filled c.self.inside.places + c.self.inside.room) refl (omega arith) c.self.invariant.6
+turn-requires-clause-room g c = has_pages c.self.inside.pages c.self.inside.pages (filled c.self.inside.places)
+    (filled c.self.inside.places + c.self.inside.room) refl (omega arith) c.self.invariant.6
 
 pub invariant_of-self : goal.invariant_of-self
 invariant_of-self g c =

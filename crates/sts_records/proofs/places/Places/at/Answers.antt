@@ -30,8 +30,10 @@ invariant_of-self-lent g c w =
     let is = read cells key cell less c.index_mut.ensures.value in
     let e = some_of (entry_of cell) (λ none. some (is ∙ none)) in
     let b = (parts cell.birth cell.body e.0 e.1).0 in
-    let long = length-map cells entry_of in
-    (rw (map-set, b) (sound_rewrite c.self.inside.keys (slots_of cells) _ key (record { birth = e.0.birth; body = w }) some (rw long less) c.self.invariant.0), whole_set cells key (record { birth = cell.birth; body = Some w }) (λ _. not_none (Some w) w refl) c.self.invariant.1)
+    let long = length-map cells entry_of in (
+      rw (map-set, b) (sound_rewrite c.self.inside.keys (slots_of cells) _ key (record { birth = e.0.birth; body = w }) some (rw long less) c.self.invariant.0),
+      whole_set cells key (record { birth = cell.birth; body = Some w }) (λ _. not_none (Some w) w refl) c.self.invariant.1,
+    )
 
 pub returns : goal.returns
 returns g c =

@@ -15,8 +15,12 @@ remove-requires g c =
 pub invariant_of-self : goal.invariant_of-self
 invariant_of-self g c =
     let cells = c.self.inside.cells.items in
-    let less = inside_cells cells c.args.key (rw (← c.self.view_is) at c.requires) in
-    (rw map-set (sound_go c.self.inside.keys c.remove.new.self (slots_of cells) _ c.args.key (rw (length-map cells entry_of) less) c.remove.ensures.updates c.remove.ensures.capacity c.self.invariant.0), whole_set cells c.args.key (record { birth = None; body = c.index_mut.result.now.body }) (λ some. absurd (some refl)) c.self.invariant.1)
+    let less = inside_cells cells c.args.key (rw (← c.self.view_is) at c.requires) in (
+      rw map-set (sound_go c.self.inside.keys c.remove.new.self (slots_of cells) _ c.args.key (rw (length-map cells entry_of) less)
+          c.remove.ensures.updates c.remove.ensures.capacity c.self.invariant.0),
+      whole_set cells c.args.key
+          (record { birth = None; body = c.index_mut.result.now.body }) (λ some. absurd (some refl)) c.self.invariant.1,
+    )
 
 pub returns-clause-updates : goal.returns-clause-updates
 returns-clause-updates g c =
@@ -28,7 +32,8 @@ pub returns-clause-filled : goal.returns-clause-filled
 returns-clause-filled g c =
     let cells = c.self.inside.cells.items in
     let less = inside_cells cells c.args.key (rw (← c.self.view_is) at c.requires) in
-    let sound = sound_go c.self.inside.keys c.remove.new.self (slots_of cells) _ c.args.key (rw (length-map cells entry_of) less) c.remove.ensures.updates c.remove.ensures.capacity c.self.invariant.0 in
+    let sound = sound_go c.self.inside.keys c.remove.new.self (slots_of cells) _ c.args.key (rw (length-map cells entry_of) less)
+    c.remove.ensures.updates c.remove.ensures.capacity c.self.invariant.0 in
     let old = as_keys c.self.inside.keys (slots_of cells) _ c.self.invariant.0 in
     let new = as_keys c.remove.new.self _ _ sound in
     rw (← c.self.view_is, map-set, old, new) c.remove.ensures.len

@@ -42,14 +42,18 @@ pub body_in-requires : goal.body_in-requires
 body_in-requires g c =
     let cell = c.in-Some.cell.now in
     let some = c.in-Some.ensures.lookup in
-    has_body c.self.inside.cells.items c.deref.result.now c.args.key c.args.birth cell c.deref.ensures.value (ltb-true c.args.key (length c.deref.result.now) (sym some.0)) some.1 c.self.invariant.1 (birth_is cell.birth c.args.birth (sym c.eq.ensures ∙ c.if-eq.true))
+    has_body c.self.inside.cells.items c.deref.result.now c.args.key c.args.birth cell c.deref.ensures.value
+    (ltb-true c.args.key (length c.deref.result.now) (sym some.0)) some.1 c.self.invariant.1
+    (birth_is cell.birth c.args.birth (sym c.eq.ensures ∙ c.if-eq.true))
 
 pub returns-in-Some : goal.returns-in-Some
 returns-in-Some g c =
     let cell = c.in-Some.cell.now in
     let some = c.in-Some.ensures.lookup in
-    let is = found c.self.inside.cells.items c.deref.result.now c.args.key cell c.deref.ensures.value (ltb-true c.args.key (length c.deref.result.now) (sym some.0)) some.1 in
-    rw (← c.self.view_is) (sym (ap (body_of c.args.birth) is ∙ body_at c.args.birth cell.birth cell.body (birth_is cell.birth c.args.birth (sym c.eq.ensures ∙ c.if-eq.true)) ∙ c.body_in.ensures))
+    let is = found c.self.inside.cells.items c.deref.result.now c.args.key cell c.deref.ensures.value
+    (ltb-true c.args.key (length c.deref.result.now) (sym some.0)) some.1 in
+    rw (← c.self.view_is) (sym (ap (body_of c.args.birth) is ∙ body_at c.args.birth cell.birth cell.body
+    (birth_is cell.birth c.args.birth (sym c.eq.ensures ∙ c.if-eq.true)) ∙ c.body_in.ensures))
 
 pub returns-in_default : goal.returns-in_default
 returns-in_default g c =

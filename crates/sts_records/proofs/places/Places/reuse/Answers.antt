@@ -14,19 +14,26 @@ invariant_of-self-2 g c =
     let same = c.vacant_key-key.ensures.value in
     let lays = c.revive.ensures.lays c.if-not-revive.false in
     let old = slots_of c.self.inside.cells.items in
-    let new = slots_of c.revive.new.cells.items in
-    (rw c.revive.ensures.capacity (sound_come c.self.inside.keys c.insert_reserved.new.self old new _ c.insert_reserved.result (record { birth = c.args.birth; body = lays.0 }) tt e.updates e.capacity (rw (e.key, ← same) lays.1) c.self.invariant.0), c.revive.ensures.whole c.self.invariant.1)
+    let new = slots_of c.revive.new.cells.items in (
+      rw c.revive.ensures.capacity (sound_come c.self.inside.keys c.insert_reserved.new.self old new _ c.insert_reserved.result
+          (record { birth = c.args.birth; body = lays.0 }) tt e.updates e.capacity (rw (e.key, ← same) lays.1) c.self.invariant.0),
+      c.revive.ensures.whole c.self.invariant.1,
+    )
 
 pub returns-clause-was_vacant : goal.returns-clause-was_vacant
 returns-clause-was_vacant g c =
-    rw (← c.self.view_is) (vacant_at c.self.inside.keys (slots_of c.self.inside.cells.items) _ c.vacant_key-key.result c.self.invariant.0 c.vacant_key-key.ensures.vacant)
+    rw (← c.self.view_is) (vacant_at c.self.inside.keys (slots_of c.self.inside.cells.items) _ c.vacant_key-key.result c.self.invariant.0
+    c.vacant_key-key.ensures.vacant)
 
 pub returns-clause-updates : goal.returns-clause-updates
 returns-clause-updates g c =
     let lays = c.revive.ensures.lays c.if-not-revive.false in
     let old = slots_of c.self.inside.cells.items in
-    let new = slots_of c.revive.new.cells.items in
-    (lays.0, rw (← c.self.view_is, c.insert_reserved.ensures.capacity) (lays_updates old new c.vacant_key-key.result _ (record { birth = c.args.birth; body = lays.0 }) lays.1))
+    let new = slots_of c.revive.new.cells.items in (
+      lays.0,
+      rw (← c.self.view_is, c.insert_reserved.ensures.capacity)
+          (lays_updates old new c.vacant_key-key.result _ (record { birth = c.args.birth; body = lays.0 }) lays.1),
+    )
 
 pub returns-clause-filled : goal.returns-clause-filled
 returns-clause-filled g c =
@@ -35,7 +42,8 @@ returns-clause-filled g c =
     let lays = c.revive.ensures.lays c.if-not-revive.false in
     let old = slots_of c.self.inside.cells.items in
     let new = slots_of c.revive.new.cells.items in
-    let sound = sound_come c.self.inside.keys c.insert_reserved.new.self old new _ c.insert_reserved.result (record { birth = c.args.birth; body = lays.0 }) tt e.updates e.capacity (rw (e.key, ← same) lays.1) c.self.invariant.0 in
+    let sound = sound_come c.self.inside.keys c.insert_reserved.new.self old new _ c.insert_reserved.result
+    (record { birth = c.args.birth; body = lays.0 }) tt e.updates e.capacity (rw (e.key, ← same) lays.1) c.self.invariant.0 in
     let before = as_keys c.self.inside.keys old _ c.self.invariant.0 in
     let after = as_keys c.insert_reserved.new.self new _ sound in
     rw (← c.self.view_is, before, after) e.len

@@ -18,17 +18,20 @@ at-running-requires c = has_frame (living (the_view c.self.inside) c.args.self.n
 
 pub bind-running-requires-clause-whole : goal.bind-running-requires-clause-whole
 bind-running-requires-clause-whole c =
-    whole_here (the_view c.self.inside) c.self.invariant c.args.t c.at-running.result.now c.at-running.result.now c.self.inside.chains c.at-running.ensures.value
+    whole_here (the_view c.self.inside) c.self.invariant c.args.t c.at-running.result.now c.at-running.result.now c.self.inside.chains
+    c.at-running.ensures.value
 
 pub enter_binding-requires-clause-more : goal.enter_binding-requires-clause-more
 enter_binding-requires-clause-more c =
     let l = living (the_view c.self.inside) c.args.self.now c.self.invariant c.self.view_is c.args.t c.requires.lives in
-    at_hand (the_view c.self.inside) c.args.self.now c.args.t c.at-running.result.now l c.at-running.ensures.value c.self.view_is (λ f. f.pc + 1 < 2 ^ 32) c.requires.more
+    at_hand (the_view c.self.inside) c.args.self.now c.args.t c.at-running.result.now l c.at-running.ensures.value c.self.view_is
+    (λ f. f.pc + 1 < 2 ^ 32) c.requires.more
 
 pub enter_binding-requires-clause-room : goal.enter_binding-requires-clause-room
 enter_binding-requires-clause-room c =
     let l = living (the_view c.self.inside) c.args.self.now c.self.invariant c.self.view_is c.args.t c.requires.lives in
-    at_hand (the_view c.self.inside) c.args.self.now c.args.t c.at-running.result.now l c.at-running.ensures.value c.self.view_is (λ f. length f.entries < 16) c.requires.entries
+    at_hand (the_view c.self.inside) c.args.self.now c.args.t c.at-running.result.now l c.at-running.ensures.value c.self.view_is
+    (λ f. length f.entries < 16) c.requires.entries
 
 pub invariant_of-self : goal.invariant_of-self
 invariant_of-self c =

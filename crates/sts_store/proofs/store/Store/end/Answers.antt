@@ -22,21 +22,28 @@ invariant_of-self c =
     let t = c.args.t in
     let l = living m c.args.self.now c.self.invariant c.self.view_is t c.requires in
     let g = c.finish.new.tree in
-    let parts = as_ended m t g c.discard.new.self c.note_root_end.new.root_end c.args.end c.discard.ensures.slots c.discard.ensures.keys c.discard.ensures.room c.note_root_end.ensures in
-    subst IsStore (sym parts) (end_kept m t g (m.frames.room + 1) (at_end (beside m) t c.args.end).root_end c.self.invariant (end_ends m t g c.args.end l (c.finish.ensures.finished l.task l.stands)))
+    let parts = as_ended m t g c.discard.new.self c.note_root_end.new.root_end c.args.end c.discard.ensures.slots c.discard.ensures.keys
+    c.discard.ensures.room c.note_root_end.ensures in
+    subst IsStore (sym parts) (end_kept m t g (m.frames.room + 1) (at_end (beside m) t c.args.end).root_end c.self.invariant
+    (end_ends m t g c.args.end l (c.finish.ensures.finished l.task l.stands)))
 
 pub returns-clause-live : goal.returns-clause-live
 returns-clause-live c =
     let l = living (the_view c.self.inside) c.args.self.now c.self.invariant c.self.view_is c.args.t c.requires in
-    let parts = as_ended (the_view c.self.inside) c.args.t c.finish.new.tree c.discard.new.self c.note_root_end.new.root_end c.args.end c.discard.ensures.slots c.discard.ensures.keys c.discard.ensures.room c.note_root_end.ensures in
+    let parts = as_ended (the_view c.self.inside) c.args.t c.finish.new.tree c.discard.new.self c.note_root_end.new.root_end c.args.end
+    c.discard.ensures.slots c.discard.ensures.keys c.discard.ensures.room c.note_root_end.ensures in
     ap (λ n. live_of n) parts
-    ∙ end_live (the_view c.self.inside) c.args.t c.finish.new.tree ((the_view c.self.inside).frames.room + 1) c.args.end l (c.finish.ensures.finished l.task l.stands) (λ s home. c.finish.ensures.home l.task s l.stands home)
+    ∙ end_live (the_view c.self.inside) c.args.t c.finish.new.tree ((the_view c.self.inside).frames.room + 1) c.args.end l
+    (c.finish.ensures.finished l.task l.stands) (λ s home. c.finish.ensures.home l.task s l.stands home)
     ∙ ap (λ n. live_end (live_of n) c.args.t c.args.end) c.self.view_is
 
 pub returns-clause-unseen : goal.returns-clause-unseen
 returns-clause-unseen c =
     let l = living (the_view c.self.inside) c.args.self.now c.self.invariant c.self.view_is c.args.t c.requires in
-    let parts = as_ended (the_view c.self.inside) c.args.t c.finish.new.tree c.discard.new.self c.note_root_end.new.root_end c.args.end c.discard.ensures.slots c.discard.ensures.keys c.discard.ensures.room c.note_root_end.ensures in
+    let parts = as_ended (the_view c.self.inside) c.args.t c.finish.new.tree c.discard.new.self c.note_root_end.new.root_end c.args.end
+    c.discard.ensures.slots c.discard.ensures.keys c.discard.ensures.room c.note_root_end.ensures in
     ap unseen_of parts
-    ∙ end_unseen (the_view c.self.inside) c.args.t c.finish.new.tree ((the_view c.self.inside).frames.room + 1) (at_end (beside (the_view c.self.inside)) c.args.t c.args.end).root_end (end_ends (the_view c.self.inside) c.args.t c.finish.new.tree c.args.end l (c.finish.ensures.finished l.task l.stands))
+    ∙ end_unseen (the_view c.self.inside) c.args.t c.finish.new.tree ((the_view c.self.inside).frames.room + 1)
+    (at_end (beside (the_view c.self.inside)) c.args.t c.args.end).root_end
+    (end_ends (the_view c.self.inside) c.args.t c.finish.new.tree c.args.end l (c.finish.ensures.finished l.task l.stands))
     ∙ ap (λ n. record (unseen_of n) { frame_room = (unseen_of n).frame_room + 1 }) c.self.view_is

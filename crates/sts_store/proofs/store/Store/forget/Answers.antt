@@ -16,7 +16,8 @@ forget-requires c =
     at_hand (the_view c.self.inside) c.args.self.now c.args.t c.at.result.now l c.at.ensures.value c.self.view_is (λ f. f.pc + 1 < 2 ^ 32) c.requires.more
 
 pub invariant_of-self : goal.invariant_of-self
-invariant_of-self c = frame_kept (the_view c.self.inside) c.args.t c.at.result.now c.forget.new.frame c.self.invariant c.at.ensures.value (ap (λ (f : Frame). f.entries) c.forget.ensures)
+invariant_of-self c = frame_kept (the_view c.self.inside) c.args.t c.at.result.now c.forget.new.frame c.self.invariant c.at.ensures.value
+    (ap (λ (f : Frame). f.entries) c.forget.ensures)
 
 pub returns-clause-live : goal.returns-clause-live
 returns-clause-live c =

@@ -30,8 +30,10 @@ entry_frame-entry-requires-clause-enough c =
     let m = the_view c.self.inside in
     let l = living m c.args.self.now c.self.invariant c.self.view_is c.args.t c.requires.lives in
     let run : c.record-forker.result.now ≡ l.run = same_Some _ _ (sym c.record-forker.ensures ∙ l.runs) in
-    let frame : frame_of c.args.self.now c.args.t ≡ c.record-forker.result.now.frame = ap (λ n. frame_of n c.args.t) (sym c.self.view_is) ∙ same_frame m c.args.t l.run l l.runs ∙ ap (λ (r : Running). r.frame) (sym run) in
-    let enough : (routine c.args.program.now c.args.function).args ≤ length c.record-forker.result.now.frame.operands = subst (λ (f : Frame). (routine c.args.program.now c.args.function).args ≤ length f.operands) frame c.requires.enough in
+    let frame : frame_of c.args.self.now c.args.t ≡ c.record-forker.result.now.frame = ap (λ n. frame_of n c.args.t) (sym c.self.view_is)
+    ∙ same_frame m c.args.t l.run l l.runs ∙ ap (λ (r : Running). r.frame) (sym run) in
+    let enough : (routine c.args.program.now c.args.function).args ≤ length c.record-forker.result.now.frame.operands =
+    subst (λ (f : Frame). (routine c.args.program.now c.args.function).args ≤ length f.operands) frame c.requires.enough in
     let args = c.args-args.ensures.value in
     omega (arith, enough, args)
 
@@ -173,6 +175,8 @@ at-requires c = λ none.
     let l = living m c.args.self.now c.self.invariant c.self.view_is c.args.t c.requires.lives in
     let child : Running = begun c.args.function c.entry_frame-entry.result.locals (Lent c.args.s) c.env-env.result.now in
     let slots = c.place.ensures.slots ∙ ap (λ b. m.frames.slots ++ born_if b child ∷ []) (c.add_subtask-child.ensures.lives p.0 p.1) in
-    let there = still_there m c.self.invariant (subst (λ n. InOrder (live_of n)) (sym c.self.view_is) c.requires.order) c.args.t c.args.s p.0 p.1 child c.add_subtask-child.new.self.task_keys (m.tree.task_room - 1) c.place.new.frames slots l c.add_subtask-child.new.self (c.add_subtask-child.ensures.added p.0 p.1) in
+    let there = still_there m c.self.invariant (subst (λ n. InOrder (live_of n)) (sym c.self.view_is) c.requires.order) c.args.t c.args.s
+    p.0 p.1 child c.add_subtask-child.new.self.task_keys (m.tree.task_room - 1) c.place.new.frames slots l c.add_subtask-child.new.self
+    (c.add_subtask-child.ensures.added p.0 p.1) in
     let never = sym there ∙ none in
     cc

@@ -22,13 +22,15 @@ pub enter_scope-requires-clause-more : goal.enter_scope-requires-clause-more
 enter_scope-requires-clause-more c =
     let m = the_view c.self.inside in
     let l = lived m c.self.invariant c.args.t (rw (← c.self.view_is) at c.requires.lives) in
-    subst (λ (f : Frame). f.pc + 1 < 2 ^ 32) (same_frame m c.args.t c.at-running.result.now l c.at-running.ensures.value) (subst (λ n. (frame_of n c.args.t).pc + 1 < 2 ^ 32) (sym c.self.view_is) c.requires.more)
+    subst (λ (f : Frame). f.pc + 1 < 2 ^ 32) (same_frame m c.args.t c.at-running.result.now l c.at-running.ensures.value)
+    (subst (λ n. (frame_of n c.args.t).pc + 1 < 2 ^ 32) (sym c.self.view_is) c.requires.more)
 
 pub enter_scope-requires-clause-room : goal.enter_scope-requires-clause-room
 enter_scope-requires-clause-room c =
     let m = the_view c.self.inside in
     let l = lived m c.self.invariant c.args.t (rw (← c.self.view_is) at c.requires.lives) in
-    subst (λ (f : Frame). length f.entries < 16) (same_frame m c.args.t c.at-running.result.now l c.at-running.ensures.value) (subst (λ n. length (frame_of n c.args.t).entries < 16) (sym c.self.view_is) c.requires.entries)
+    subst (λ (f : Frame). length f.entries < 16) (same_frame m c.args.t c.at-running.result.now l c.at-running.ensures.value)
+    (subst (λ n. length (frame_of n c.args.t).entries < 16) (sym c.self.view_is) c.requires.entries)
 
 pub invariant_of-self : goal.invariant_of-self
 invariant_of-self c =

@@ -11,6 +11,7 @@ pub returns-clause-live : goal.returns-clause-live
 returns-clause-live c p =
     let now = c.args.self.now in
     let fits : SFits w64 c.from.result = search rules in
-    let cancelled = c.cancelled-cancelled.ensures ∙ ap (λ s. (live_scope_at (live_of now) s).cancelled) (c.named.ensures ∙ ap (λ f. named (slot f c.args.scope)) c.frame-frame.ensures) in
+    let cancelled = c.cancelled-cancelled.ensures ∙ ap (λ s. (live_scope_at (live_of now) s).cancelled)
+    (c.named.ensures ∙ ap (λ f. named (slot f c.args.scope)) c.frame-frame.ensures) in
     let value = truth_pushed c.from.result _ _ fits c.from.ensures cancelled in
     went_on now _ c.args.t 0 c.frame-frame.result.now _ _ c.goes_with.ensures.live c.frame-frame.ensures value

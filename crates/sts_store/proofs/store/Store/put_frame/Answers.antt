@@ -10,15 +10,19 @@ at-requires c = has_frame (living (the_view c.self.inside) c.args.self.now c.sel
 pub write_frame-requires : goal.write_frame-requires
 write_frame-requires c =
     let l = living (the_view c.self.inside) c.args.self.now c.self.invariant c.self.view_is c.args.t c.requires.lives in
-    at_hand (the_view c.self.inside) c.args.self.now c.args.t c.at.result.now l c.at.ensures.value c.self.view_is (λ f. c.args.frame.now.entries ≡ f.entries) c.requires.entries
+    at_hand (the_view c.self.inside) c.args.self.now c.args.t c.at.result.now l c.at.ensures.value c.self.view_is
+    (λ f. c.args.frame.now.entries ≡ f.entries) c.requires.entries
 
 pub invariant_of-self : goal.invariant_of-self
 invariant_of-self c =
     let l = living (the_view c.self.inside) c.args.self.now c.self.invariant c.self.view_is c.args.t c.requires.lives in
-    let entries = at_hand (the_view c.self.inside) c.args.self.now c.args.t c.at.result.now l c.at.ensures.value c.self.view_is (λ f. c.args.frame.now.entries ≡ f.entries) c.requires.entries in
-    frame_kept (the_view c.self.inside) c.args.t c.at.result.now c.write_frame.new.frame c.self.invariant c.at.ensures.value (ap (λ (f : Frame). f.entries) c.write_frame.ensures ∙ entries)
+    let entries = at_hand (the_view c.self.inside) c.args.self.now c.args.t c.at.result.now l c.at.ensures.value c.self.view_is
+    (λ f. c.args.frame.now.entries ≡ f.entries) c.requires.entries in
+    frame_kept (the_view c.self.inside) c.args.t c.at.result.now c.write_frame.new.frame c.self.invariant c.at.ensures.value
+    (ap (λ (f : Frame). f.entries) c.write_frame.ensures ∙ entries)
 
 pub returns-clause-live : goal.returns-clause-live
 returns-clause-live c =
     let l = living (the_view c.self.inside) c.args.self.now c.self.invariant c.self.view_is c.args.t c.requires.lives in
-    frame_done (the_view c.self.inside) c.args.self.now c.args.t c.at.result.now l c.at.ensures.value c.self.view_is c.write_frame.new.frame (λ f. c.args.frame.now) c.write_frame.ensures
+    frame_done (the_view c.self.inside) c.args.self.now c.args.t c.at.result.now l c.at.ensures.value c.self.view_is c.write_frame.new.frame
+    (λ f. c.args.frame.now) c.write_frame.ensures

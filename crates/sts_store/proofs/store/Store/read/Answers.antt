@@ -18,11 +18,13 @@ pub read-requires : goal.read-requires
 read-requires c =
     let l = living (the_view c.self.inside) c.args.self.now c.self.invariant c.self.view_is c.args.t c.requires in
     let now : c.record-running.result.now ≡ l.run = same_Some _ _ (sym c.record-running.ensures ∙ l.runs) in
-    let whole = c.self.invariant.shared.shares.whole c.args.t (holder_of l.run) (map_at holder_of c.self.inside.frames.slots c.args.t ∙ ap (option_map holder_of) l.runs) in
+    let whole = c.self.invariant.shared.shares.whole c.args.t (holder_of l.run)
+    (map_at holder_of c.self.inside.frames.slots c.args.t ∙ ap (option_map holder_of) l.runs) in
     record { whole = subst (λ (r : Running). IsWhole c.self.inside.chains r.env) (sym now) whole }
 
 pub returns : goal.returns
 returns c =
     let l = living (the_view c.self.inside) c.args.self.now c.self.invariant c.self.view_is c.args.t c.requires in
     let now : c.record-running.result.now ≡ l.run = same_Some _ _ (sym c.record-running.ensures ∙ l.runs) in
-    rw (← c.self.view_is) (c.read.ensures ∙ ap (λ (r : Running). model.read (list_of c.self.inside.chains r.env) c.args.key) now ∙ ap (λ (a : Alive). model.read a.environment c.args.key) (sym l.at))
+    rw (← c.self.view_is) (c.read.ensures ∙ ap (λ (r : Running). model.read (list_of c.self.inside.chains r.env) c.args.key) now ∙ ap
+    (λ (a : Alive). model.read a.environment c.args.key) (sym l.at))

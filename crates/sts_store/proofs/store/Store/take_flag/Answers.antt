@@ -22,13 +22,15 @@ at-requires c = has_frame (living (the_view c.self.inside) c.args.self.now c.sel
 pub overflow_add-next : goal.overflow_add-next
 overflow_add-next c =
     let l = living (the_view c.self.inside) c.args.self.now c.self.invariant c.self.view_is c.args.t c.requires.lives in
-    let more : c.at.result.now.frame.pc + 1 < 2 ^ 32 = at_hand (the_view c.self.inside) c.args.self.now c.args.t c.at.result.now l c.at.ensures.value c.self.view_is (λ f. f.pc + 1 < 2 ^ 32) c.requires.more in
+    let more : c.at.result.now.frame.pc + 1 < 2 ^ 32 = at_hand (the_view c.self.inside) c.args.self.now c.args.t c.at.result.now l
+    c.at.ensures.value c.self.view_is (λ f. f.pc + 1 < 2 ^ 32) c.requires.more in
     omega (arith, more)
 
 pub goes_with-requires : goal.goes_with-requires
 goes_with-requires c =
     let l = living (the_view c.self.inside) c.args.self.now c.self.invariant c.self.view_is c.args.t c.requires.lives in
-    let few : length c.at.result.now.frame.operands < 32 = at_hand (the_view c.self.inside) c.args.self.now c.args.t c.at.result.now l c.at.ensures.value c.self.view_is (λ f. length f.operands < 32) c.requires.room in
+    let few : length c.at.result.now.frame.operands < 32 = at_hand (the_view c.self.inside) c.args.self.now c.args.t c.at.result.now l
+    c.at.ensures.value c.self.view_is (λ f. length f.operands < 32) c.requires.room in
     omega (arith, few)
 
 pub invariant_of-self : goal.invariant_of-self

@@ -53,9 +53,11 @@ pub invariant_of-self : goal.invariant_of-self
 invariant_of-self c =
     let m = the_view c.self.inside in
     let t = c.args.t in
-    let k = leaves m c.args.self.now c.self.invariant c.self.view_is t c.args.s c.requires.lives c.requires.order c.requires.entry c.requires.ended in
+    let k = leaves m c.args.self.now c.self.invariant c.self.view_is t c.args.s c.requires.lives c.requires.order c.requires.entry
+    c.requires.ended in
     let r = c.at.result.now in
-    subst (λ (f : Forest Env). IsStore (with_running (record m { tree = f }) t (record r { frame = c.leave_entry.new.frame }) m.chains)) (sym c.close_scope.ensures)
+    subst (λ (f : Forest Env). IsStore (with_running (record m { tree = f }) t (record r { frame = c.leave_entry.new.frame }) m.chains))
+    (sym c.close_scope.ensures)
     (gone_kept m t c.args.s k r c.leave_entry.new.frame c.at.ensures.value (ap (λ (f : Frame). f.entries) c.leave_entry.ensures))
 
 pub returns-clause-live : goal.returns-clause-live

@@ -14,7 +14,8 @@ returns-in-Ok-None-clause-live c =
     let f = frame_of now c.args.t in
     c.joined.ensures.live
     ∙ ap (λ (g : Frame). live_joined (live_of now) c.args.t c.args.s (goes f (g.pc + 1) 0 [])) c.frame.ensures
-    ∙ sym (ap (λ q. live_verdict q (live_of now) c.args.t c.args.s f c.args.failed) (sym c.verdict.ensures ∙ c.in-Ok-None.is ∙ ap verdict.Ok c.in-Ok-None.field-0-is))
+    ∙ sym (ap (λ q. live_verdict q (live_of now) c.args.t c.args.s f c.args.failed)
+    (sym c.verdict.ensures ∙ c.in-Ok-None.is ∙ ap verdict.Ok c.in-Ok-None.field-0-is))
 
 pub returns-in-Ok-Some-clause-live : goal.returns-in-Ok-Some-clause-live
 returns-in-Ok-Some-clause-live c =
@@ -22,9 +23,11 @@ returns-in-Ok-Some-clause-live c =
     let f = frame_of now c.args.t in
     let fits : SFits w64 c.in-Ok-Some.value = search rules in
     c.joined_with.ensures.live
-    ∙ ap (λ n. live_joined (live_of now) c.args.t c.args.s (goes f (c.frame.result.now.pc + 1) 0 (n ∷ []))) (to_z-of_z w64 c.in-Ok-Some.value fits)
+    ∙ ap (λ n. live_joined (live_of now) c.args.t c.args.s (goes f (c.frame.result.now.pc + 1) 0 (n ∷ [])))
+    (to_z-of_z w64 c.in-Ok-Some.value fits)
     ∙ ap (λ (g : Frame). live_joined (live_of now) c.args.t c.args.s (goes f (g.pc + 1) 0 (c.in-Ok-Some.value ∷ []))) c.frame.ensures
-    ∙ sym (ap (λ q. live_verdict q (live_of now) c.args.t c.args.s f c.args.failed) (sym c.verdict.ensures ∙ c.in-Ok-Some.is ∙ ap verdict.Ok c.in-Ok-Some.field-0-is))
+    ∙ sym (ap (λ q. live_verdict q (live_of now) c.args.t c.args.s f c.args.failed)
+    (sym c.verdict.ensures ∙ c.in-Ok-Some.is ∙ ap verdict.Ok c.in-Ok-Some.field-0-is))
 
 pub returns-in-Failed-clause-live : goal.returns-in-Failed-clause-live
 returns-in-Failed-clause-live c =

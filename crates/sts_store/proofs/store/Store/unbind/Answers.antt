@@ -20,18 +20,21 @@ unbind-running-requires-clause-some c =
     let m = the_view c.self.inside in
     let r = c.at-running.result.now in
     let l = living m c.args.self.now c.self.invariant c.self.view_is c.args.t c.requires.lives in
-    let first = bound_first r.frame.entries (at_hand m c.args.self.now c.args.t r l c.at-running.ensures.value c.self.view_is (λ f. innermost is_binding f.entries ≡ true) c.requires.bound) in
+    let first = bound_first r.frame.entries (at_hand m c.args.self.now c.args.t r l c.at-running.ensures.value c.self.view_is
+    (λ f. innermost is_binding f.entries ≡ true) c.requires.bound) in
     is_bound m c.self.invariant c.args.t r r m.chains c.at-running.ensures.value
     (innermost_of m c.self.invariant c.args.t r r m.chains c.at-running.ensures.value first)
 
 pub unbind-running-requires-clause-whole : goal.unbind-running-requires-clause-whole
 unbind-running-requires-clause-whole c =
-    whole_here (the_view c.self.inside) c.self.invariant c.args.t c.at-running.result.now c.at-running.result.now c.self.inside.chains c.at-running.ensures.value
+    whole_here (the_view c.self.inside) c.self.invariant c.args.t c.at-running.result.now c.at-running.result.now c.self.inside.chains
+    c.at-running.ensures.value
 
 pub leave_entry-requires : goal.leave_entry-requires
 leave_entry-requires c =
     let l = living (the_view c.self.inside) c.args.self.now c.self.invariant c.self.view_is c.args.t c.requires.lives in
-    at_hand (the_view c.self.inside) c.args.self.now c.args.t c.at-running.result.now l c.at-running.ensures.value c.self.view_is (λ f. f.pc + 1 < 2 ^ 32) c.requires.more
+    at_hand (the_view c.self.inside) c.args.self.now c.args.t c.at-running.result.now l c.at-running.ensures.value c.self.view_is
+    (λ f. f.pc + 1 < 2 ^ 32) c.requires.more
 
 pub invariant_of-self : goal.invariant_of-self
 invariant_of-self c =

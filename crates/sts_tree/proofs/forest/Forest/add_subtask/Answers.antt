@@ -14,7 +14,8 @@ push_back-row-requires-clause-list g c =
     let slots = c.self.inside.tasks.held.slots in
     let f = family_at c.self.inside.scopes.slots c.args.s c.at-row.result.now c.at-row.ensures.value in
     let is = c.self.invariant.forks c.args.s (family_of c.at-row.result.now) f in
-    let k = fresh_key slots c.push-birth.new.self.slots c.push-birth.result _ 0 c.at-row.result.now.forks (births (is_of c.args.s) 0 (tasks_of slots)) c.push-birth.ensures.birth c.push-birth.ensures.slots is in
+    let k = fresh_key slots c.push-birth.new.self.slots c.push-birth.result _ 0 c.at-row.result.now.forks
+    (births (is_of c.args.s) 0 (tasks_of slots)) c.push-birth.ensures.birth c.push-birth.ensures.slots is in
     (births (is_of c.args.s) 0 (tasks_of slots), k.0, k.1)
 
 pub push_if-row-requires-clause-list : goal.push_if-row-requires-clause-list
@@ -22,16 +23,19 @@ push_if-row-requires-clause-list g c =
     let slots = c.self.inside.tasks.held.slots in
     let f = family_at c.self.inside.scopes.slots c.args.s c.at-row.result.now c.at-row.ensures.value in
     let is = c.self.invariant.forks c.args.s (family_of c.at-row.result.now) f in
-    let k = fresh_key slots c.push-birth.new.self.slots c.push-birth.result _ 0 c.at-row.result.now.forks (births (is_of c.args.s) 0 (tasks_of slots)) c.push-birth.ensures.birth c.push-birth.ensures.slots is in
+    let k = fresh_key slots c.push-birth.new.self.slots c.push-birth.result _ 0 c.at-row.result.now.forks
+    (births (is_of c.args.s) 0 (tasks_of slots)) c.push-birth.ensures.birth c.push-birth.ensures.slots is in
     let living = c.self.invariant.living c.args.s (family_of c.at-row.result.now) f in
-    let l = fresh_key slots c.push-birth.new.self.slots c.push-birth.result _ 1 c.at-row.result.now.living (births (lives_in c.args.s) 0 (tasks_of slots)) c.push-birth.ensures.birth c.push-birth.ensures.slots living in
+    let l = fresh_key slots c.push-birth.new.self.slots c.push-birth.result _ 1 c.at-row.result.now.living
+    (births (lives_in c.args.s) 0 (tasks_of slots)) c.push-birth.ensures.birth c.push-birth.ensures.slots living in
     let forked = c.push_back-row.ensures.list (births (is_of c.args.s) 0 (tasks_of slots)) k.0 k.1 in
     (births (lives_in c.args.s) 0 (tasks_of slots), forked.others 1 c.at-row.result.now.living _ l.0 (λ e. absurd (omega (arith, e))), l.1)
 
 pub overflow_add-row : goal.overflow_add-row
 overflow_add-row g c =
     let f = family_at c.self.inside.scopes.slots c.args.s c.at-row.result.now c.at-row.ensures.value in
-    let few = few_forks c.self.inside.tasks.held.slots (families_of c.self.inside.scopes.slots) c.self.inside.ready c.self.inside.tasks.held.room c.args.s (family_of c.at-row.result.now) c.self.invariant f in
+    let few = few_forks c.self.inside.tasks.held.slots (families_of c.self.inside.scopes.slots) c.self.inside.ready
+    c.self.inside.tasks.held.room c.args.s (family_of c.at-row.result.now) c.self.invariant f in
     omega (arith, few)
 
 after : (g : _) (c : goal.After-self-1 g) → Added c.self.inside.tasks.held.slots c.push_if-row.new.tasks.held.slots (families_of c.self.inside.scopes.slots) c.self.inside.ready c.self.inside.tasks.held.room c.args.s (family_of (record c.at-row.result.now { forks = c.push_back-row.result; fork_count = c.at-row.result.now.fork_count + 1; living = c.push_if-row.result })) (subtask c.args.s c.args.lives)
@@ -56,7 +60,9 @@ pub returns-clause-added : goal.returns-clause-added
 returns-clause-added g c =
     let a = after g c in
     let room = c.push_if-row.ensures.rest.room ∙ c.push_back-row.ensures.rest.room ∙ c.push-birth.ensures.room in
-    let scopes = same_scopes c.self.inside.scopes.slots c.args.s c.at-row.result.now (record c.at-row.result.now { forks = c.push_back-row.result; fork_count = c.at-row.result.now.fork_count + 1; living = c.push_if-row.result }) c.at-row.ensures.value refl in
+    let scopes = same_scopes c.self.inside.scopes.slots c.args.s c.at-row.result.now (record c.at-row.result.now
+    { forks = c.push_back-row.result; fork_count = c.at-row.result.now.fork_count + 1; living = c.push_if-row.result })
+    c.at-row.ensures.value refl in
     rw (← c.self.view_is, a.tasks, a.keys_are, scopes, room) refl
 
 pub push-birth-requires-clause-room : goal.push-birth-requires-clause-room

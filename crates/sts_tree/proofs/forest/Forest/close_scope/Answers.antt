@@ -10,8 +10,12 @@ use Rattle.sts_tree.proofs.forest.Forest.close_scope.Goals as goal
 
 pub remove_all-requires : goal.remove_all-requires
 remove_all-requires g c =
-    let f = family_at c.self.inside.scopes.slots c.args.s c.record-row.result.now c.record-row.ensures in
-    (births (is_of c.args.s) 0 (tasks_of c.self.inside.tasks.held.slots), c.self.invariant.forks c.args.s (family_of c.record-row.result.now) f, sym (c.self.invariant.counts c.args.s (family_of c.record-row.result.now) f))
+    let f = family_at c.self.inside.scopes.slots c.args.s c.record-row.result.now c.record-row.ensures in (
+      births (is_of c.args.s) 0 (tasks_of c.self.inside.tasks.held.slots),
+      c.self.invariant.forks c.args.s
+          (family_of c.record-row.result.now) f,
+      sym (c.self.invariant.counts c.args.s (family_of c.record-row.result.now) f),
+    )
 
 after : (g : _) (c : goal.After-remove_all g) → Closes c.self.inside.tasks.held.slots c.remove_all.new.tasks.held.slots (families_of c.self.inside.scopes.slots) c.self.inside.ready c.self.inside.tasks.held.room c.args.s
 after g c =
@@ -31,4 +35,15 @@ returns g c =
     let a = after g c in
     let f = family_at c.self.inside.scopes.slots c.args.s c.record-row.result.now c.record-row.ensures in
     let count = c.self.invariant.counts c.args.s (family_of c.record-row.result.now) f in
-    rw (← c.self.view_is, a.tasks, a.keys_are, c.remove_all.ensures.room, c.remove_all.ensures.keys, c.discard.ensures.slots, c.discard.ensures.keys, c.discard.ensures.room, count, map-set (option_map scope_of) c.self.inside.scopes.slots c.args.s None) refl
+    rw (
+      ← c.self.view_is,
+      a.tasks,
+      a.keys_are,
+      c.remove_all.ensures.room,
+      c.remove_all.ensures.keys,
+      c.discard.ensures.slots,
+      c.discard.ensures.keys,
+      c.discard.ensures.room,
+      count,
+      map-set (option_map scope_of) c.self.inside.scopes.slots c.args.s None,
+    ) refl

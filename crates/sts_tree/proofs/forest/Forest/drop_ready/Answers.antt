@@ -8,7 +8,9 @@ use Rattle.sts_tree.proofs.forest.Forest.drop_ready.Goals as goal
 pub unlink-self-inside-requires : goal.unlink-self-inside-requires
 unlink-self-inside-requires g c =
     let s = split c.args.t (ready_of c.self.inside.tasks.held.slots c.self.inside.ready) (rw (← c.self.view_is) at c.requires.ready) in
-    let p = can_drop c.self.inside.tasks.held.slots (families_of c.self.inside.scopes.slots) c.self.inside.ready c.self.inside.tasks.held.room c.args.t c.at.result.now (record c.at.result.now { task = record c.at.result.now.task { ready = false } }) c.self.invariant c.at.ensures.value refl s in
+    let p = can_drop c.self.inside.tasks.held.slots (families_of c.self.inside.scopes.slots) c.self.inside.ready
+    c.self.inside.tasks.held.room c.args.t c.at.result.now
+    (record c.at.result.now { task = record c.at.result.now.task { ready = false } }) c.self.invariant c.at.ensures.value refl s in
     (s.front, s.back, p)
 
 after : (g : _) (c : goal.After-self-2-1 g) → Writes c.self.inside.tasks.held.slots c.unlink-self-inside.new.store.held.slots (families_of c.self.inside.scopes.slots) c.self.inside.ready c.unlink-self-inside.result c.self.inside.tasks.held.room c.args.t (record c.at.result.now.task { ready = false }) (without c.args.t (ready_of c.self.inside.tasks.held.slots c.self.inside.ready))
@@ -22,7 +24,8 @@ pub invariant_of-self : goal.invariant_of-self
 invariant_of-self g c = let w = after g c in rw c.unlink-self-inside.ensures.rest.room w.is
 
 pub returns-clause-gone : goal.returns-clause-gone
-returns-clause-gone g c = let w = after g c in rw w.keys_are (without_own c.args.t (ready_of c.self.inside.tasks.held.slots c.self.inside.ready) c.self.invariant.is_ready.distinct)
+returns-clause-gone g c = let w = after g c in rw w.keys_are
+    (without_own c.args.t (ready_of c.self.inside.tasks.held.slots c.self.inside.ready) c.self.invariant.is_ready.distinct)
 
 pub returns-clause-dropped : goal.returns-clause-dropped
 returns-clause-dropped g c x is =

@@ -8,16 +8,20 @@ use Rattle.sts_tree.proofs.forest.Forest.fork_after.Goals as goal
 pub after-requires : goal.after-requires
 after-requires g c =
     let (s, front, back, e) = c.requires in
-    let l = lists_forks c.self.inside.tasks.held.slots c.self.inside.scopes.slots c.self.inside.ready c.self.inside.tasks.held.room s c.args.t front back c.self.invariant (rw (← c.self.view_is) at e) in
+    let l = lists_forks c.self.inside.tasks.held.slots c.self.inside.scopes.slots c.self.inside.ready c.self.inside.tasks.held.room s
+    c.args.t front back c.self.invariant (rw (← c.self.view_is) at e) in
     key_link (link_at c.self.inside.tasks.held.slots 0) l.0 front c.args.t back l.1
 
 pub small-requires : goal.small-requires
 small-requires g c k q =
     let (s, front, back, e) = c.requires in
-    let l = lists_forks c.self.inside.tasks.held.slots c.self.inside.scopes.slots c.self.inside.ready c.self.inside.tasks.held.room s c.args.t front back c.self.invariant (rw (← c.self.view_is) at e) in
-    small_after c.self.inside.tasks.held.slots 0 l.0 front c.args.t back k c.self.invariant.born l.1 (sym (c.after.ensures.key l.0 front back l.1) ∙ q)
+    let l = lists_forks c.self.inside.tasks.held.slots c.self.inside.scopes.slots c.self.inside.ready c.self.inside.tasks.held.room s
+    c.args.t front back c.self.invariant (rw (← c.self.view_is) at e) in
+    small_after c.self.inside.tasks.held.slots 0 l.0 front c.args.t back k c.self.invariant.born l.1
+    (sym (c.after.ensures.key l.0 front back l.1) ∙ q)
 
 pub returns : goal.returns
 returns g c s front back e =
-    let l = lists_forks c.self.inside.tasks.held.slots c.self.inside.scopes.slots c.self.inside.ready c.self.inside.tasks.held.room s c.args.t front back c.self.invariant (rw (← c.self.view_is) at e) in
+    let l = lists_forks c.self.inside.tasks.held.slots c.self.inside.scopes.slots c.self.inside.ready c.self.inside.tasks.held.room s
+    c.args.t front back c.self.invariant (rw (← c.self.view_is) at e) in
     c.small.ensures ∙ c.after.ensures.key l.0 front back l.1

@@ -15,7 +15,8 @@ pub small-requires : goal.small-requires
 small-requires g c k q =
     let s = split c.args.t (ready_of c.self.inside.tasks.held.slots c.self.inside.ready) (rw (← c.self.view_is) at c.requires) in
     let l = rw s.all_are at c.self.invariant.is_ready in
-    small_after c.self.inside.tasks.held.slots 2 c.self.inside.ready s.front c.args.t s.back k c.self.invariant.born l (sym (c.after.ensures.key c.self.inside.ready s.front s.back l) ∙ q)
+    small_after c.self.inside.tasks.held.slots 2 c.self.inside.ready s.front c.args.t s.back k c.self.invariant.born l
+    (sym (c.after.ensures.key c.self.inside.ready s.front s.back l) ∙ q)
 
 pub returns : goal.returns
 returns g c front back e =

@@ -12,8 +12,10 @@ use Rattle.sts_tree.proofs.forest.Forest.task.Goals as goal
 pub returns-in-None-clause-marked : goal.returns-in-None-clause-marked
 returns-in-None-clause-marked g c =
     let slots = c.self.inside.tasks.held.slots in
-    let out = without_link (link_at slots 2) c.args.t None (ready_of slots c.self.inside.ready) None (no_link slots 2 c.args.t (sym c.in-None.ensures)) c.self.invariant.is_ready.linked in
-    let none : get_or (tasks_of slots) c.args.t None ≡ None = map_at task_of slots c.args.t ∙ ap (option_map task_of) (sym c.in-None.ensures) in
+    let out = without_link (link_at slots 2) c.args.t None (ready_of slots c.self.inside.ready) None
+    (no_link slots 2 c.args.t (sym c.in-None.ensures)) c.self.invariant.is_ready.linked in
+    let none : get_or (tasks_of slots) c.args.t None ≡ None =
+    map_at task_of slots c.args.t ∙ ap (option_map task_of) (sym c.in-None.ensures) in
     rw (← c.self.view_is) (rw none (not_has c.args.t _ out))
 
 pub returns-in-Some-clause-marked : goal.returns-in-Some-clause-marked

@@ -7,7 +7,8 @@ use Rattle.sts_tree.specs.Stored.{link_at, link_of, no_link, task_of}
 use Rattle.sts_tree.proofs.tasks.TasksLinks.set_link.Goals as goal
 
 pub returns-clause-rest : goal.returns-clause-rest
-returns-clause-rest c = record { tasks = unseen task_of c.args.self.now.held.slots c.args.key c.at.result.now _ c.at.ensures.value refl; keys = refl; room = refl }
+returns-clause-rest c = record
+    { tasks = unseen task_of c.args.self.now.held.slots c.args.key c.at.result.now _ c.at.ensures.value refl; keys = refl; room = refl }
 
 in_layers : (l : ℕ) (o : Option TaskRecord) → link_of l o ≢ None → l < 3
 in_layers l None h = absurd (h refl)

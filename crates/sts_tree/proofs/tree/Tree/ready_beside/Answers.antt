@@ -25,11 +25,13 @@ loop-at-smaller g c =
     let ready = c.args.self.now.ready in
     let out = c.args.out.now in
     let h = is_at ready out c.loop-at.at c.in-Some.t c.loop-at.invariant c.in-Some.is in
-    rw c.in-Some.is (fewer_left ready out c.in-Some.t h c.ready_after-at.result c.ready_front-at.ensures.once (c.ready_after-at.ensures h.front h.back h.all_are))
+    rw c.in-Some.is (fewer_left ready out c.in-Some.t h c.ready_after-at.result c.ready_front-at.ensures.once
+    (c.ready_after-at.ensures h.front h.back h.all_are))
 
 pub loop-at-preserved : goal.loop-at-preserved
 loop-at-preserved g c =
     let ready = c.args.self.now.ready in
     let out = c.args.out.now in
     let h = is_at ready out c.loop-at.at c.in-Some.t c.loop-at.invariant c.in-Some.is in
-    one_more ready out c.in-Some.t h c.ready_after-at.result (sym c.contains.ensures.value ∙ c.if-not-contains.false) (c.ready_after-at.ensures h.front h.back h.all_are)
+    one_more ready out c.in-Some.t h c.ready_after-at.result (sym c.contains.ensures.value ∙ c.if-not-contains.false)
+    (c.ready_after-at.ensures h.front h.back h.all_are)

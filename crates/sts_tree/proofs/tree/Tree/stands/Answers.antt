@@ -41,7 +41,10 @@ invariant_of-self-2 g c =
     let y = record x { stand = c.args.stand } in
     let is = c.swap_stand-is_same.ensures.was in
     let one_is = c.swap_stand-is_same.ensures.set in
-    settled f c.swap_stand-is_same.new.self c.settle_at.new.forest c.args.t c.self.invariant (ap (λ h. h.ready) one_is) (λ u ne. rw one_is (steps_task f c.args.t u x y is refl refl ne)) (rw one_is (owned_task f c.args.t x y c.self.invariant.owned is (λ s l st. (rw (← c.self.view_is) at c.requires.owner) s st))) c.settle_at.ensures.seen c.settle_at.ensures.ready
+    settled f c.swap_stand-is_same.new.self c.settle_at.new.forest c.args.t c.self.invariant (ap (λ h. h.ready) one_is)
+    (λ u ne. rw one_is (steps_task f c.args.t u x y is refl refl ne))
+    (rw one_is (owned_task f c.args.t x y c.self.invariant.owned is (λ s l st. (rw (← c.self.view_is) at c.requires.owner) s st)))
+    c.settle_at.ensures.seen c.settle_at.ensures.ready
 
 pub returns-clause-can_step : goal.returns-clause-can_step
 returns-clause-can_step g c =

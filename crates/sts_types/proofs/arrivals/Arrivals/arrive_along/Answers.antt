@@ -13,7 +13,8 @@ invariant_of-self-in-Some c =
     let kept = c.self.inside.kept.items in
     let now = c.keep.new.kept.items in
     let more = c.keep.ensures.more in (
-      marks_hold kept more.0 now c.self.inside.marks.items c.in-Some.to c.merged.result more.1 c.self.invariant.0 (subst (λ l. IsMarked (length l) c.merged.result) c.as_slice.ensures.value c.merged.ensures.marked),
+      marks_hold kept more.0 now c.self.inside.marks.items c.in-Some.to c.merged.result more.1 c.self.invariant.0
+          (subst (λ l. IsMarked (length l) c.merged.result) c.as_slice.ensures.value c.merged.ensures.marked),
       c.in-Ok.ensures.like.0,
       sym c.in-Ok.ensures.like.1,
       mark_holds kept more.0 now (One c.self.inside.start) more.1 c.self.invariant.3,
@@ -39,37 +40,56 @@ pub index-requires-in-Some : goal.index-requires-in-Some
 index-requires-in-Some c =
     let out = λ (s : TypeState). follows c.args.site.now.program.now c.args.site.now.loops.now c.args.site.now.pc c.args.site.now.instr s in
     let state = ap (λ a. a.state) c.self.view_is in
-    let there : slice_get (out c.args.self.now.state) c.args.number ≡ Some (c.in-Some.to, c.edge.new.state) = ap (λ s. slice_get (out s) c.args.number) (sym state) ∙ goes_there (slice_get (out c.self.inside.state) c.args.number) c.self.inside.state c.edge.result c.edge.new.state c.in-Some.to c.edge.ensures c.in-Some.is in
-    let within : c.in-Some.to < length c.self.inside.marks.items = within_marks c.self.inside.kept.items c.self.inside.marks.items c.args.self.now.table c.in-Some.to (ap (λ a. a.table) c.self.view_is) (place_within (out c.args.self.now.state) c.args.number c.in-Some.to (length c.args.self.now.table) c.edge.new.state there c.requires.places) in
+    let there : slice_get (out c.args.self.now.state) c.args.number ≡ Some (c.in-Some.to, c.edge.new.state) = ap
+    (λ s. slice_get (out s) c.args.number) (sym state) ∙ goes_there (slice_get (out c.self.inside.state) c.args.number)
+    c.self.inside.state c.edge.result c.edge.new.state c.in-Some.to c.edge.ensures c.in-Some.is in
+    let within : c.in-Some.to < length c.self.inside.marks.items = within_marks c.self.inside.kept.items c.self.inside.marks.items
+    c.args.self.now.table c.in-Some.to (ap (λ a. a.table) c.self.view_is) (place_within (out c.args.self.now.state) c.args.number
+    c.in-Some.to (length c.args.self.now.table) c.edge.new.state there c.requires.places) in
     search (rules, within)
 
 pub index_mut-requires : goal.index_mut-requires
 index_mut-requires c =
     let out = λ (s : TypeState). follows c.args.site.now.program.now c.args.site.now.loops.now c.args.site.now.pc c.args.site.now.instr s in
     let state = ap (λ a. a.state) c.self.view_is in
-    let there : slice_get (out c.args.self.now.state) c.args.number ≡ Some (c.in-Some.to, c.edge.new.state) = ap (λ s. slice_get (out s) c.args.number) (sym state) ∙ goes_there (slice_get (out c.self.inside.state) c.args.number) c.self.inside.state c.edge.result c.edge.new.state c.in-Some.to c.edge.ensures c.in-Some.is in
-    let within : c.in-Some.to < length c.self.inside.marks.items = within_marks c.self.inside.kept.items c.self.inside.marks.items c.args.self.now.table c.in-Some.to (ap (λ a. a.table) c.self.view_is) (place_within (out c.args.self.now.state) c.args.number c.in-Some.to (length c.args.self.now.table) c.edge.new.state there c.requires.places) in
+    let there : slice_get (out c.args.self.now.state) c.args.number ≡ Some (c.in-Some.to, c.edge.new.state) = ap
+    (λ s. slice_get (out s) c.args.number) (sym state) ∙ goes_there (slice_get (out c.self.inside.state) c.args.number)
+    c.self.inside.state c.edge.result c.edge.new.state c.in-Some.to c.edge.ensures c.in-Some.is in
+    let within : c.in-Some.to < length c.self.inside.marks.items = within_marks c.self.inside.kept.items c.self.inside.marks.items
+    c.args.self.now.table c.in-Some.to (ap (λ a. a.table) c.self.view_is) (place_within (out c.args.self.now.state) c.args.number
+    c.in-Some.to (length c.args.self.now.table) c.edge.new.state there c.requires.places) in
     search (rules, within)
 
 pub merged-requires-clause-before : goal.merged-requires-clause-before
 merged-requires-clause-before c =
     let out = λ (s : TypeState). follows c.args.site.now.program.now c.args.site.now.loops.now c.args.site.now.pc c.args.site.now.instr s in
     let state = ap (λ a. a.state) c.self.view_is in
-    let there : slice_get (out c.args.self.now.state) c.args.number ≡ Some (c.in-Some.to, c.edge.new.state) = ap (λ s. slice_get (out s) c.args.number) (sym state) ∙ goes_there (slice_get (out c.self.inside.state) c.args.number) c.self.inside.state c.edge.result c.edge.new.state c.in-Some.to c.edge.ensures c.in-Some.is in
-    let within : c.in-Some.to < length c.self.inside.marks.items = within_marks c.self.inside.kept.items c.self.inside.marks.items c.args.self.now.table c.in-Some.to (ap (λ a. a.table) c.self.view_is) (place_within (out c.args.self.now.state) c.args.number c.in-Some.to (length c.args.self.now.table) c.edge.new.state there c.requires.places) in
-    marked_there c.self.inside.kept.items c.keep.ensures.more.0 c.keep.new.kept.items c.as_slice.result.now c.self.inside.marks.items c.in-Some.to c.index-in-Some.result.now c.keep.ensures.more.1 c.as_slice.ensures.value c.self.invariant.0 within c.index-in-Some.ensures
+    let there : slice_get (out c.args.self.now.state) c.args.number ≡ Some (c.in-Some.to, c.edge.new.state) = ap
+    (λ s. slice_get (out s) c.args.number) (sym state) ∙ goes_there (slice_get (out c.self.inside.state) c.args.number)
+    c.self.inside.state c.edge.result c.edge.new.state c.in-Some.to c.edge.ensures c.in-Some.is in
+    let within : c.in-Some.to < length c.self.inside.marks.items = within_marks c.self.inside.kept.items c.self.inside.marks.items
+    c.args.self.now.table c.in-Some.to (ap (λ a. a.table) c.self.view_is) (place_within (out c.args.self.now.state) c.args.number
+    c.in-Some.to (length c.args.self.now.table) c.edge.new.state there c.requires.places) in
+    marked_there c.self.inside.kept.items c.keep.ensures.more.0 c.keep.new.kept.items c.as_slice.result.now c.self.inside.marks.items
+    c.in-Some.to c.index-in-Some.result.now c.keep.ensures.more.1 c.as_slice.ensures.value c.self.invariant.0 within
+    c.index-in-Some.ensures
 
 pub near-near-requires : goal.near-near-requires
 near-near-requires c =
     let out = λ (s : TypeState). follows c.args.site.now.program.now c.args.site.now.loops.now c.args.site.now.pc c.args.site.now.instr s in
     let state = ap (λ a. a.state) c.self.view_is in
-    let there : slice_get (out c.args.self.now.state) c.args.number ≡ Some (c.in-Some.to, c.edge.new.state) = ap (λ s. slice_get (out s) c.args.number) (sym state) ∙ goes_there (slice_get (out c.self.inside.state) c.args.number) c.self.inside.state c.edge.result c.edge.new.state c.in-Some.to c.edge.ensures c.in-Some.is in
-    within_marks c.self.inside.kept.items c.self.inside.marks.items c.args.self.now.table c.in-Some.to (ap (λ a. a.table) c.self.view_is) (place_within (out c.args.self.now.state) c.args.number c.in-Some.to (length c.args.self.now.table) c.edge.new.state there c.requires.places)
+    let there : slice_get (out c.args.self.now.state) c.args.number ≡ Some (c.in-Some.to, c.edge.new.state) = ap
+    (λ s. slice_get (out s) c.args.number) (sym state) ∙ goes_there (slice_get (out c.self.inside.state) c.args.number)
+    c.self.inside.state c.edge.result c.edge.new.state c.in-Some.to c.edge.ensures c.in-Some.is in
+    within_marks c.self.inside.kept.items c.self.inside.marks.items c.args.self.now.table c.in-Some.to (ap (λ a. a.table) c.self.view_is)
+    (place_within (out c.args.self.now.state) c.args.number c.in-Some.to (length c.args.self.now.table) c.edge.new.state there
+    c.requires.places)
 
 pub index-requires : goal.index-requires
 index-requires c =
     let more = c.keep.ensures.more in
-    let within : c.self.inside.like < length c.keep.new.kept.items = omega (arith, c.self.invariant.1, longer_kept c.self.inside.kept.items more.0 c.keep.new.kept.items more.1) in
+    let within : c.self.inside.like < length c.keep.new.kept.items =
+    omega (arith, c.self.invariant.1, longer_kept c.self.inside.kept.items more.0 c.keep.new.kept.items more.1) in
     search (rules, within)
 
 pub invariant_of-self : goal.invariant_of-self
@@ -86,8 +106,10 @@ invariant_of-self c =
 
 pub returns-in-Err-clause-start : goal.returns-in-Err-clause-start
 returns-in-Err-clause-start c =
-    same_kept c.self.inside.kept.items c.keep.ensures.more.0 c.keep.new.kept.items c.self.inside.start c.keep.ensures.more.1 c.self.invariant.3.0 ∙ ap (λ a. a.start) c.self.view_is
+    same_kept c.self.inside.kept.items c.keep.ensures.more.0 c.keep.new.kept.items c.self.inside.start c.keep.ensures.more.1
+    c.self.invariant.3.0 ∙ ap (λ a. a.start) c.self.view_is
 
 pub returns-in-Ok-clause-start : goal.returns-in-Ok-clause-start
 returns-in-Ok-clause-start c =
-    same_kept c.self.inside.kept.items c.keep.ensures.more.0 c.keep.new.kept.items c.self.inside.start c.keep.ensures.more.1 c.self.invariant.3.0 ∙ ap (λ a. a.start) c.self.view_is
+    same_kept c.self.inside.kept.items c.keep.ensures.more.0 c.keep.new.kept.items c.self.inside.start c.keep.ensures.more.1
+    c.self.invariant.3.0 ∙ ap (λ a. a.start) c.self.view_is

@@ -11,4 +11,5 @@ returns-clause-long c =
     ∙ ap length (ap (λ a. a.table) c.self.view_is)
 
 pub returns-clause-each : goal.returns-clause-each
-returns-clause-each c = λ place s is. only_there c.self.inside.kept.items c.self.inside.marks.items c.args.self.table place s (ap (λ a. a.table) c.self.view_is) is
+returns-clause-each c = λ place s is. only_there c.self.inside.kept.items c.self.inside.marks.items c.args.self.table place s
+    (ap (λ a. a.table) c.self.view_is) is

@@ -25,4 +25,5 @@ pub returns : goal.returns
 returns c =
     let code = c.args.self.now in
     let past = heads_end c.args.loops.now c.loop-i.i (omega (arith, c.len-i-end.ensures.len, c.loop-i-test.false)) in
-    none_is c.head-2.result c.is_none.result c.is_none.ensures ∙ ap is_none c.head-2.ensures ∙ sym (at_end code c.loop-i.place) ∙ ap (bytes_eq (around code c.loop-i.place)) (sym past) ∙ c.loop-i.invariant
+    none_is c.head-2.result c.is_none.result c.is_none.ensures ∙ ap is_none c.head-2.ensures ∙ sym (at_end code c.loop-i.place) ∙ ap
+    (bytes_eq (around code c.loop-i.place)) (sym past) ∙ c.loop-i.invariant

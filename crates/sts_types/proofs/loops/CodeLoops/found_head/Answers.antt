@@ -6,10 +6,12 @@ pub loop-at-init : goal.loop-at-init
 loop-at-init c = refl
 
 pub returns-then-is_inside : goal.returns-then-is_inside
-returns-then-is_inside c = is_head c.args.self.now c.args.place c.loop-at.at (omega (arith, c.loop-at-test.true)) (sym c.is_inside.ensures ∙ c.if-is_inside.true) c.loop-at.invariant
+returns-then-is_inside c = is_head c.args.self.now c.args.place c.loop-at.at (omega (arith, c.loop-at-test.true))
+    (sym c.is_inside.ensures ∙ c.if-is_inside.true) c.loop-at.invariant
 
 pub loop-at-preserved : goal.loop-at-preserved
-loop-at-preserved c = is_no_head c.args.self.now c.args.place c.loop-at.at (omega (arith, c.loop-at-test.true)) (sym c.is_inside.ensures ∙ c.if-is_inside.false) c.loop-at.invariant
+loop-at-preserved c = is_no_head c.args.self.now c.args.place c.loop-at.at (omega (arith, c.loop-at-test.true))
+    (sym c.is_inside.ensures ∙ c.if-is_inside.false) c.loop-at.invariant
 
 pub returns : goal.returns
 returns c =

@@ -25,8 +25,11 @@ loop-at-preserved c =
     let code = c.args.code.now in
     let e = ends_read code c.in_ok-ends.ends.items c.loop-at.at _ c.in_ok-ends.ensures c.loop-at-test.true c.index.ensures in
     elim c.match-index.branch [
-      | in-Some w ↦ subst (λ (v : Vec (Option ℕ) Global). AreHeads code v.items (c.loop-at.at + 1)) (sym w.heads-is) (heads_marked code c.loop-at.heads.items w.mark.new.heads.items c.loop-at.at w.in-Some.end c.loop-at.invariant (omega (arith, w.mark.ensures.len)) (sym e ∙ w.in-Some.is) w.mark.ensures.marked)
-      | in_default w ↦ subst (λ (v : Vec (Option ℕ) Global). AreHeads code v.items (c.loop-at.at + 1)) (sym w.heads-is) (heads_kept code c.loop-at.heads.items c.loop-at.at c.loop-at.invariant (sym e ∙ w.in_default.is))
+      | in-Some w ↦ subst (λ (v : Vec (Option ℕ) Global). AreHeads code v.items (c.loop-at.at + 1)) (sym w.heads-is) (heads_marked code
+          c.loop-at.heads.items w.mark.new.heads.items c.loop-at.at w.in-Some.end c.loop-at.invariant (omega (arith, w.mark.ensures.len))
+          (sym e ∙ w.in-Some.is) w.mark.ensures.marked)
+      | in_default w ↦ subst (λ (v : Vec (Option ℕ) Global). AreHeads code v.items (c.loop-at.at + 1)) (sym w.heads-is)
+          (heads_kept code c.loop-at.heads.items c.loop-at.at c.loop-at.invariant (sym e ∙ w.in_default.is))
     ]
 
 pub returns : goal.returns

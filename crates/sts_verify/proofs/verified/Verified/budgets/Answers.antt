@@ -8,6 +8,8 @@ use Rattle.sts_verify.proofs.verified.Verified.budgets.Goals as goal
 
 pub returns : goal.returns
 returns c =
-    let lt : c.args.function < length c.self.inside.budgets.items = omega (arith, c.self.invariant.1, ap (λ (q : Program). length q.routines) c.self.view_is, c.requires) in
+    let lt : c.args.function < length c.self.inside.budgets.items =
+    omega (arith, c.self.invariant.1, ap (λ (q : Program). length q.routines) c.self.view_is, c.requires) in
     subst (λ q. IsBudgetOf q c.args.function c.index.result.now) c.self.view_is
-    (budget_is c.self.inside.program c.self.inside.budgets.items c.args.function lt c.self.invariant.2 c.index.result.now (c.index.ensures ∙ get_or_default c.self.inside.budgets.items c.args.function _ no_budget lt))
+    (budget_is c.self.inside.program c.self.inside.budgets.items c.args.function lt c.self.invariant.2 c.index.result.now
+    (c.index.ensures ∙ get_or_default c.self.inside.budgets.items c.args.function _ no_budget lt))

@@ -27,4 +27,6 @@ loop-at-preserved c =
 
 pub returns : goal.returns
 returns c e =
-    rw (← c.self.view_is, ← c.other.view_is) (c.loop-at.invariant.rest (both_none c.self.inside.links.items c.other.inside.links.items c.loop-at.younger c.loop-at.younger_there c.loop-at.at c.loop-at.at_there c.in_default.is (let none : is_none c.loop-at.at_there ≡ true = rw (c.is_none.ensures, e) twice in none)))
+    rw (← c.self.view_is, ← c.other.view_is) (c.loop-at.invariant.rest (both_none c.self.inside.links.items c.other.inside.links.items
+    c.loop-at.younger c.loop-at.younger_there c.loop-at.at c.loop-at.at_there c.in_default.is
+    (let none : is_none c.loop-at.at_there ≡ true = rw (c.is_none.ensures, e) twice in none)))

@@ -16,20 +16,26 @@ use Rattle.sts_world.proofs.records.Records.open_scope.Goals as goal
 pub returns-in_err-front-clause-err : goal.returns-in_err-front-clause-err
 returns-in_err-front-clause-err c =
     let p = err_from_is_err_and c.from_residual.result c.from_residual.ensures.1 in
-    rw (p.1, ← c.self.view_is) (ap (λ (ss : List Scope). record { tasks = c.self.inside.tasks.items; scopes = ss }) (shown_grown c.self.inside.chains c.environment.new.chains c.self.inside.scopes.items c.self.invariant.2 c.environment.ensures.grows))
+    rw (p.1, ← c.self.view_is) (ap (λ (ss : List Scope). record { tasks = c.self.inside.tasks.items; scopes = ss }) (shown_grown
+    c.self.inside.chains c.environment.new.chains c.self.inside.scopes.items c.self.invariant.2 c.environment.ensures.grows))
 
 pub returns-in_err-push-clause-err : goal.returns-in_err-push-clause-err
 returns-in_err-push-clause-err c =
     let p = err_from_is_err_and c.from_residual-in_err-push.result c.from_residual-in_err-push.ensures.1 in
-    rw (p.1, ← c.self.view_is, c.in_err-push.ensures.items) (ap (λ (ss : List Scope). record { tasks = c.self.inside.tasks.items; scopes = ss }) (shown_grown c.self.inside.chains c.environment.new.chains c.self.inside.scopes.items c.self.invariant.2 c.environment.ensures.grows))
+    rw (p.1, ← c.self.view_is, c.in_err-push.ensures.items) (ap
+    (λ (ss : List Scope). record { tasks = c.self.inside.tasks.items; scopes = ss }) (shown_grown c.self.inside.chains
+    c.environment.new.chains c.self.inside.scopes.items c.self.invariant.2 c.environment.ensures.grows))
 
 pub invariant_of-self-2 : goal.invariant_of-self-2
 invariant_of-self-2 c =
-    let room : length (map (shown c.self.inside.chains) c.self.inside.scopes.items) < MAX_BIRTHS = subst (λ (w : World). length w.scopes < MAX_BIRTHS) (sym c.self.view_is) c.requires.room in
-    let few : length c.self.inside.scopes.items < MAX_BIRTHS = omega (arith, room, length-map c.self.inside.scopes.items (shown c.self.inside.chains)) in (
+    let room : length (map (shown c.self.inside.chains) c.self.inside.scopes.items) < MAX_BIRTHS =
+    subst (λ (w : World). length w.scopes < MAX_BIRTHS) (sym c.self.view_is) c.requires.room in
+    let few : length c.self.inside.scopes.items < MAX_BIRTHS =
+    omega (arith, room, length-map c.self.inside.scopes.items (shown c.self.inside.chains)) in (
       simp length-set c.self.invariant.0,
       rw c.in_ok-push.ensures.items (simp length-append (omega arith)),
-      rw c.in_ok-push.ensures.items (within_push c.environment.new.chains c.self.inside.scopes.items _ (within_grown c.self.inside.chains c.environment.new.chains c.self.inside.scopes.items c.self.invariant.2 c.environment.ensures.grows) c.in_ok-front.ensures.within),
+      rw c.in_ok-push.ensures.items (within_push c.environment.new.chains c.self.inside.scopes.items _ (within_grown c.self.inside.chains
+          c.environment.new.chains c.self.inside.scopes.items c.self.invariant.2 c.environment.ensures.grows) c.in_ok-front.ensures.within),
     )
 
 pub returns-clause-ok : goal.returns-clause-ok
@@ -45,13 +51,16 @@ returns-clause-ok c =
     (opened c.self.inside.tasks.items c.self.inside.chains c.environment.new.chains c.self.inside.scopes.items c.args.t c.len-s.result c.args.slot c.args.joiner c.args.timed c.in_ok-front.front c.front_of-rest.result c.self.invariant.2 c.environment.ensures.grows born rest (rw second at list))
 
 pub index-requires : goal.index-requires
-index-requires c = let born : c.args.t < length c.self.inside.tasks.items = subst (λ (w : World). c.args.t < length w.tasks) (sym c.self.view_is) c.requires.born in omega (arith, born)
+index-requires c = let born : c.args.t < length c.self.inside.tasks.items = subst (λ (w : World). c.args.t < length w.tasks)
+    (sym c.self.view_is) c.requires.born in omega (arith, born)
 
 pub index-requires-2 : goal.index-requires-2
-index-requires-2 c = let born : c.args.t < length c.self.inside.tasks.items = subst (λ (w : World). c.args.t < length w.tasks) (sym c.self.view_is) c.requires.born in omega (arith, born)
+index-requires-2 c = let born : c.args.t < length c.self.inside.tasks.items = subst (λ (w : World). c.args.t < length w.tasks)
+    (sym c.self.view_is) c.requires.born in omega (arith, born)
 
 pub index_mut-requires : goal.index_mut-requires
-index_mut-requires c = let born : c.args.t < length c.self.inside.tasks.items = subst (λ (w : World). c.args.t < length w.tasks) (sym c.self.view_is) c.requires.born in omega (arith, born)
+index_mut-requires c = let born : c.args.t < length c.self.inside.tasks.items = subst (λ (w : World). c.args.t < length w.tasks)
+    (sym c.self.view_is) c.requires.born in omega (arith, born)
 
 own : (tasks : List Task) (t : ℕ) (here : Task) → t < length tasks → here ≡ get_or tasks t here → here ≡ slice_index_or tasks t no_task
 own tasks t here born is = is ∙ get_or_default tasks t here no_task born
@@ -66,10 +75,12 @@ pub leave_open-requires-clause-more : goal.leave_open-requires-clause-more
 leave_open-requires-clause-more c =
     let born = subst (λ (w : World). c.args.t < length w.tasks) (sym c.self.view_is) c.requires.born in
     let is = own c.self.inside.tasks.items c.args.t c.index_mut.result.now born c.index_mut.ensures.value in
-    subst (λ (k : Task). k.frame.pc + 1 < 2 ^ 32) (sym is) (subst (λ (w : World). (task_at w c.args.t).frame.pc + 1 < 2 ^ 32) (sym c.self.view_is) c.requires.more)
+    subst (λ (k : Task). k.frame.pc + 1 < 2 ^ 32) (sym is)
+    (subst (λ (w : World). (task_at w c.args.t).frame.pc + 1 < 2 ^ 32) (sym c.self.view_is) c.requires.more)
 
 pub leave_open-requires-clause-entries : goal.leave_open-requires-clause-entries
 leave_open-requires-clause-entries c =
     let born = subst (λ (w : World). c.args.t < length w.tasks) (sym c.self.view_is) c.requires.born in
     let is = own c.self.inside.tasks.items c.args.t c.index_mut.result.now born c.index_mut.ensures.value in
-    subst (λ (k : Task). length k.frame.entries < MAX_ENTRIES) (sym is) (subst (λ (w : World). length (task_at w c.args.t).frame.entries < MAX_ENTRIES) (sym c.self.view_is) c.requires.entries)
+    subst (λ (k : Task). length k.frame.entries < MAX_ENTRIES) (sym is)
+    (subst (λ (w : World). length (task_at w c.args.t).frame.entries < MAX_ENTRIES) (sym c.self.view_is) c.requires.entries)

@@ -10,5 +10,7 @@ pub returns-in_ok-push-clause-ok : goal.returns-in_ok-push-clause-ok
 returns-in_ok-push-clause-ok c =
     let bound : c.args.s < length c.self.inside.scopes.items = omega (arith, c.self.inside.scopes.ok) in
     let was = sym (shown_at c.self.inside.chains c.self.inside.scopes.items c.args.s bound) in
-    let here : c.index_mut.result.now ≡ slice_index_or c.self.inside.scopes.items c.args.s no_record = c.index_mut.ensures.value ∙ get_or_default c.self.inside.scopes.items c.args.s _ no_record bound in
-    rw (← c.self.view_is, c.in_ok-push.ensures.ok) (shown_set c.self.inside.chains c.self.inside.tasks.items c.self.inside.scopes.items c.args.s _ _ (ap (λ (x : Scope). told x c.args.t c.args.end) (ap (shown c.self.inside.chains) here ∙ was)))
+    let here : c.index_mut.result.now ≡ slice_index_or c.self.inside.scopes.items c.args.s no_record =
+    c.index_mut.ensures.value ∙ get_or_default c.self.inside.scopes.items c.args.s _ no_record bound in
+    rw (← c.self.view_is, c.in_ok-push.ensures.ok) (shown_set c.self.inside.chains c.self.inside.tasks.items c.self.inside.scopes.items
+    c.args.s _ _ (ap (λ (x : Scope). told x c.args.t c.args.end) (ap (shown c.self.inside.chains) here ∙ was)))

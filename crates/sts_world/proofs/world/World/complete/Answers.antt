@@ -21,27 +21,33 @@ index_mut-requires c =
 pub index_mut-requires-2 : goal.index_mut-requires-2
 index_mut-requires-2 c =
     let w : World = c.self.inside.records in
-    let k = subtask_there w c.args.self.now c.self.inside.families.items _ _ _ c.args.t c.args.s c.self.view_is c.requires.born c.requires.lives c.requires.in_scope c.self.invariant.0 in
+    let k = subtask_there w c.args.self.now c.self.inside.families.items _ _ _ c.args.t c.args.s c.self.view_is c.requires.born
+    c.requires.lives c.requires.in_scope c.self.invariant.0 in
     omega (arith, k.bound)
 
 pub lose-requires : goal.lose-requires
 lose-requires c =
     let w : World = c.self.inside.records in
-    let k = subtask_there w c.args.self.now c.self.inside.families.items _ _ _ c.args.t c.args.s c.self.view_is c.requires.born c.requires.lives c.requires.in_scope c.self.invariant.0 in
-    let family : c.index_mut-2.result.now ≡ slice_index_or c.self.inside.families.items c.args.s no_family = c.index_mut-2.ensures.value ∙ get_or_default c.self.inside.families.items c.args.s _ no_family k.bound in
+    let k = subtask_there w c.args.self.now c.self.inside.families.items _ _ _ c.args.t c.args.s c.self.view_is c.requires.born
+    c.requires.lives c.requires.in_scope c.self.invariant.0 in
+    let family : c.index_mut-2.result.now ≡ slice_index_or c.self.inside.families.items c.args.s no_family =
+    c.index_mut-2.ensures.value ∙ get_or_default c.self.inside.families.items c.args.s _ no_family k.bound in
     rw family k.more
 
 pub index_mut-requires-3 : goal.index_mut-requires-3
 index_mut-requires-3 c =
     let w : World = c.self.inside.records in
-    let k = subtask_there w c.args.self.now c.self.inside.families.items _ _ _ c.args.t c.args.s c.self.view_is c.requires.born c.requires.lives c.requires.in_scope c.self.invariant.0 in
+    let k = subtask_there w c.args.self.now c.self.inside.families.items _ _ _ c.args.t c.args.s c.self.view_is c.requires.born
+    c.requires.lives c.requires.in_scope c.self.invariant.0 in
     omega (arith, (tallies_bound w _ _ _ _ c.args.s c.self.invariant.0 k.bound).0)
 
 pub on_complete-requires : goal.on_complete-requires
 on_complete-requires c =
     let w : World = c.self.inside.records in
-    let k = subtask_there w c.args.self.now c.self.inside.families.items _ _ _ c.args.t c.args.s c.self.view_is c.requires.born c.requires.lives c.requires.in_scope c.self.invariant.0 in
-    let tally : c.index_mut-3.result.now ≡ slice_index_or c.self.inside.tallies.items c.args.s no_tally = c.index_mut-3.ensures.value ∙ get_or_default c.self.inside.tallies.items c.args.s _ no_tally (tallies_bound w _ _ _ _ c.args.s c.self.invariant.0 k.bound).0 in
+    let k = subtask_there w c.args.self.now c.self.inside.families.items _ _ _ c.args.t c.args.s c.self.view_is c.requires.born
+    c.requires.lives c.requires.in_scope c.self.invariant.0 in
+    let tally : c.index_mut-3.result.now ≡ slice_index_or c.self.inside.tallies.items c.args.s no_tally = c.index_mut-3.ensures.value
+    ∙ get_or_default c.self.inside.tallies.items c.args.s _ no_tally (tallies_bound w _ _ _ _ c.args.s c.self.invariant.0 k.bound).0 in
     rw tally (told_bound w _ _ _ _ c.args.s c.self.invariant.0)
 
 pub invariant_of-self-2 : goal.invariant_of-self-2

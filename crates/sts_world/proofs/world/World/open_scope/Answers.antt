@@ -8,10 +8,21 @@ use Rattle.sts_world.proofs.world.World.open_scope.Goals as goal
 pub invariant_of-self-3 : goal.invariant_of-self-3
 invariant_of-self-3 c =
     let w : World = c.self.inside.records in
-    let count : c.standing_scopes-scopes.result ≡ c.self.inside.standing_scopes = c.standing_scopes-scopes.ensures.value ∙ finds_scopes w ∙ sym c.self.invariant.0.scopes in (
-      rw (c.in_ok-push.ensures.items, c.reserve.ensures.items, c.new.ensures, c.in_ok-push-2.ensures.items, c.reserve-2.ensures.items, c.new-2.ensures, count)
-          (kept_scope_born w c.open_scope.new.self _ _ _ _ c.args.t (task_at w c.args.t).frame c.args.slot c.args.joiner c.args.timed c.in_ok-open_scope.ensures.ok c.self.invariant.0),
-      ends_open w c.open_scope.new.self _ c.args.t (task_at w c.args.t).frame c.args.slot c.args.joiner c.args.timed c.in_ok-open_scope.ensures.ok c.self.invariant.1,
+    let count : c.standing_scopes-scopes.result ≡ c.self.inside.standing_scopes =
+    c.standing_scopes-scopes.ensures.value ∙ finds_scopes w ∙ sym c.self.invariant.0.scopes in (
+      rw (
+        c.in_ok-push.ensures.items,
+        c.reserve.ensures.items,
+        c.new.ensures,
+        c.in_ok-push-2.ensures.items,
+        c.reserve-2.ensures.items,
+        c.new-2.ensures,
+        count,
+      )
+          (kept_scope_born w c.open_scope.new.self _ _ _ _ c.args.t (task_at w c.args.t).frame c.args.slot c.args.joiner c.args.timed
+          c.in_ok-open_scope.ensures.ok c.self.invariant.0),
+      ends_open w c.open_scope.new.self _ c.args.t (task_at w c.args.t).frame c.args.slot c.args.joiner c.args.timed
+          c.in_ok-open_scope.ensures.ok c.self.invariant.1,
     )
 
 pub open_scope-requires-clause-born : goal.open_scope-requires-clause-born

@@ -18,8 +18,10 @@ invariant_of-self c =
     let w : World = c.self.inside.records in
     let born : c.args.t < length w.tasks = rw c.self.view_is c.requires.born in
     let living : lives (task_at w c.args.t) ≡ true = rw c.self.view_is c.requires.lives in
-    let after : with_task w c.args.t c.end.new.self ≡ ended w c.args.t (task_at w c.args.t).frame c.args.end = ended_at w c.args.t _ _ c.args.end c.end.ensures c.task.ensures.value in (
-      kept_root_end w _ _ _ _ _ c.args.t (task_at w c.args.t).frame c.args.end after born living (sym c.parent-parent.ensures ∙ c.in-None.is) c.self.invariant.0,
+    let after : with_task w c.args.t c.end.new.self ≡ ended w c.args.t (task_at w c.args.t).frame c.args.end =
+    ended_at w c.args.t _ _ c.args.end c.end.ensures c.task.ensures.value in (
+      kept_root_end w _ _ _ _ _ c.args.t (task_at w c.args.t).frame c.args.end after born living
+          (sym c.parent-parent.ensures ∙ c.in-None.is) c.self.invariant.0,
       ends_end w _ _ c.args.t (task_at w c.args.t).frame c.args.end after born living c.self.invariant.1,
     )
 
@@ -37,8 +39,10 @@ lose-requires c =
     let born : c.args.t < length w.tasks = rw c.self.view_is c.requires.born in
     let living : lives (task_at w c.args.t) ≡ true = rw c.self.view_is c.requires.lives in
     let in_scope : (task_at w c.args.t).scope ≡ Some c.in-Some.s = sym c.parent-parent.ensures ∙ c.in-Some.is in
-    let bound : c.in-Some.s < length c.self.inside.families.items = (task_family w c.self.inside.families.items _ _ _ c.args.t c.in-Some.s born living in_scope c.self.invariant.0).0 in
-    let same : c.index_mut-in-Some.result.now ≡ slice_index_or c.self.inside.families.items c.in-Some.s no_family = c.index_mut-in-Some.ensures.value ∙ get_or_default c.self.inside.families.items c.in-Some.s _ no_family bound in
+    let bound : c.in-Some.s < length c.self.inside.families.items =
+    (task_family w c.self.inside.families.items _ _ _ c.args.t c.in-Some.s born living in_scope c.self.invariant.0).0 in
+    let same : c.index_mut-in-Some.result.now ≡ slice_index_or c.self.inside.families.items c.in-Some.s no_family =
+    c.index_mut-in-Some.ensures.value ∙ get_or_default c.self.inside.families.items c.in-Some.s _ no_family bound in
     rw same (task_family w c.self.inside.families.items _ _ _ c.args.t c.in-Some.s born living in_scope c.self.invariant.0).1
 
 pub invariant_of-self-in-Some : goal.invariant_of-self-in-Some

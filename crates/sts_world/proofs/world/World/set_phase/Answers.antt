@@ -11,10 +11,14 @@ use Rattle.sts_world.proofs.world.World.set_phase.Goals as goal
 
 pub overflow_sub-self : goal.overflow_sub-self
 overflow_sub-self c =
-    let kept : IsKept (lines c.args.self.now) c.self.inside.families.items c.self.inside.tallies.items c.self.inside.standing_tasks c.self.inside.standing_scopes = rw (← c.self.view_is) c.self.invariant.0 in
-    let born : c.args.s < length c.args.self.now.scopes = omega (arith, c.scopes_born.ensures.value, c.if-s-scopes_born.true, ap (λ (v : World). length v.scopes) c.self.view_is) in
-    let was : c.is_closed-was_closed.result ≡ is_closed (scope_at c.args.self.now c.args.s).phase = c.is_closed-was_closed.ensures ∙ ap is_closed c.phase.ensures ∙ ap (λ (v : World). is_closed (scope_at v c.args.s).phase) c.self.view_is in
-    rw (c.unless-then-s-scopes_born.ensures, c.unless.ensures, was, c.subtask_count-subtasks.ensures.value) (enough c.args.self.now _ _ _ _ _ _ c.args.s c.is_closed-closed.result born c.standing_tasks-tasks.ensures.value c.standing_scopes-scopes.ensures.value kept).0
+    let kept : IsKept (lines c.args.self.now) c.self.inside.families.items c.self.inside.tallies.items c.self.inside.standing_tasks
+    c.self.inside.standing_scopes = rw (← c.self.view_is) c.self.invariant.0 in
+    let born : c.args.s < length c.args.self.now.scopes =
+    omega (arith, c.scopes_born.ensures.value, c.if-s-scopes_born.true, ap (λ (v : World). length v.scopes) c.self.view_is) in
+    let was : c.is_closed-was_closed.result ≡ is_closed (scope_at c.args.self.now c.args.s).phase = c.is_closed-was_closed.ensures ∙ ap
+    is_closed c.phase.ensures ∙ ap (λ (v : World). is_closed (scope_at v c.args.s).phase) c.self.view_is in
+    rw (c.unless-then-s-scopes_born.ensures, c.unless.ensures, was, c.subtask_count-subtasks.ensures.value) (enough c.args.self.now _ _ _ _
+    _ _ c.args.s c.is_closed-closed.result born c.standing_tasks-tasks.ensures.value c.standing_scopes-scopes.ensures.value kept).0
 
 pub invariant_of-self : goal.invariant_of-self
 invariant_of-self c =

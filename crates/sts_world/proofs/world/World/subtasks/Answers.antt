@@ -6,4 +6,5 @@ use Rattle.sts_world.proofs.Worlds.{found_births}
 use Rattle.sts_world.proofs.world.World.subtasks.Goals as goal
 
 pub returns : goal.returns
-returns c = (rw c.deref.ensures.value at c.births.ensures) ∙ found_births _ _ _ _ _ c.args.s c.self.invariant.0 ∙ ap (λ (w : World). births c.args.s (lines w).tasks) c.self.view_is
+returns c = (rw c.deref.ensures.value at c.births.ensures) ∙ found_births _ _ _ _ _ c.args.s c.self.invariant.0 ∙ ap
+    (λ (w : World). births c.args.s (lines w).tasks) c.self.view_is
