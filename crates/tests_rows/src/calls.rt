@@ -162,9 +162,7 @@ fn tell_budgets(rt: &HostRuntime, verified: &Verified) -> Result<(), Failure> {
 /// run asks for more memory than the machine does that is prepared.
 fn ran_alone(rt: &HostRuntime, verified: &Verified) -> Result<(), Failure> {
     rt.println("from here")?;
-    if Machine::prepare(rt.alloc(), verified).is_err() {
-        return Err(Failure::Memory("prepare"));
-    }
+    drop(within("prepare", Machine::prepare(rt.alloc(), verified))?);
     rt.println("to here")?;
     let end = within("run_alone", run_alone(rt.alloc(), verified))?;
     tell(rt, end)
