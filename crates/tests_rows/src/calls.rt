@@ -104,14 +104,18 @@ fn apply_each(rt: &HostRuntime, plain: &mut Plain<'_>, events: &[Event]) -> Resu
 /// Applies the events of a trace to the beginning of a program.
 fn applied(rt: &HostRuntime, program: &Program, trace: &[u8]) -> Result<(), Failure> {
     let events = events(rt.alloc(), trace)?;
-    let mut plain = within("start", Plain::start(rt.alloc(), program))?;
-    apply_each(rt, &mut plain, events.as_slice())
+    match Plain::start(rt.alloc(), program) {
+        Ok(mut plain) => apply_each(rt, &mut plain, events.as_slice()),
+        Err(_) => Err(Failure::Memory("start")),
+    }
 }
 
 /// Makes a tree, and says for how many more tasks and scopes it has room.
 fn with_room(rt: &HostRuntime) -> Result<(), Failure> {
-    let tree: Tree<u8> = within("tree", Tree::with_room(rt.alloc(), 2, SCOPES))?;
-    tell(rt, (tree.task_room(), tree.scope_room()))
+    match Tree::<u8>::with_room(rt.alloc(), 2, SCOPES) {
+        Ok(tree) => tell(rt, (tree.task_room(), tree.scope_room())),
+        Err(_) => Err(Failure::Memory("tree")),
+    }
 }
 
 fn are_same(one: &Program, other: &Program) -> bool {
@@ -192,18 +196,27 @@ fn go_on(rt: &HostRuntime, book: &mut Book<'_>) -> Result<(), Failure> {
 
 /// A whole run in a book.
 fn booked(rt: &HostRuntime, verified: &Verified) -> Result<(), Failure> {
-    let mut book = within("book", Book::start(rt.alloc(), verified))?;
-    go_on(rt, &mut book)
+    match Book::start(rt.alloc(), verified) {
+        Ok(mut book) => go_on(rt, &mut book),
+        Err(_) => Err(Failure::Memory("book")),
+    }
+}
+
+/// Makes a call on an accepted program.
+fn answer_for(rt: &HostRuntime, call: &str, verified: &Verified) -> Result<(), Failure> {
+    match call {
+        "verify" => tell_budgets(rt, verified),
+        "run_alone" => ran_alone(rt, verified),
+        "book" => booked(rt, verified),
+        _ => Err(Failure::Unfit("there is no such call")),
+    }
 }
 
 /// Verifies a program that is the same as this one, and makes a call on it.
 fn accepted(rt: &HostRuntime, call: &str, text: &[u8], same: &Program) -> Result<(), Failure> {
-    let verified = verified(rt, assembled(rt.alloc(), text)?, same)?;
-    match call {
-        "verify" => tell_budgets(rt, &verified),
-        "run_alone" => ran_alone(rt, &verified),
-        "book" => booked(rt, &verified),
-        _ => Err(Failure::Unfit("there is no such call")),
+    match verified(rt, assembled(rt.alloc(), text)?, same) {
+        Ok(verified) => answer_for(rt, call, &verified),
+        Err(failure) => Err(failure),
     }
 }
 
@@ -223,18 +236,31 @@ fn answer(
     }
 }
 
+/// Makes these calls, one after the other.
+fn answer_each(
+    rt: &HostRuntime,
+    calls: &str,
+    program: &Program,
+    text: &[u8],
+    trace: &[u8],
+) -> Result<(), Failure> {
+    for call in calls.split_ascii_whitespace() {
+        answer(rt, call, program, text, trace)?;
+    }
+    Ok(())
+}
+
 /// Makes the calls of the first line of an input on the row after it.
-fn answer_each(rt: &HostRuntime, input: &[u8]) -> Result<(), Failure> {
+fn answer_input(rt: &HostRuntime, input: &[u8]) -> Result<(), Failure> {
     let Some((line, row)) = cut_at_newline(input) else {
         return Err(Failure::Unfit("there is no line of calls"));
     };
     let calls = str::from_utf8(line).unwrap_or("");
     let (text, trace) = split(row);
-    let program = assembled(rt.alloc(), text)?;
-    for call in calls.split_ascii_whitespace() {
-        answer(rt, call, &program, text, trace)?;
+    match assembled(rt.alloc(), text) {
+        Ok(program) => answer_each(rt, calls, &program, text, trace),
+        Err(failure) => Err(failure),
     }
-    Ok(())
 }
 
 /// Makes the calls that standard input names on the row that follows.
@@ -244,7 +270,7 @@ fn answer_each(rt: &HostRuntime, input: &[u8]) -> Result<(), Failure> {
 /// There was no memory, the row doesn't fit a call, or a write failed.
 pub fn answer_all(rt: &HostRuntime) -> Result<(), Failure> {
     match take(rt.alloc(), &mut rt.reader(), u64::MAX) {
-        Ok(input) => answer_each(rt, input.as_slice()),
+        Ok(input) => answer_input(rt, input.as_slice()),
         Err(TakeError::Memory) => Err(Failure::Memory("take")),
         Err(TakeError::Read) => Err(Failure::Unfit("a read failed")),
     }

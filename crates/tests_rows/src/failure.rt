@@ -27,6 +27,18 @@ impl From<AllocError> for Failure {
     }
 }
 
+/// Returns the answer of a write.
+///
+/// # Errors
+///
+/// The write failed.
+pub fn written(answer: io::Result<()>) -> Result<(), Failure> {
+    match answer {
+        Ok(()) => Ok(()),
+        Err(_) => Err(Failure::Write),
+    }
+}
+
 /// Returns the answer of a call that fails only if memory runs out.
 ///
 /// # Errors

@@ -63,6 +63,17 @@ fn said(
     }
 }
 
+/// Says how an outside text is read: the fault if there is one. Returns the status.
+fn push_read(alloc: Global, text: &[u8], printed: &mut Vec<u8>) -> Result<u8, Failure> {
+    let Err(error) = read_outside(alloc, text) else {
+        return Ok(0);
+    };
+    let mut line = String::new(alloc);
+    trace_fault_line(&mut line, error)?;
+    printed.extend_from_slice(line.as_bytes())?;
+    Ok(FAULT)
+}
+
 /// Returns the lines that a word stands for, or the line itself.
 fn meaning<'s>(words: &'s str, line: &'s str) -> &'s str {
     for definition in words.lines() {
@@ -75,18 +86,36 @@ fn meaning<'s>(words: &'s str, line: &'s str) -> &'s str {
     line
 }
 
+/// Pushes what a line stands for that is repeated.
+fn push_repeated(text: &mut Vec<u8>, count: u32, repeated: &str) -> Result<(), Failure> {
+    for _ in 0..count {
+        push_lines(text, repeated, ", ")?;
+    }
+    Ok(())
+}
+
+/// Pushes what one line stands for.
+fn push_meant(words: &str, text: &mut Vec<u8>, line: &str) -> Result<(), Failure> {
+    match line.split_once(" * ") {
+        Some((count, repeated)) => push_repeated(text, number(count)?, repeated),
+        None => push_lines(text, meaning(words, line), " / "),
+    }
+}
+
 /// Pushes the bytes that lines stand for.
 fn push_short(words: &str, text: &mut Vec<u8>, short: &str) -> Result<(), Failure> {
     for line in short.split(" / ") {
-        if let Some((count, repeated)) = line.split_once(" * ") {
-            for _ in 0..number(count)? {
-                push_lines(text, repeated, ", ")?;
-            }
-        } else {
-            push_lines(text, meaning(words, line), " / ")?;
-        }
+        push_meant(words, text, line)?;
     }
     Ok(())
+}
+
+/// Pushes the trace that is asked for.
+fn push_trace(words: &str, trace: &mut Vec<u8>, asked: &str) -> Result<(), Failure> {
+    match asked.strip_prefix("trace ") {
+        Some(lines) => push_short(words, trace, lines),
+        None => push_events(trace, asked),
+    }
 }
 
 /// The text of bytes, to be shown.
@@ -129,24 +158,25 @@ impl<'t> Table<'t> {
         Ok(self.is_right())
     }
 
-    /// A listing, which is listed again as itself.
-    fn list(&mut self) -> Result<bool, Failure> {
-        let list = Some(Mode::List);
-        let is_right = self.ask(list)?;
-        if is_right && self.is_whole && self.said == 0 && self.expected.len() <= MOST {
-            let listing = self.expected.as_slice();
-            self.said = said(self.rt.alloc(), list, listing, b"", &mut self.printed)?;
-            return Ok(self.is_right());
-        }
-        Ok(is_right)
+    /// Lists the expected listing, which is listed as itself.
+    fn list_again(&mut self) -> Result<bool, Failure> {
+        let (list, listing) = (Some(Mode::List), self.expected.as_slice());
+        self.said = said(self.rt.alloc(), list, listing, b"", &mut self.printed)?;
+        Ok(self.is_right())
     }
 
-    /// A trace by `plain`, and then by `replay`, which answers what `plain` does, or the verdict if the
-    /// program is refused.
-    fn run(&mut self) -> Result<bool, Failure> {
-        if !self.ask(Some(Mode::Plain))? {
-            return Ok(false);
+    /// A listing, which is listed again as itself.
+    fn list(&mut self) -> Result<bool, Failure> {
+        let is_right = self.ask(Some(Mode::List))?;
+        if is_right && self.is_whole && self.said == 0 && self.expected.len() <= MOST {
+            self.list_again()
+        } else {
+            Ok(is_right)
         }
+    }
+
+    /// A trace by `replay`, which answers what `plain` does, or the verdict if the program is refused.
+    fn replay(&mut self) -> Result<bool, Failure> {
         let (verify, text) = (Some(Mode::Verify), self.text.as_slice());
         let status = said(self.rt.alloc(), verify, text, b"", &mut self.printed)?;
         if status == REFUSED && self.status != FAULT {
@@ -157,69 +187,82 @@ impl<'t> Table<'t> {
         self.ask(Some(Mode::Replay))
     }
 
+    /// A trace by `plain`, and then by `replay`.
+    fn run(&mut self) -> Result<bool, Failure> {
+        if self.ask(Some(Mode::Plain))? {
+            self.replay()
+        } else {
+            Ok(false)
+        }
+    }
+
     /// An outside text, which is read alone.
     fn outside(&mut self) -> Result<bool, Failure> {
         self.printed.clear();
-        self.said = 0;
-        if let Err(error) = read_outside(self.rt.alloc(), self.trace.as_slice()) {
-            let mut line = String::new(self.rt.alloc());
-            trace_fault_line(&mut line, error)?;
-            self.printed.extend_from_slice(line.as_bytes())?;
-            self.said = FAULT;
-        }
+        self.said = push_read(self.rt.alloc(), self.trace.as_slice(), &mut self.printed)?;
         Ok(self.is_right())
+    }
+
+    /// The trace or the outside text that is asked for.
+    fn run_asked(&mut self) -> Result<bool, Failure> {
+        if let Some(lines) = self.asked.strip_prefix("outside ") {
+            push_short(self.words.as_str(), &mut self.trace, lines)?;
+            return self.outside();
+        }
+        push_trace(self.words.as_str(), &mut self.trace, self.asked)?;
+        self.run()
     }
 
     /// Asks the question, and compares the answer.
     fn question(&mut self) -> Result<bool, Failure> {
         self.trace.clear();
-        let words = self.words.as_str();
         match self.asked {
             "verify" => self.ask(Some(Mode::Verify)),
             "joined" => self.ask(None),
             "list" => self.list(),
-            asked => {
-                if let Some(lines) = asked.strip_prefix("outside ") {
-                    push_short(words, &mut self.trace, lines)?;
-                    return self.outside();
-                }
-                match asked.strip_prefix("trace ") {
-                    Some(lines) => push_short(words, &mut self.trace, lines)?,
-                    None => push_events(&mut self.trace, asked)?,
-                }
-                self.run()
-            }
+            _ => self.run_asked(),
         }
     }
 
-    /// Asks the question whose answer a line has: the status alone, or with a blank and what is
-    /// printed. Says what differs.
-    fn answer(&mut self, answer: &str) -> Result<(), Failure> {
-        self.compared = self.compared.saturating_add(1);
+    /// Expects the answer that a line has: the status alone, or with a blank and what is printed.
+    fn expect(&mut self, answer: &str) -> Result<(), Failure> {
         self.expected.clear();
-        let whole = answer.split_once(" ");
-        self.is_whole = whole.is_some();
-        let (status, short) = whole.unwrap_or((answer, ""));
-        let Ok(status) = status.parse::<u8>() else {
-            return Err(Failure::Unfit("a status is missing"));
-        };
-        self.status = status;
-        if self.is_whole {
+        self.is_whole = false;
+        let mut status = answer;
+        if let Some((first, short)) = answer.split_once(" ") {
+            status = first;
+            self.is_whole = true;
             push_short(self.words.as_str(), &mut self.expected, short)?;
         }
-        if !self.question()? {
-            self.wrong = self.wrong.saturating_add(1);
-            println!(self.rt;
-                "{}: line {}: {} {:?}, expected {} {:?}",
-                self.name,
-                self.line,
-                self.said,
-                shown(self.printed.as_slice()),
-                self.status,
-                shown(self.expected.as_slice())
-            )?;
+        match status.parse::<u8>() {
+            Ok(status) => {
+                self.status = status;
+                Ok(())
+            }
+            Err(_) => Err(Failure::Unfit("a status is missing")),
         }
+    }
+
+    /// Says what differs.
+    fn tell_wrong(&self) -> Result<(), Failure> {
+        let said = (self.said, shown(self.printed.as_slice()));
+        let expected = (self.status, shown(self.expected.as_slice()));
+        println!(self.rt;
+            "{}: line {}: {said:?}, expected {expected:?}",
+            self.name, self.line
+        )?;
         Ok(())
+    }
+
+    /// Asks the question whose answer a line has, and says what differs.
+    fn answer(&mut self, answer: &str) -> Result<(), Failure> {
+        self.compared = self.compared.saturating_add(1);
+        self.expect(answer)?;
+        if self.question()? {
+            return Ok(());
+        }
+        self.wrong = self.wrong.saturating_add(1);
+        self.tell_wrong()
     }
 
     /// Reads a line, and says what differs if it is an answer that does.
@@ -232,9 +275,9 @@ impl<'t> Table<'t> {
         } else if let Some(asked) = line.strip_prefix("? ") {
             self.asked = asked;
         } else if let Some(answer) = line.strip_prefix("= ") {
-            self.answer(answer)?;
+            return self.answer(answer);
         } else if !line.starts_with("# ") {
-            push_short(self.words.as_str(), &mut self.text, line)?;
+            return push_short(self.words.as_str(), &mut self.text, line);
         }
         Ok(())
     }

@@ -18,17 +18,22 @@ fn walk(rt: &HostRuntime, name: &str) -> Result<(), Failure> {
     table.take_lines(text.as_str())
 }
 
-/// Walks each table that the file `tables` names. The first lines of that file define the notation.
-///
-/// # Errors
-///
-/// There was no memory, a file or a line can't be read, or a write failed.
-pub fn walk_all(rt: &HostRuntime) -> Result<(), Failure> {
-    let names = read(rt, "tables")?;
+/// Walks each table of a list. Its first lines define the notation.
+fn walk_each(rt: &HostRuntime, names: &str) -> Result<(), Failure> {
     for name in names.lines() {
         if !name.starts_with("#") {
             walk(rt, name)?;
         }
     }
     Ok(())
+}
+
+/// Walks each table that the file `tables` names.
+///
+/// # Errors
+///
+/// There was no memory, a file or a line can't be read, or a write failed.
+pub fn walk_all(rt: &HostRuntime) -> Result<(), Failure> {
+    let names = read(rt, "tables")?;
+    walk_each(rt, names.as_str())
 }
