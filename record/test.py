@@ -9,6 +9,7 @@
 The first part needs no JDK. Status 0: all is as it should be; 1: something isn't. Without a JDK 25 it says what it left out.
 """
 import argparse
+import concurrent.futures
 import difflib
 import glob
 import os
@@ -68,10 +69,11 @@ def compare(programs):
         page = file.read()
     if blocks(page) != page:
         failures.append("docs/RECORD.md, which shows other outputs")
-    for name in shown():
+    with concurrent.futures.ThreadPoolExecutor() as pool:
+        outputs = list(pool.map(lambda name: looked(name, programs), shown()))
+    for name, printed in zip(shown(), outputs):
         path = f"{OUTPUTS}/{name}.txt"
         expected = open(path).read() if os.path.exists(path) else ""
-        printed = looked(name, programs)
         if printed != expected:
             failures.append(name)
             print("".join(difflib.unified_diff(expected.splitlines(True), printed.splitlines(True), path, "printed")), end="")
