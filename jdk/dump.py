@@ -176,7 +176,7 @@ class Picture:
 
 def style():
     """Returns the style of `look draw`, without its grid."""
-    with open(f"{ROOT}/crates/look_picture/src/style.rt", encoding="utf-8") as file:
+    with open(f"{ROOT}/crates/look_drawing/src/style.rt", encoding="utf-8") as file:
         text = re.search(r'pub const STYLE: &str = "(.*?)";', file.read(), re.S)[1]
     text = re.sub(r"\\\n\s*", "", text).replace(r"\x20", " ").replace(r"\n", "\n")
     return re.sub(r"<defs>.*?</defs>\n", "", text, flags=re.S).strip()

@@ -9,7 +9,8 @@ use Rattle.sts_model.specs.Run.{counts}
 use Rattle.look_lines.specs.Watched.{Watched, watched}
 use Rattle.look_lines.specs.declared.watch.Applied.{Applied}
 use Rattle.look_tell.specs.Story.{after_events}
-use Rattle.look_picture.specs.Picture.{columns_from, count_from, maybe_column, one_more}
+use Rattle.look_drawing.specs.Column.{maybe_column, one_more}
+use Rattle.look_picture.specs.Picture.{columns_from, count_from}
 use Rattle.look_picture.specs.Told.{event_words}
 
 -- an event with this number, which counts or not

@@ -1,13 +1,4 @@
-pub mod Brackets
-pub mod Lanes
-pub mod Legend
-pub mod Marks
+pub mod LaneNames
 pub mod Picture
-pub mod Place
-pub mod Present
-pub mod Style
 pub mod Title
 pub mod Told
-pub mod Windows
-pub mod Words
-pub mod Writing

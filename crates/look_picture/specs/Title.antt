@@ -1,7 +1,7 @@
 -- The names of the files of a picture, before the state of the run (this project's own).
 use Rattle.std.specs.Prelude.{ℕ, List, [], ◌++◌, codes, Option, Some, None}
 use Rattle.look_picture.specs.declared.title.FileNames.{FileNames}
-use Rattle.look_picture.specs.Writing.{escaped_words}
+use Rattle.look_drawing.specs.Writing.{escaped_words}
 
 -- `sum.sts, sum.trace: `
 abbrev pub names_words : FileNames → List ℕ

@@ -4,7 +4,7 @@ use Rattle.sts_model.specs.declared.event.Event.{Event}
 use Rattle.look_options.specs.declared.stories.TellOptions.{TellOptions}
 use Rattle.look_tell.specs.Line.{event_block}
 use Rattle.look_tell.specs.Story.{Story}
-use Rattle.look_picture.specs.Writing.{escaped}
+use Rattle.look_drawing.specs.Writing.{escaped}
 
 -- which events have lines: each one, or in a brief picture those that `look tell` lists
 abbrev pub listed : Bool → TellOptions

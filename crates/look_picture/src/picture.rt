@@ -1,38 +1,28 @@
 //! A run as a picture: a lane for each task, a column for each event.
 
-ghost use Rattle.std.specs.Prelude.{◌≡◌, ◌++◌, ◌<◌, ◌≤◌, ◌-◌, ◌^◌, OnOk, IfOk, length, take, drop, false};
+ghost use Rattle.std.specs.Prelude.{◌≡◌, ◌++◌, ◌≤◌, OnOk, IfOk, length, take, drop};
 ghost use Rattle.std.specs.String.{string_bytes};
-ghost use Rattle.sts_code.specs.declared.limits.TheConstants.{MAX_BIRTHS};
 ghost use Rattle.sts_plain.specs.Seen.{shown};
 ghost use Rattle.sts_output.specs.Output as cli;
 ghost use Rattle.look_lines.specs.Watched.{watched};
 ghost use Rattle.look_tell.specs.Story.{after_events};
 ghost use Rattle.look_picture.specs.Picture as def;
-ghost use Rattle.look_picture.specs.Present as numbers;
-ghost use Rattle.look_picture.specs.Present.{AreHeld, Follows};
-ghost use Rattle.look_picture.specs.declared.legend.TheConstants.{MOST_KEYS};
+ghost use Rattle.look_drawing.specs.Present as numbers;
+ghost use Rattle.look_drawing.specs.declared.legend.TheConstants.{MOST_KEYS};
 
-use crate::brackets::scope_cells;
-use crate::change::Change;
-use crate::lanes::{lane_names, task_cells};
-use crate::legend::{foot, keys};
-use crate::marks::Mark;
-use crate::numbers::event_number;
-use crate::place::{column, columns_width, height, lane, width};
-use crate::present::Present;
-use crate::style::style;
+use crate::lane_names::lane_names;
 use crate::title::{FileNames, say_title};
 use crate::told::event_words;
-use crate::window::{Drawn, left_out, shown_events};
-use crate::words::{next_word, step_word};
-use crate::writing::{escaped_line, mark_at, mark_end, mark_start, text_at};
-use look_lines::{Applied, Form, Run, Watch, after, view_lines, write_run};
+use look_drawing::{
+    Drawn, Mark, Present, Seen, backdrop, escaped_line, first_column, foot, head, keys, left_out,
+    maybe_column, shown_events,
+};
+use look_lines::{Applied, Form, Run, Watch, after, write_run};
 use look_names::Names;
-use look_options::{DrawOptions, ViewOptions};
+use look_options::DrawOptions;
 use look_run::say_end;
 use look_tell::Story;
 use std::alloc::{AllocError, Global};
-use std::fmt::Write;
 use std::io;
 use sts_asm::AsmError;
 use sts_code::Program;
@@ -42,167 +32,6 @@ use sts_output::{
 };
 use sts_plain::PlainState;
 use sts_trace::TraceError;
-
-/// All cells of a world in a column, with the changes since the column before.
-fn cells(
-    alloc: Global,
-    out: &mut String,
-    names: &Names<'_>,
-    change: Change<'_>,
-) -> Result<(), AllocError>
-    ensures { OnOk result (string_bytes out.new ≡ string_bytes out.old
-        ++ def.cells names.now change.entry.program.now change.entry.before.now
-        change.entry.world.now change.entry.x) }
-{
-    task_cells(alloc, out, names, change)?;
-    scope_cells(out, change)
-}
-
-/// A step of this task that was a fault.
-fn fault_mark(out: &mut String, watch: &Watch<'_>, x: u128, t: u32) -> Result<(), AllocError>
-    ensures { OnOk result (string_bytes out.new
-        ≡ string_bytes out.old ++ def.fault_mark watch.now x t) }
-{
-    mark_start(out, Mark::Fault, x, lane(t))?;
-    state_line(out, watch.program(), watch.state())?;
-    mark_end(out)
-}
-
-/// A machine before an event and after it, and what the event's column can show.
-#[derive(Clone, Copy)]
-struct Seen<'s, 'p> {
-    before: &'s Watch<'p>,
-    watch: &'s Watch<'p>,
-    present: &'s Present,
-    ghost follows: { Follows before.now.last watch.now.last },
-    ghost held: { AreHeld watch.now.last },
-    ghost listed: { present.now ≡ numbers.shown before.now.last watch.now.last },
-}
-
-/// The cells of a column; after a fault only the fault, in its own column.
-fn standing(
-    alloc: Global,
-    out: &mut String,
-    names: &Names<'_>,
-    seen: Seen<'_, '_>,
-    x: u128,
-    is_counted: bool,
-) -> Result<(), AllocError>
-    requires { x < 2 ^ 127 }
-    ensures { OnOk result (string_bytes out.new ≡ string_bytes out.old
-        ++ def.standing names.now seen.entry.before.now seen.entry.watch.now x is_counted
-        (shown seen.entry.watch.now.state)) }
-{
-    match seen.watch.state() {
-        PlainState::Fault { task, .. } if is_counted => fault_mark(out, seen.watch, x, task),
-        PlainState::Fault { .. } => Ok(()),
-        PlainState::Running | PlainState::Ended(_) => {
-            let change = Change {
-                program: seen.watch.program(),
-                before: seen.before.world(),
-                world: seen.watch.world(),
-                x,
-                present: seen.present,
-            };
-            cells(alloc, out, names, change)
-        }
-    }
-}
-
-/// The dot of a step in its task's lane, with these words.
-fn step_dot(out: &mut String, words: &str, x: u128, t: u32) -> Result<(), AllocError>
-    ensures { OnOk result (string_bytes out.new
-        ≡ string_bytes out.old ++ def.step_dot words.now x t) }
-{
-    mark_at(out, Mark::Step, x, lane(t), words)
-}
-
-/// The dot of a step in its task's lane, with these words, and the word of its instruction.
-#[tactic(auto, unfolding(crate::specs::Picture::step_mark))]
-fn step_mark(
-    out: &mut String,
-    words: &str,
-    seen: Seen<'_, '_>,
-    x: u128,
-    t: u32,
-) -> Result<(), AllocError>
-    ensures { OnOk result (string_bytes out.new ≡ string_bytes out.old
-        ++ def.step_mark words.now seen.entry.before.now x t) }
-{
-    let before = seen.before;
-    let word = next_word(before.program(), before.world().records(), t);
-    step_dot(out, words, x, t)?;
-    step_word(out, x, t, word)
-}
-
-/// A step that counts, in its task's lane.
-fn stepped(
-    out: &mut String,
-    words: &str,
-    seen: Seen<'_, '_>,
-    x: u128,
-    applied: Applied,
-) -> Result<(), AllocError>
-    ensures { OnOk result (string_bytes out.new ≡ string_bytes out.old
-        ++ def.stepped words.now seen.entry.before.now x applied.event applied.is_counted) }
-{
-    match applied.event {
-        Event::Step(t) if applied.is_counted => step_mark(out, words, seen, x, t),
-        Event::Step(_) | Event::Interrupt(_) | Event::Expire(_) => Ok(()),
-    }
-}
-
-/// An event with these words in a column.
-fn event_column(
-    alloc: Global,
-    out: &mut String,
-    names: &Names<'_>,
-    words: &str,
-    seen: Seen<'_, '_>,
-    brief: bool,
-    at: usize,
-    applied: Applied,
-) -> Result<(), AllocError>
-    ensures { OnOk result (string_bytes out.new ≡ string_bytes out.old
-        ++ def.event_column names.now words.now seen.entry.before.now seen.entry.watch.now brief
-        at applied) }
-{
-    event_number(alloc, out, words, brief, at, applied)?;
-    standing(
-        alloc,
-        out,
-        names,
-        seen,
-        column(brief, at),
-        applied.is_counted,
-    )?;
-    stepped(out, words, seen, column(brief, at), applied)
-}
-
-/// Draws an event after this many columns, unless it has no words. Returns the number of columns
-/// then.
-fn maybe_column(
-    alloc: Global,
-    out: &mut String,
-    names: &Names<'_>,
-    words: &str,
-    seen: Seen<'_, '_>,
-    brief: bool,
-    columns: usize,
-    applied: Applied,
-) -> Result<usize, AllocError>
-    requires { columns < 2 ^ 64 - 1 }
-    ensures counted { IfOk result (λ n. n ≡ def.one_more words.now columns) }
-    ensures drawn { OnOk result (string_bytes out.new ≡ string_bytes out.old
-        ++ def.maybe_column names.now words.now seen.entry.before.now seen.entry.watch.now
-        brief columns applied) }
-{
-    if words.len() == 0 {
-        return Ok(columns);
-    }
-    event_column(alloc, out, names, words, seen, brief, columns + 1, applied)?;
-    Ok(columns + 1)
-}
 
 /// Skips the first events, applies the others to a machine and to a story in order, and draws a
 /// column for each that has words. Returns the number of columns.
@@ -259,27 +88,6 @@ fn event_columns(
         present.keep(before.world().records());
     }
     Ok(columns)
-}
-
-/// The column before the first event that has one; nothing changed there.
-fn first_column(
-    alloc: Global,
-    out: &mut String,
-    names: &Names<'_>,
-    watch: &Watch<'_>,
-    present: &Present,
-) -> Result<(), AllocError>
-    requires held { AreHeld watch.now.last }
-    requires listed { present.now ≡ numbers.present watch.now.last }
-    ensures { OnOk result (string_bytes out.new
-        ≡ string_bytes out.old ++ def.first_column names.now watch.now) }
-{
-    let seen = Seen {
-        before: watch,
-        watch,
-        present,
-    };
-    standing(alloc, out, names, seen, column(false, 0), false)
 }
 
 /// Draws the column before the first event that has one, and one after each event that has words,
@@ -445,141 +253,6 @@ fn heading(
     let mut words = String::new(alloc);
     say_heading(alloc, &mut words, files, names, watch, drawn)?;
     Ok(words)
-}
-
-/// The classes of a picture. The style draws narrower marks in a brief one.
-fn classes(brief: bool) -> &'static str
-    ensures { result.now ≡ def.classes brief }
-{
-    if brief {
-        "sts-run sts-brief"
-    } else {
-        "sts-run"
-    }
-}
-
-fn svg_start(out: &mut String, class: &str, wide: u128, high: u64) -> Result<(), AllocError>
-    ensures { OnOk result (string_bytes out.new
-        ≡ string_bytes out.old ++ def.svg_start class.now wide high) }
-{
-    write!(
-        out,
-        "<svg xmlns='http://www.w3.org/2000/svg' class='{class}' role='img' \
-        viewBox='0 0 {wide} {high}' width='{wide}' height='{high}'>\n<title>"
-    )
-}
-
-/// The size of a picture of these many columns, with a heading of these many letters and these many
-/// keys.
-fn sized(
-    out: &mut String,
-    watch: &Watch<'_>,
-    brief: bool,
-    columns: usize,
-    letters: usize,
-    keys: usize,
-) -> Result<(), AllocError>
-    requires { keys ≤ MOST_KEYS }
-    ensures { OnOk result (string_bytes out.new
-        ≡ string_bytes out.old ++ def.sized watch.now brief columns letters keys) }
-{
-    let tasks = watch.world().records().tasks_born();
-    svg_start(
-        out,
-        classes(brief),
-        width(brief, columns, letters),
-        height(tasks, keys),
-    )
-}
-
-/// The lines of all tasks and scopes.
-fn standing_lines(out: &mut String, watch: &Watch<'_>) -> Result<(), AllocError>
-    ensures { OnOk result (string_bytes out.new
-        ≡ string_bytes out.old ++ def.standing_lines watch.now) }
-{
-    let wanted = ViewOptions {
-        each: false,
-        full: false,
-        living: false,
-    };
-    view_lines(out, watch, wanted)
-}
-
-fn description_start(out: &mut String) -> Result<(), AllocError>
-    ensures { OnOk result (string_bytes out.new ≡ string_bytes out.old ++ def.description_start) }
-{
-    write!(out, "</title>\n<desc>")
-}
-
-fn description_end(out: &mut String) -> Result<(), AllocError>
-    ensures { OnOk result (string_bytes out.new ≡ string_bytes out.old ++ def.description_end) }
-{
-    writeln!(out, "</desc>")
-}
-
-/// The description for readers who don't see the picture: after the state of the run, all tasks and
-/// scopes.
-fn description(out: &mut String, watch: &Watch<'_>) -> Result<(), AllocError>
-    ensures { OnOk result (string_bytes out.new
-        ≡ string_bytes out.old ++ def.description watch.now) }
-{
-    description_start(out)?;
-    standing_lines(out, watch)?;
-    description_end(out)
-}
-
-/// The size, this heading as the title, and all tasks and scopes.
-fn head(
-    out: &mut String,
-    heading: &str,
-    watch: &Watch<'_>,
-    brief: bool,
-    columns: usize,
-    keys: usize,
-) -> Result<(), AllocError>
-    requires { keys ≤ MOST_KEYS }
-    ensures { OnOk result (string_bytes out.new
-        ≡ string_bytes out.old ++ def.head heading.now watch.now brief columns keys) }
-{
-    sized(out, watch, brief, columns, heading.len(), keys)?;
-    out.push_str(heading)?;
-    description(out, watch)
-}
-
-/// The style, and the grid behind the lanes.
-fn grid(out: &mut String, style: &str, wide: u128, high: usize) -> Result<(), AllocError>
-    ensures { OnOk result (string_bytes out.new
-        ≡ string_bytes out.old ++ def.grid style.now wide high) }
-{
-    writeln!(
-        out,
-        "{style}<rect class='ground' x='208' y='46' width='{wide}' height='{high}'/>"
-    )
-}
-
-/// The style, and the grid behind these many columns and lanes.
-fn grid_of(out: &mut String, brief: bool, columns: usize, tasks: usize) -> Result<(), AllocError>
-    requires { tasks ≤ MAX_BIRTHS }
-    ensures { OnOk result (string_bytes out.new
-        ≡ string_bytes out.old ++ def.grid_of brief columns tasks) }
-{
-    grid(out, style(), columns_width(brief, columns), 52 * tasks)
-}
-
-/// The grid behind these many columns, and this heading above it.
-fn backdrop(
-    out: &mut String,
-    heading: &str,
-    watch: &Watch<'_>,
-    brief: bool,
-    columns: usize,
-) -> Result<(), AllocError>
-    ensures { OnOk result (string_bytes out.new
-        ≡ string_bytes out.old ++ def.backdrop heading.now watch.now brief columns) }
-{
-    let tasks = watch.world().records().tasks_born();
-    grid_of(out, brief, columns, tasks)?;
-    text_at(out, "heading", 12, 22, heading)
 }
 
 /// The names of the lanes, and the legend.

@@ -4,7 +4,7 @@ ghost use Rattle.std.specs.Prelude.{◌≡◌, ◌++◌, OnOk};
 ghost use Rattle.std.specs.String.{string_bytes};
 ghost use Rattle.look_picture.specs.Title as def;
 
-use crate::writing::escape_words;
+use look_drawing::escape_words;
 use std::alloc::AllocError;
 
 /// The files of a text and of a trace, by the names that a person knows them by.

@@ -5,7 +5,7 @@ ghost use Rattle.std.specs.String.{string_bytes};
 ghost use Rattle.look_tell.specs.Story.{next};
 ghost use Rattle.look_picture.specs.Told as def;
 
-use crate::writing::escaped;
+use look_drawing::escaped;
 use look_names::Names;
 use look_options::TellOptions;
 use look_tell::{Story, Telling};

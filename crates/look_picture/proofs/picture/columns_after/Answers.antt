@@ -4,16 +4,17 @@ use Rattle.std.proofs.lemmas.Result.{on_ok_weaker}
 use Rattle.std.specs.String.{string_bytes}
 use Rattle.sts_model.specs.declared.event.Event.{Event}
 use Rattle.look_lines.specs.Watched.{Watched, watched}
+use Rattle.look_drawing.specs.Column as column
 use Rattle.look_picture.specs.Picture as def
-use Rattle.look_picture.proofs.Watching.{held_watched}
+use Rattle.look_drawing.proofs.WatchingLemmas.{held_watched}
 use Rattle.look_picture.proofs.picture.columns_after.Goals as goal
 
 -- the first column and then the others
-columns_said : {T E : Type 0} (r : Result T E) (text : List ℕ) (brief : Bool) (m : Watched) (n : ℕ) (es : List Event) (before one two : List ℕ) → m ≡ watched m.program (take n es) → one ≡ before ++ def.first_column text m → OnOk r (two ≡ one ++ def.columns_from text brief m.program 0 (take n es) (drop n es)) → OnOk r (two ≡ before ++ def.columns text brief m.program n es)
+columns_said : {T E : Type 0} (r : Result T E) (text : List ℕ) (brief : Bool) (m : Watched) (n : ℕ) (es : List Event) (before one two : List ℕ) → m ≡ watched m.program (take n es) → one ≡ before ++ column.first_column text m → OnOk r (two ≡ one ++ def.columns_from text brief m.program 0 (take n es) (drop n es)) → OnOk r (two ≡ before ++ def.columns text brief m.program n es)
 columns_said r text brief m n es before one two behind first h =
-    let start : List ℕ = def.first_column text (watched m.program (take n es)) in
+    let start : List ℕ = column.first_column text (watched m.program (take n es)) in
     let rest : List ℕ = def.columns_from text brief m.program 0 (take n es) (drop n es) in
-    let at_start = first ∙ ap (λ w. before ++ def.first_column text w) behind in
+    let at_start = first ∙ ap (λ w. before ++ column.first_column text w) behind in
     on_ok_weaker {P = two ≡ one ++ rest} {Q = two ≡ before ++ (start ++ rest)} r
     (λ e. e ∙ ap (λ (xs : List ℕ). xs ++ rest) at_start ∙ append_assoc before start rest) h
 

@@ -7,11 +7,12 @@ use Rattle.look_lines.specs.Watched.{Watched, after_event, watched}
 use Rattle.look_tell.specs.Story.{Story, after_events, next}
 use Rattle.look_tell.proofs.StoryLemmas.{after_next, watched_taken, watched_told}
 use Rattle.look_picture.proofs.Columns.{applied_of, columns_next, count_next, numbered, numbered_at, one_more_few}
-use Rattle.look_picture.proofs.Listing.{kept_shown}
-use Rattle.look_picture.proofs.Watching.{follows_watched, held_watched}
+use Rattle.look_drawing.proofs.ListingLemmas.{kept_shown}
+use Rattle.look_drawing.proofs.WatchingLemmas.{follows_watched, held_watched}
+use Rattle.look_drawing.specs.Column as column
 use Rattle.look_picture.specs.Picture as def
-use Rattle.look_picture.specs.Present as numbers
-use Rattle.look_picture.specs.Present.{Numbers}
+use Rattle.look_drawing.specs.Present as numbers
+use Rattle.look_drawing.specs.Present.{Numbers}
 use Rattle.look_picture.specs.Told.{event_words}
 use Rattle.look_picture.proofs.picture.event_columns.Goals as goal
 
@@ -65,10 +66,10 @@ loop-i-preserved c =
     let words = c.as_str.ensures.value ∙ c.in_ok-words.ensures.said ∙ ap (λ (s : Story). event_words text brief (i + 1) s e) l.invariant.told in
     let applied = ap (applied_of (i + 1) e) c.counts-is_counted.ensures ∙ ap (λ (w : Watched). numbered_at w (i + 1) e) stands in
     let here =
-    ap (λ (xs : List ℕ). def.maybe_column text xs l.before watch brief n (applied_of (i + 1) e c.counts-is_counted.result)) words
-    ∙ ap₂ (λ (b w : Watched). def.maybe_column text line b w brief n (applied_of (i + 1) e c.counts-is_counted.result)) l.invariant.behind shown
-    ∙ ap (def.maybe_column text line before after brief n) applied in
-    let more = c.in_ok-more.ensures.counted ∙ ap (λ (xs : List ℕ). def.one_more xs n) words in
+    ap (λ (xs : List ℕ). column.maybe_column text xs l.before watch brief n (applied_of (i + 1) e c.counts-is_counted.result)) words
+    ∙ ap₂ (λ (b w : Watched). column.maybe_column text line b w brief n (applied_of (i + 1) e c.counts-is_counted.result)) l.invariant.behind shown
+    ∙ ap (column.maybe_column text line before after brief n) applied in
+    let more = c.in_ok-more.ensures.counted ∙ ap (λ (xs : List ℕ). column.one_more xs n) words in
     let rest = λ (m : ℕ). def.columns_from text brief p m (take (i + 1) es) (drop (i + 1) es) in
     let w : World = watch.last in
     let same = ap (λ (x : Watched). x.last) (behind ∙ sym shown) in
@@ -91,7 +92,7 @@ loop-i-preserved c =
           ∙ l.invariant.counted;
       drawn =
           ap₂ (λ (xs : List ℕ) (m : ℕ). xs ++ rest m) (c.in_ok-more.ensures.drawn ∙ ap (λ xs. string_bytes l.out ++ xs) here) more
-          ∙ append_assoc (string_bytes l.out) (def.maybe_column text line before after brief n (numbered p (take i es) (i + 1) e)) (rest (def.one_more line n))
+          ∙ append_assoc (string_bytes l.out) (column.maybe_column text line before after brief n (numbered p (take i es) (i + 1) e)) (rest (column.one_more line n))
           ∙ ap (λ xs. string_bytes l.out ++ xs) (sym (columns_next text brief p n es i (Step 0) (omega arith)))
           ∙ l.invariant.drawn;
     }

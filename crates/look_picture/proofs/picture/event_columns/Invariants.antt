@@ -1,7 +1,7 @@
 use Rattle.std.proofs.Common.{◌≡◌, ◌≤◌, ◌++◌, take, drop}
 use Rattle.std.specs.String.{string_bytes}
 use Rattle.look_picture.specs.Picture as def
-use Rattle.look_picture.specs.Present as numbers
+use Rattle.look_drawing.specs.Present as numbers
 use Rattle.look_lines.specs.Watched.{watched}
 use Rattle.look_tell.specs.Story.{after_events}
 use Rattle.look_picture.proofs.picture.event_columns.Given as goal

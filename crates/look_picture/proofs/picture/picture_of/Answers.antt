@@ -8,7 +8,7 @@ use Rattle.look_tell.specs.Story.{Story, after_events}
 use Rattle.look_picture.specs.Picture as def
 use Rattle.look_picture.specs.Picture.{picture}
 use Rattle.look_picture.specs.declared.title.FileNames.{FileNames}
-use Rattle.look_picture.specs.declared.window.Drawn.{Drawn}
+use Rattle.look_drawing.specs.declared.window.Drawn.{Drawn}
 use Rattle.look_picture.proofs.picture.picture_of.Goals as goal
 
 -- the columns in their frame are the picture of the events

@@ -1,0 +1,12 @@
+pub mod Brackets
+pub mod Column
+pub mod Frame
+pub mod Lanes
+pub mod Legend
+pub mod Marks
+pub mod Place
+pub mod Present
+pub mod Style
+pub mod Windows
+pub mod Words
+pub mod Writing

@@ -1,8 +1,0 @@
-use Rattle.std.proofs.Common.{◌≡◌, ◌++◌, drop}
-use Rattle.std.specs.String.{string_bytes}
-use Rattle.look_picture.specs.Lanes as def
-use Rattle.look_picture.proofs.lanes.lane_names.Given as goal
-
--- what is written, and the names of the rest
-abbrev pub invariant-loop-t : goal.invariant-loop-t
-invariant-loop-t l = string_bytes l.out ++ def.lane_names l.names l.story (drop l.t l.story.watched.last.tasks) l.t ≡ string_bytes l.fn.out ++ def.lane_names l.names l.story l.story.watched.last.tasks 0

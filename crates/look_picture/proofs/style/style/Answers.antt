@@ -1,7 +1,0 @@
-use Rattle.std.proofs.Common.{refl}
-use Rattle.look_picture.specs.Style.{style}
-use Rattle.look_picture.proofs.style.style.Goals as goal
-
-pub returns : goal.returns
-unfolding style
-returns c = refl
