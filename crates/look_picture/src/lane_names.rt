@@ -6,8 +6,7 @@ ghost use Rattle.look_picture.specs.LaneNames as def;
 
 use look_drawing::{Room, fitted_text, lane, text_end, text_start};
 use look_lines::under_words;
-use look_names::Names;
-use look_tell::{Story, Told};
+use look_tell::Told;
 use std::alloc::{AllocError, Global};
 use std::fmt::Write;
 use sts_world::Records;
@@ -32,30 +31,28 @@ fn task_name(out: &mut String, t: u32, scope: Option<u32>) -> Result<(), AllocEr
 fn call_name(
     alloc: Global,
     out: &mut String,
-    names: &Names<'_>,
-    story: &Story<'_>,
+    told: Told<'_, '_, '_, '_>,
     t: u32,
 ) -> Result<(), AllocError>
     ensures { OnOk result (string_bytes out.new
-        ≡ string_bytes out.old ++ def.call_name names.now story.now t) }
+        ≡ string_bytes out.old ++ def.call_name told.entry.names.now told.entry.story.now t) }
 {
     let mut called = Vec::new(alloc);
-    Told { names, story }.say_called(alloc, &mut called, t)?;
+    told.say_called(alloc, &mut called, t)?;
     fitted_text(out, "code", 196, lane(t) + 13, called.as_slice(), CALL_ROOM)
 }
 
 fn lane_name(
     alloc: Global,
     out: &mut String,
-    names: &Names<'_>,
-    story: &Story<'_>,
+    told: Told<'_, '_, '_, '_>,
     t: u32,
 ) -> Result<(), AllocError>
     ensures { OnOk result (string_bytes out.new
-        ≡ string_bytes out.old ++ def.lane_name names.now story.now t) }
+        ≡ string_bytes out.old ++ def.lane_name told.entry.names.now told.entry.story.now t) }
 {
-    task_name(out, t, story.watch().world().records().parent(t))?;
-    call_name(alloc, out, names, story, t)
+    task_name(out, t, told.story.watch().world().records().parent(t))?;
+    call_name(alloc, out, told, t)
 }
 
 /// The names of the lanes of all tasks that were ever born.
@@ -66,15 +63,15 @@ fn lane_name(
 pub fn lane_names(
     alloc: Global,
     out: &mut String,
-    names: &Names<'_>,
-    story: &Story<'_>,
+    told: Told<'_, '_, '_, '_>,
 ) -> Result<(), AllocError>
     ensures { OnOk result (string_bytes out.new ≡ string_bytes out.old
-        ++ def.lane_names names.now story.now story.now.watched.last.tasks 0) }
+        ++ def.lane_names told.entry.names.now told.entry.story.now
+        told.entry.story.now.watched.last.tasks 0) }
 {
-    let tasks = story.watch().world().records().tasks_born();
+    let tasks = told.story.watch().world().records().tasks_born();
     for t in 0..tasks {
-        lane_name(alloc, out, names, story, t as u32)?;
+        lane_name(alloc, out, told, t as u32)?;
     }
     Ok(())
 }

@@ -21,7 +21,7 @@ use look_lines::{Applied, Form, Run, Watch, after, write_run};
 use look_names::Names;
 use look_options::DrawOptions;
 use look_run::say_end;
-use look_tell::Story;
+use look_tell::{Story, Told};
 use std::alloc::{AllocError, Global};
 use std::io;
 use sts_asm::AsmError;
@@ -259,16 +259,15 @@ fn heading(
 fn below(
     alloc: Global,
     out: &mut String,
-    names: &Names<'_>,
-    story: &Story<'_>,
+    told: Told<'_, '_, '_, '_>,
     keys: &[Mark],
 ) -> Result<(), AllocError>
     requires { length keys.now ≤ MOST_KEYS }
     ensures { OnOk result (string_bytes out.new
-        ≡ string_bytes out.old ++ def.below names.now story.now keys.now) }
+        ≡ string_bytes out.old ++ def.below told.entry.names.now told.entry.story.now keys.now) }
 {
-    lane_names(alloc, out, names, story)?;
-    let tasks = story.watch().world().records().tasks_born();
+    lane_names(alloc, out, told)?;
+    let tasks = told.story.watch().world().records().tasks_born();
     foot(out, tasks, keys)
 }
 
@@ -299,7 +298,11 @@ fn framed_under(
     head(out, heading, watch, sheet.brief, sheet.count, keys.len())?;
     backdrop(out, heading, watch, sheet.brief, sheet.count)?;
     out.push_str(sheet.columns)?;
-    below(alloc, out, sheet.names, sheet.story, keys)
+    let told = Told {
+        names: sheet.names,
+        story: sheet.story,
+    };
+    below(alloc, out, told, keys)
 }
 
 /// Puts the columns under the heading, with these keys in the legend.
