@@ -33,7 +33,7 @@ fn scopes_before(entries: &Entries, s: u32) -> usize
 }
 
 /// The number of scopes of its owner that a scope is in. The owner has them in its structure list.
-fn depth(change: Change<'_>, s: u32) -> usize
+fn depth(change: Change<'_, '_, '_>, s: u32) -> usize
     requires { s < length change.world.now.scopes }
     ensures value { result ≡ place.depth change.entry.world.now s }
     ensures few { result ≤ 16 }
@@ -48,7 +48,7 @@ fn depth(change: Change<'_>, s: u32) -> usize
 }
 
 /// The height of a scope's bracket.
-fn height_of(change: Change<'_>, s: u32) -> u64
+fn height_of(change: Change<'_, '_, '_>, s: u32) -> u64
     requires { s < length change.world.now.scopes }
     ensures { result ≡ place.bracket change.entry.world.now s }
 {
@@ -56,7 +56,7 @@ fn height_of(change: Change<'_>, s: u32) -> u64
 }
 
 /// The place of a scope, as its line has it.
-fn place_words(out: &mut String, change: Change<'_>, s: u32) -> Result<(), AllocError>
+fn place_words(out: &mut String, change: Change<'_, '_, '_>, s: u32) -> Result<(), AllocError>
     ensures { OnOk result (string_bytes out.new ≡ string_bytes out.old
         ++ lines.scope_place s (model.scope_at change.entry.world.now s)) }
 {
@@ -68,7 +68,7 @@ fn mark_if(
     out: &mut String,
     is_shown: bool,
     mark: Mark,
-    change: Change<'_>,
+    change: Change<'_, '_, '_>,
     s: u32,
     word: &str,
 ) -> Result<(), AllocError>
@@ -86,7 +86,7 @@ fn mark_if(
 }
 
 /// The scope's number, at the place of its opening.
-fn scope_number(out: &mut String, change: Change<'_>, s: u32) -> Result<(), AllocError>
+fn scope_number(out: &mut String, change: Change<'_, '_, '_>, s: u32) -> Result<(), AllocError>
     requires { s < length change.world.now.scopes }
     ensures { OnOk result (string_bytes out.new ≡ string_bytes out.old
         ++ def.scope_number change.entry.world.now change.entry.x s) }
@@ -106,7 +106,7 @@ fn line_mark(phase: Phase) -> Mark
 }
 
 /// A scope that isn't closed: its number in its first column, a line in each later one.
-fn span(out: &mut String, change: Change<'_>, s: u32) -> Result<(), AllocError>
+fn span(out: &mut String, change: Change<'_, '_, '_>, s: u32) -> Result<(), AllocError>
     requires { s < length change.world.now.scopes }
     ensures { OnOk result (string_bytes out.new ≡ string_bytes out.old
         ++ def.span change.entry.before.now change.entry.world.now change.entry.x s) }
@@ -128,7 +128,7 @@ fn same_phase(before: Phase, now: Phase) -> bool
 }
 
 /// Is its phase another one than in the column before?
-fn has_moved(change: Change<'_>, s: u32) -> bool
+fn has_moved(change: Change<'_, '_, '_>, s: u32) -> bool
     ensures { result ≡ def.has_moved change.entry.before.now change.entry.world.now s }
 {
     let before = change.before.records().phase(s);
@@ -136,14 +136,14 @@ fn has_moved(change: Change<'_>, s: u32) -> bool
 }
 
 /// Was its time up since the column before?
-fn has_expired(change: Change<'_>, s: u32) -> bool
+fn has_expired(change: Change<'_, '_, '_>, s: u32) -> bool
     ensures { result ≡ def.has_expired change.entry.before.now change.entry.world.now s }
 {
     change.world.records().is_expired(s) && !change.before.records().is_expired(s)
 }
 
 /// Was it cancelled since the column before?
-fn was_cancelled(change: Change<'_>, s: u32) -> bool
+fn was_cancelled(change: Change<'_, '_, '_>, s: u32) -> bool
     ensures { result ≡ def.was_cancelled change.entry.before.now change.entry.world.now s }
 {
     change.world.records().is_cancelled(s) && !change.before.records().is_cancelled(s)
@@ -160,7 +160,7 @@ fn cancel_mark(phase: Phase) -> Mark
 }
 
 /// The mark for a cancel, if it was cancelled since the column before.
-fn cancel_edge(out: &mut String, change: Change<'_>, s: u32) -> Result<(), AllocError>
+fn cancel_edge(out: &mut String, change: Change<'_, '_, '_>, s: u32) -> Result<(), AllocError>
     requires { s < length change.world.now.scopes }
     ensures { OnOk result (string_bytes out.new ≡ string_bytes out.old
         ++ def.cancel_edge change.entry.before.now change.entry.world.now change.entry.x s) }
@@ -173,7 +173,7 @@ fn cancel_edge(out: &mut String, change: Change<'_>, s: u32) -> Result<(), Alloc
 }
 
 /// The mark for a change of its phase, if it changed since the column before.
-fn phase_edge(out: &mut String, change: Change<'_>, s: u32) -> Result<(), AllocError>
+fn phase_edge(out: &mut String, change: Change<'_, '_, '_>, s: u32) -> Result<(), AllocError>
     requires { s < length change.world.now.scopes }
     ensures { OnOk result (string_bytes out.new ≡ string_bytes out.old
         ++ def.phase_edge change.entry.before.now change.entry.world.now change.entry.x s) }
@@ -184,7 +184,7 @@ fn phase_edge(out: &mut String, change: Change<'_>, s: u32) -> Result<(), AllocE
 }
 
 /// The mark for an expiry, if its time was up since the column before.
-fn expiry_edge(out: &mut String, change: Change<'_>, s: u32) -> Result<(), AllocError>
+fn expiry_edge(out: &mut String, change: Change<'_, '_, '_>, s: u32) -> Result<(), AllocError>
     requires { s < length change.world.now.scopes }
     ensures { OnOk result (string_bytes out.new ≡ string_bytes out.old
         ++ def.expiry_edge change.entry.before.now change.entry.world.now change.entry.x s) }
@@ -194,7 +194,7 @@ fn expiry_edge(out: &mut String, change: Change<'_>, s: u32) -> Result<(), Alloc
 }
 
 /// The marks for a change of its phase, for an expiry and for a cancel.
-fn edges(out: &mut String, change: Change<'_>, s: u32) -> Result<(), AllocError>
+fn edges(out: &mut String, change: Change<'_, '_, '_>, s: u32) -> Result<(), AllocError>
     requires { s < length change.world.now.scopes }
     ensures { OnOk result (string_bytes out.new ≡ string_bytes out.old
         ++ def.edges change.entry.before.now change.entry.world.now change.entry.x s) }
@@ -204,7 +204,7 @@ fn edges(out: &mut String, change: Change<'_>, s: u32) -> Result<(), AllocError>
     cancel_edge(out, change, s)
 }
 
-fn scope_cell(out: &mut String, change: Change<'_>, s: u32) -> Result<(), AllocError>
+fn scope_cell(out: &mut String, change: Change<'_, '_, '_>, s: u32) -> Result<(), AllocError>
     requires { s < length change.world.now.scopes }
     ensures { OnOk result (string_bytes out.new ≡ string_bytes out.old
         ++ def.scope_cell change.entry.before.now change.entry.world.now change.entry.x s) }
@@ -222,7 +222,7 @@ fn scope_cell(out: &mut String, change: Change<'_>, s: u32) -> Result<(), AllocE
 /// # Errors
 ///
 /// Memory ran out; `out` may then have a part of it.
-pub fn scope_cells(out: &mut String, change: Change<'_>) -> Result<(), AllocError>
+pub fn scope_cells(out: &mut String, change: Change<'_, '_, '_>) -> Result<(), AllocError>
     ensures { OnOk result (string_bytes out.new ≡ string_bytes out.old
         ++ def.scope_cells change.entry.before.now change.entry.world.now change.entry.x
         change.entry.world.now.scopes 0) }

@@ -11,8 +11,8 @@ use sts_world::World;
 /// The world that a column shows, the world of the column before, the names of the text, the middle
 /// of the column, and which tasks and scopes it can show.
 #[derive(Clone, Copy)]
-pub struct Change<'c> {
-    pub names: &'c Names<'c>,
+pub struct Change<'c, 'n, 't> {
+    pub names: &'n Names<'t>,
     pub program: &'c Program,
     pub before: &'c World,
     pub world: &'c World,

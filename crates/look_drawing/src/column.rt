@@ -24,7 +24,7 @@ use sts_output::state_line;
 use sts_plain::PlainState;
 
 /// All cells of a world in a column, with the changes since the column before.
-fn cells(alloc: Global, out: &mut String, change: Change<'_>) -> Result<(), AllocError>
+fn cells(alloc: Global, out: &mut String, change: Change<'_, '_, '_>) -> Result<(), AllocError>
     ensures { OnOk result (string_bytes out.new ≡ string_bytes out.old
         ++ def.cells change.entry.names.now change.entry.program.now change.entry.before.now
         change.entry.world.now change.entry.x) }

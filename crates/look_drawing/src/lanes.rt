@@ -49,7 +49,7 @@ fn rests(records: &Records, t: u32) -> bool
 }
 
 /// `task T`, and its state.
-fn told(out: &mut String, change: Change<'_>, t: u32) -> Result<(), AllocError>
+fn told(out: &mut String, change: Change<'_, '_, '_>, t: u32) -> Result<(), AllocError>
     requires { t < length change.world.now.tasks }
     ensures { OnOk result (string_bytes out.new
         ≡ string_bytes out.old ++ def.told change.entry.program.now change.entry.world.now t) }
@@ -62,7 +62,7 @@ fn told(out: &mut String, change: Change<'_>, t: u32) -> Result<(), AllocError>
 fn named_value(
     alloc: Global,
     out: &mut String,
-    change: Change<'_>,
+    change: Change<'_, '_, '_>,
     t: u32,
     value: i64,
 ) -> Result<(), AllocError>
@@ -79,7 +79,7 @@ fn named_value(
 fn value_text(
     alloc: Global,
     out: &mut String,
-    change: Change<'_>,
+    change: Change<'_, '_, '_>,
     t: u32,
     end: Option<End>,
 ) -> Result<(), AllocError>
@@ -95,7 +95,12 @@ fn value_text(
 }
 
 /// A mark of a task, described by its state.
-fn task_mark(out: &mut String, change: Change<'_>, t: u32, mark: Mark) -> Result<(), AllocError>
+fn task_mark(
+    out: &mut String,
+    change: Change<'_, '_, '_>,
+    t: u32,
+    mark: Mark,
+) -> Result<(), AllocError>
     requires { t < length change.world.now.tasks }
     ensures { OnOk result (string_bytes out.new ≡ string_bytes out.old
         ++ def.task_mark change.entry.program.now change.entry.world.now change.entry.x t mark) }
@@ -106,7 +111,7 @@ fn task_mark(out: &mut String, change: Change<'_>, t: u32, mark: Mark) -> Result
 }
 
 /// A task that lives.
-fn life(out: &mut String, change: Change<'_>, t: u32) -> Result<(), AllocError>
+fn life(out: &mut String, change: Change<'_, '_, '_>, t: u32) -> Result<(), AllocError>
     requires { t < length change.world.now.tasks }
     ensures { OnOk result (string_bytes out.new ≡ string_bytes out.old
         ++ def.life change.entry.program.now change.entry.world.now change.entry.x t) }
@@ -116,7 +121,12 @@ fn life(out: &mut String, change: Change<'_>, t: u32) -> Result<(), AllocError>
 }
 
 /// A task that doesn't live.
-fn rest(alloc: Global, out: &mut String, change: Change<'_>, t: u32) -> Result<(), AllocError>
+fn rest(
+    alloc: Global,
+    out: &mut String,
+    change: Change<'_, '_, '_>,
+    t: u32,
+) -> Result<(), AllocError>
     requires { t < length change.world.now.tasks }
     ensures { OnOk result (string_bytes out.new ≡ string_bytes out.old
         ++ def.rest change.entry.names.now change.entry.program.now change.entry.world.now
@@ -129,7 +139,12 @@ fn rest(alloc: Global, out: &mut String, change: Change<'_>, t: u32) -> Result<(
 }
 
 /// A task that lives in this column, or that lived or wasn't born in the column before.
-fn stand(alloc: Global, out: &mut String, change: Change<'_>, t: u32) -> Result<(), AllocError>
+fn stand(
+    alloc: Global,
+    out: &mut String,
+    change: Change<'_, '_, '_>,
+    t: u32,
+) -> Result<(), AllocError>
     requires { t < length change.world.now.tasks }
     ensures { OnOk result (string_bytes out.new ≡ string_bytes out.old
         ++ def.stand change.entry.names.now change.entry.program.now change.entry.before.now
@@ -169,7 +184,7 @@ fn fork_line(
 }
 
 /// The fork of a task that wasn't born in the column before.
-fn birth(out: &mut String, change: Change<'_>, t: u32) -> Result<(), AllocError>
+fn birth(out: &mut String, change: Change<'_, '_, '_>, t: u32) -> Result<(), AllocError>
     ensures { OnOk result (string_bytes out.new ≡ string_bytes out.old
         ++ def.birth change.entry.before.now change.entry.world.now change.entry.x t) }
 {
@@ -181,7 +196,7 @@ fn birth(out: &mut String, change: Change<'_>, t: u32) -> Result<(), AllocError>
 }
 
 /// An interrupt flag that wasn't set in the column before.
-fn interrupted(out: &mut String, change: Change<'_>, t: u32) -> Result<(), AllocError>
+fn interrupted(out: &mut String, change: Change<'_, '_, '_>, t: u32) -> Result<(), AllocError>
     ensures { OnOk result (string_bytes out.new ≡ string_bytes out.old
         ++ def.interrupted change.entry.before.now change.entry.world.now change.entry.x t) }
 {
@@ -193,7 +208,12 @@ fn interrupted(out: &mut String, change: Change<'_>, t: u32) -> Result<(), Alloc
     mark_end(out)
 }
 
-fn task_cell(alloc: Global, out: &mut String, change: Change<'_>, t: u32) -> Result<(), AllocError>
+fn task_cell(
+    alloc: Global,
+    out: &mut String,
+    change: Change<'_, '_, '_>,
+    t: u32,
+) -> Result<(), AllocError>
     requires { t < length change.world.now.tasks }
     ensures { OnOk result (string_bytes out.new ≡ string_bytes out.old
         ++ def.task_cell change.entry.names.now change.entry.program.now change.entry.before.now
@@ -209,7 +229,11 @@ fn task_cell(alloc: Global, out: &mut String, change: Change<'_>, t: u32) -> Res
 /// # Errors
 ///
 /// Memory ran out; `out` may then have a part of it.
-pub fn task_cells(alloc: Global, out: &mut String, change: Change<'_>) -> Result<(), AllocError>
+pub fn task_cells(
+    alloc: Global,
+    out: &mut String,
+    change: Change<'_, '_, '_>,
+) -> Result<(), AllocError>
     ensures { OnOk result (string_bytes out.new ≡ string_bytes out.old
         ++ def.task_cells change.entry.names.now change.entry.program.now change.entry.before.now
         change.entry.world.now change.entry.x change.entry.world.now.tasks 0) }

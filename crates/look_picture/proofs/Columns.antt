@@ -1,5 +1,5 @@
 -- The columns of a list of events, one after another.
-use Rattle.std.proofs.Common.{◌≡◌, ℕ, ◌+◌, ◌<◌, ◌≤◌, List, Bool, ◌++◌, length, arith, ap, ap₂, sym, ◌∙◌, take, drop, get_or}
+use Rattle.std.proofs.Common.{◌≡◌, append_assoc, ℕ, ◌+◌, ◌<◌, ◌≤◌, List, Bool, ◌++◌, length, arith, ap, ap₂, sym, ◌∙◌, take, drop, get_or}
 use Rattle.std.specs.Prelude.{◌==◌, true, false, if◌then◌else◌}
 use Rattle.std.proofs.Math.Nat.{le_refl}
 use Rattle.std.proofs.lemmas.List.{take_more, length-take-le, drop_more}
@@ -49,3 +49,24 @@ few_if false n = le_refl (n + 1)
 
 pub one_more_few : (words : List ℕ) (n : ℕ) → one_more words n ≤ n + 1
 one_more_few words n = few_if (length words == 0) n
+
+-- the same for the number of columns, by the words of the event
+pub count_after : (text : List ℕ) (brief : Bool) (p : Program) (n : ℕ) (es : List Event) (i : ℕ) (d : Event) (words : List ℕ) (m : ℕ) → i < length es → words ≡ event_words text brief (i + 1) (after_events p (take i es)) (get_or es i d) → m ≡ one_more words n → count_from text brief p m (take (i + 1) es) (drop (i + 1) es) ≡ count_from text brief p n (take i es) (drop i es)
+count_after text brief p n es i d words m inside said more =
+    ap (λ (k : ℕ). count_from text brief p k (take (i + 1) es) (drop (i + 1) es)) (more ∙ ap (λ (xs : List ℕ). one_more xs n) said)
+    ∙ sym (count_next text brief p n es i d inside)
+
+-- what was drawn before an event, its column and the columns of the rest are those from the event on
+pub column_after : (text : List ℕ) (brief : Bool) (p : Program) (n : ℕ) (es : List Event) (i : ℕ) (d : Event) (words : List ℕ) (m : ℕ) (b w : Watched) (a : Applied) (out new : List ℕ) → i < length es → words ≡ event_words text brief (i + 1) (after_events p (take i es)) (get_or es i d) → m ≡ one_more words n → b ≡ watched p (take i es) → w ≡ watched p (take (i + 1) es) → a ≡ numbered p (take i es) (i + 1) (get_or es i d) → new ≡ out ++ maybe_column text words b w brief n a → new ++ columns_from text brief p m (take (i + 1) es) (drop (i + 1) es) ≡ out ++ columns_from text brief p n (take i es) (drop i es)
+column_after text brief p n es i d words m b w a out new inside said more before after applied made =
+    let e = get_or es i d in
+    let line = event_words text brief (i + 1) (after_events p (take i es)) e in
+    let column = maybe_column text line (watched p (take i es)) (watched p (take (i + 1) es)) brief n in
+    let rest = λ (k : ℕ). columns_from text brief p k (take (i + 1) es) (drop (i + 1) es) in
+    let here =
+    ap (λ (xs : List ℕ). maybe_column text xs b w brief n a) said
+    ∙ ap₂ (λ (x y : Watched). maybe_column text line x y brief n a) before after
+    ∙ ap column applied in
+    ap₂ (λ (xs : List ℕ) (k : ℕ). xs ++ rest k) (made ∙ ap (λ xs. out ++ xs) here) (more ∙ ap (λ (xs : List ℕ). one_more xs n) said)
+    ∙ append_assoc out (column (numbered p (take i es) (i + 1) e)) (rest (one_more line n))
+    ∙ ap (λ xs. out ++ xs) (sym (columns_next text brief p n es i d inside))

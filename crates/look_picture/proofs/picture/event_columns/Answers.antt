@@ -1,98 +1,94 @@
-use Rattle.std.proofs.Common.{ℕ, ◌++◌, ◌∙◌, ap, ap₂, sym, arith, append_assoc, false, take, drop, get_or, ◌+◌, List}
+use Rattle.std.proofs.Common.{◌≡◌, ℕ, ◌++◌, ◌∙◌, ap, ap₂, sym, arith, false, take, drop, get_or, ◌+◌, List}
 use Rattle.std.specs.String.{string_bytes}
+use Rattle.sts_model.specs.declared.event.Event.{Event}
 use Rattle.sts_model.specs.declared.event.Event.TheVariants.{Step}
 use Rattle.sts_model.specs.World.{World}
 use Rattle.look_lines.proofs.WatchedLemmas.{watched_next}
 use Rattle.look_lines.specs.Watched.{Watched, after_event, watched}
 use Rattle.look_tell.specs.Story.{Story, after_events, next}
 use Rattle.look_tell.proofs.StoryLemmas.{after_next, watched_taken, watched_told}
-use Rattle.look_picture.proofs.Columns.{applied_of, columns_next, count_next, numbered, numbered_at, one_more_few}
+use Rattle.look_picture.proofs.Columns.{applied_of, column_after, count_after, numbered, numbered_at, one_more_few}
 use Rattle.look_drawing.proofs.ListingLemmas.{kept_shown}
 use Rattle.look_drawing.proofs.WatchingLemmas.{follows_watched, held_watched}
-use Rattle.look_drawing.specs.Column as column
-use Rattle.look_picture.specs.Picture as def
 use Rattle.look_drawing.specs.Present as numbers
-use Rattle.look_drawing.specs.Present.{Numbers}
+use Rattle.look_drawing.specs.Present.{Follows, Numbers}
 use Rattle.look_picture.specs.Told.{event_words}
 use Rattle.look_picture.proofs.picture.event_columns.Goals as goal
+use Rattle.look_picture.proofs.picture.event_columns.Goals.{In_ok-add_born}
+
+-- the event that was said, and what its column can show
+module _ (c : In_ok-add_born) where
+  abbrev event : Event
+  event = get_or c.args.events.now c.loop-i.i (Step 0)
+
+  seen : c.watch-watch.result.now ≡ after_event (watched c.args.before.now.program (take c.loop-i.i c.args.events.now)) event
+  seen =
+      let l = c.loop-i in
+      c.watch-watch.ensures
+      ∙ watched_told c.args.before.now.program c.args.events.now l.i event l.story c.event_words.new.story (omega arith) (omega arith)
+      l.invariant.told c.in_ok-words.ensures.after
+
+  seen_next : c.watch-watch.result.now ≡ watched c.args.before.now.program (take (c.loop-i.i + 1) c.args.events.now)
+  seen_next = seen ∙ watched_next c.args.before.now.program c.args.events.now c.loop-i.i (Step 0) (omega arith) (omega arith)
+
+  follows : Follows c.loop-i.before.last c.watch-watch.result.now.last
+  follows =
+      let l = c.loop-i in
+      follows_watched c.args.before.now.program (take l.i c.args.events.now) event l.before c.watch-watch.result.now l.invariant.behind seen
+
+  listed : c.add_born.new.self ≡ numbers.shown c.loop-i.before.last c.watch-watch.result.now.last
+  listed =
+      let l = c.loop-i in
+      c.in_ok-add_born.ensures
+      ∙ ap₂ (λ (b v : World). numbers.with_born l.present b v) (c.records.ensures ∙ c.world.ensures)
+      (c.records-in-loop-i.ensures ∙ c.world-in-loop-i.ensures)
+      ∙ ap (λ (n : Numbers). numbers.with_born n l.before.last c.watch-watch.result.now.last) l.invariant.listed
+
+  kept_now : (w : Watched) → w ≡ watched c.args.before.now.program (take (c.loop-i.i + 1) c.args.events.now) → numbers.kept c.add_born.new.self w.last ≡ numbers.present w.last
+  kept_now w made =
+      let same = ap (λ (x : Watched). x.last) (made ∙ sym seen_next) in
+      ap₂ (λ (n : Numbers) (v : World). numbers.kept n v) listed same
+      ∙ kept_shown c.loop-i.before.last c.watch-watch.result.now.last follows ∙ ap numbers.present (sym same)
+
+  said : string_bytes c.in_ok-words.words ≡ event_words c.args.names.now c.args.brief (c.loop-i.i + 1) (after_events c.args.before.now.program (take c.loop-i.i c.args.events.now)) event
+  said =
+      c.in_ok-words.ensures.said
+      ∙ ap (λ (s : Story). event_words c.args.names.now c.args.brief (c.loop-i.i + 1) s event) c.loop-i.invariant.told
+
+  told_next : c.event_words.new.story ≡ after_events c.args.before.now.program (take (c.loop-i.i + 1) c.args.events.now)
+  told_next =
+      c.in_ok-words.ensures.after ∙ ap (λ (s : Story). next false s event) c.loop-i.invariant.told
+      ∙ after_next c.args.before.now.program c.args.events.now c.loop-i.i (Step 0) (omega arith)
+
+  is_numbered : applied_of (c.loop-i.i + 1) event c.counts-is_counted.result ≡ numbered c.args.before.now.program (take c.loop-i.i c.args.events.now) (c.loop-i.i + 1) event
+  is_numbered =
+      ap (applied_of (c.loop-i.i + 1) event) c.counts-is_counted.ensures
+      ∙ ap (λ (w : Watched). numbered_at w (c.loop-i.i + 1) event)
+      (watched_taken c.args.before.now.program c.args.events.now c.loop-i.i c.loop-i.story (omega arith) (omega arith) c.loop-i.invariant.told)
 
 pub invariant_of-seen-clause-follows : goal.invariant_of-seen-clause-follows
-invariant_of-seen-clause-follows c =
-    let l = c.loop-i in
-    let p = c.args.before.now.program in
-    let es = c.args.events.now in
-    let e = get_or es l.i (Step 0) in
-    follows_watched p (take l.i es) e l.before c.watch-watch.result.now l.invariant.behind
-    (c.watch-watch.ensures ∙ watched_told p es l.i e l.story c.event_words.new.story (omega arith) (omega arith) l.invariant.told c.in_ok-words.ensures.after)
+invariant_of-seen-clause-follows c = follows (goal.at.invariant_of-seen-clause-follows c).In_ok-add_born
 
 pub invariant_of-seen-clause-held : goal.invariant_of-seen-clause-held
 invariant_of-seen-clause-held c =
-    let l = c.loop-i in
-    let p = c.args.before.now.program in
-    let es = c.args.events.now in
-    let e = get_or es l.i (Step 0) in
-    held_watched p (take (l.i + 1) es) c.watch-watch.result.now
-    (c.watch-watch.ensures ∙ watched_told p es l.i e l.story c.event_words.new.story (omega arith) (omega arith) l.invariant.told c.in_ok-words.ensures.after
-    ∙ watched_next p es l.i (Step 0) (omega arith) (omega arith))
+    held_watched c.args.before.now.program (take (c.loop-i.i + 1) c.args.events.now) c.watch-watch.result.now
+    (seen_next (goal.at.invariant_of-seen-clause-held c).In_ok-add_born)
 
 pub invariant_of-seen-clause-listed : goal.invariant_of-seen-clause-listed
-invariant_of-seen-clause-listed c =
-    let l = c.loop-i in
-    let w : World = c.watch-watch.result.now.last in
-    c.in_ok-add_born.ensures
-    ∙ ap₂ (λ (first second : World). numbers.with_born l.present first second) (c.records.ensures ∙ c.world.ensures)
-    (c.records-in-loop-i.ensures ∙ c.world-in-loop-i.ensures)
-    ∙ ap (λ (n : Numbers). numbers.with_born n l.before.last w) l.invariant.listed
+invariant_of-seen-clause-listed c = listed (goal.at.invariant_of-seen-clause-listed c).In_ok-add_born
 
 pub loop-i-preserved : goal.loop-i-preserved
 loop-i-preserved c =
-    let text = c.args.names.now in
-    let brief = c.args.brief in
-    let p = c.args.before.now.program in
-    let es = c.args.events.now in
     let l = c.loop-i in
-    let i = l.i in
-    let n = l.columns in
-    let e = get_or es i (Step 0) in
-    let before = watched p (take i es) in
-    let after = watched p (take (i + 1) es) in
-    let line = event_words text brief (i + 1) (after_events p (take i es)) e in
-    let next_seen = watched_next p es i (Step 0) (omega arith) (omega arith) in
-    let stands = watched_taken p es i l.story (omega arith) (omega arith) l.invariant.told in
-    let watch = c.watch-watch.result.now in
-    let made = c.watch-watch.ensures ∙ watched_told p es i e l.story c.event_words.new.story (omega arith) (omega arith) l.invariant.told c.in_ok-words.ensures.after in
-    let shown = made ∙ next_seen in
-    let behind = c.in_ok-apply.ensures.ok ∙ ap (λ (w : Watched). after_event w e) l.invariant.behind ∙ next_seen in
-    let words = c.as_str.ensures.value ∙ c.in_ok-words.ensures.said ∙ ap (λ (s : Story). event_words text brief (i + 1) s e) l.invariant.told in
-    let applied = ap (applied_of (i + 1) e) c.counts-is_counted.ensures ∙ ap (λ (w : Watched). numbered_at w (i + 1) e) stands in
-    let here =
-    ap (λ (xs : List ℕ). column.maybe_column text xs l.before watch brief n (applied_of (i + 1) e c.counts-is_counted.result)) words
-    ∙ ap₂ (λ (b w : Watched). column.maybe_column text line b w brief n (applied_of (i + 1) e c.counts-is_counted.result)) l.invariant.behind shown
-    ∙ ap (column.maybe_column text line before after brief n) applied in
-    let more = c.in_ok-more.ensures.counted ∙ ap (λ (xs : List ℕ). column.one_more xs n) words in
-    let rest = λ (m : ℕ). def.columns_from text brief p m (take (i + 1) es) (drop (i + 1) es) in
-    let w : World = watch.last in
-    let same = ap (λ (x : Watched). x.last) (behind ∙ sym shown) in
-    let listed =
-    c.in_ok-add_born.ensures
-    ∙ ap₂ (λ (b v : World). numbers.with_born l.present b v) (c.records.ensures ∙ c.world.ensures) (c.records-in-loop-i.ensures ∙ c.world-in-loop-i.ensures)
-    ∙ ap (λ (m : Numbers). numbers.with_born m l.before.last w) l.invariant.listed in
+    let a = (goal.at.loop-i-preserved c).In_ok-add_born in
+    let behind = c.in_ok-apply.ensures.ok ∙ ap (λ (w : Watched). after_event w (event a)) l.invariant.behind ∙ sym (seen a) ∙ seen_next a in
+    let words = c.as_str.ensures.value ∙ said a in
+    let step = one_more_few c.as_str.result.now l.columns in
     record {
       behind = behind;
-      told = c.in_ok-words.ensures.after ∙ ap (λ (s : Story). next false s e) l.invariant.told ∙ after_next p es i (Step 0) (omega arith);
-      listed =
-          c.keep.ensures
-          ∙ ap₂ (λ (m : Numbers) (v : World). numbers.kept m v) listed (c.records-in-loop-i-2.ensures ∙ c.world-in-loop-i-2.ensures ∙ same)
-          ∙ kept_shown l.before.last w (follows_watched p (take i es) e l.before watch l.invariant.behind made)
-          ∙ ap numbers.present (sym same);
-      few = let step = one_more_few line n in omega (arith, more, step);
-      counted =
-          ap (λ (m : ℕ). def.count_from text brief p m (take (i + 1) es) (drop (i + 1) es)) more
-          ∙ sym (count_next text brief p n es i (Step 0) (omega arith))
-          ∙ l.invariant.counted;
-      drawn =
-          ap₂ (λ (xs : List ℕ) (m : ℕ). xs ++ rest m) (c.in_ok-more.ensures.drawn ∙ ap (λ xs. string_bytes l.out ++ xs) here) more
-          ∙ append_assoc (string_bytes l.out) (column.maybe_column text line before after brief n (numbered p (take i es) (i + 1) e)) (rest (column.one_more line n))
-          ∙ ap (λ xs. string_bytes l.out ++ xs) (sym (columns_next text brief p n es i (Step 0) (omega arith)))
-          ∙ l.invariant.drawn;
+      told = told_next a;
+      few = omega (arith, c.in_ok-more.ensures.counted, step);
+      listed = c.keep.ensures ∙ ap (numbers.kept c.add_born.new.self) (c.records-in-loop-i-2.ensures ∙ c.world-in-loop-i-2.ensures) ∙ kept_now a c.apply.new.self behind;
+      counted = count_after c.args.names.now c.args.brief c.args.before.now.program l.columns c.args.events.now l.i (Step 0) _ _ (omega arith) words c.in_ok-more.ensures.counted ∙ l.invariant.counted;
+      drawn = column_after c.args.names.now c.args.brief c.args.before.now.program l.columns c.args.events.now l.i (Step 0) _ _ _ _ _ _ _ (omega arith) words c.in_ok-more.ensures.counted l.invariant.behind (seen_next a) (is_numbered a) c.in_ok-more.ensures.drawn ∙ l.invariant.drawn;
     }
