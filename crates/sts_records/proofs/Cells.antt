@@ -1,12 +1,13 @@
 -- Cells when a record comes or goes, and when a block begins.
 use Rattle.std.proofs.Common.{◌≡◌, ◌≢◌, ℕ, zero, suc, ◌+◌, ◌-◌, ◌*◌, ◌/◌, ◌<◌, ◌≤◌, List, [], ◌∷◌, length}
 use Rattle.std.proofs.Common.{Option, Some, None, refl, sym, ◌∙◌, ap, arith, get_or, set, nat_eq}
-use Rattle.std.proofs.Common.{Bool, true, false, get_or-set_same, get_or-set_other}
+use Rattle.std.proofs.Common.{Bool, true, false, get_or-set_same, get_or-set_other, length-set, vec_capacity}
 use Rattle.std.proofs.Common.{cond, count_by, is_some}
 use Rattle.std.proofs.lemmas.Bool.Decides.{nat_tests}
 use Rattle.std.proofs.lemmas.List.Sums.{sum_by-cons, sum_by-set}
 use Rattle.std.proofs.lemmas.Option.{same_Some}
-use Rattle.sts_records.specs.Pages.{Comes, Extends, Goes, HasPage, IsKept, cell_of, page_of, start_of}
+use Rattle.sts_records.specs.Pages.{Comes, Extends, Goes, HasPage, IsKept, KeepsKeys, cell_of, page_of, start_of}
+use Rattle.sts_records.specs.declared.pages.Pages.{Pages}
 
 none_some : {X : Type 0} → (o : Option X) (x : X) → o ≡ None → o ≡ Some x → ⊥
 none_some o x e f = cc
@@ -175,6 +176,73 @@ own_unused offsets cells at latest block own kept later k = by (at k) refl
         let offset = own (b / 4096) begun in
         let page : cell_of offsets b / 4096 ≡ block = same_Some _ _ e in
         omega (arith, begun, offset, page, later)
+
+-- a record comes, whose birth is of the latest block: the pages afterwards
+pub put_kept : (p q : Pages) (at after : ℕ → Option ℕ) (key birth : ℕ) → KeepsKeys p (birth / 4096) at → Comes at after key birth → q.offsets ≡ p.offsets → q.cells.items ≡ set p.cells.items (cell_of p.offsets birth) key → vec_capacity q.cells ≡ vec_capacity p.cells → q.pages ≡ p.pages → KeepsKeys q (birth / 4096) after
+put_kept p q at after key birth kept comes offsets wrote capacity same =
+    let reserved = kept.reserved in
+    record {
+      page = λ block le. (
+          let h = kept.page block le in
+          rw (offsets, wrote) (record { page = h.page; start = h.start; inside = rw length-set h.inside }));
+      kept = rw (offsets, wrote) (put p.offsets p.cells.items at after key birth (birth / 4096) (set p.cells.items (cell_of p.offsets birth) key) kept.page kept.kept refl comes refl);
+      own = λ all. rw offsets (kept.own (sym same ∙ all));
+      reserved = omega (arith, reserved, capacity, same);
+      few = rw same kept.few;
+      below = kept.below;
+      long = rw offsets kept.long;
+    }
+
+-- a block may begin with this page: no record has its cell there, and it is the block's own if each block has one
+abbrev pub IsFree : Pages → (ℕ → Option ℕ) → (block page : ℕ) → Type 0
+IsFree p at block page = ((k : ℕ) → page_of p.offsets (at k) ≢ Some page) × (p.pages ≡ 245 → page ≡ block)
+
+pub own_free : (p : Pages) (at : ℕ → Option ℕ) (block : ℕ) → 0 < block → KeepsKeys p (block - 1) at → p.pages ≡ 245 → IsFree p at block block
+own_free p at block some keys all = (own_unused p.offsets p.cells.items at (block - 1) block (keys.own all) keys.kept (omega (arith, some)), λ _. refl)
+
+-- a block begins: the pages afterwards
+pub begins : (p q : Pages) (at : ℕ → Option ℕ) (block page : ℕ) → (0 < block) × (block < 245) → KeepsKeys p (block - 1) at → IsFree p at block page → page * 4096 + 4096 ≤ length q.cells.items → Extends p.cells.items q.cells.items → vec_capacity q.cells ≡ vec_capacity p.cells → q.offsets ≡ set p.offsets block (page * 4096 + 1003520 - block * 4096) → q.pages ≡ p.pages → KeepsKeys q block at
+begins p q at block page within keys free long ext capacity offsets same =
+    let some = within.0 in
+    let few = within.1 in
+    let all = keys.long in
+    let reserved = keys.reserved in
+    record {
+      page = rw offsets (begin_page p.offsets p.cells.items at block latest page o q.cells.items keys.page keys.kept next room start enough ext);
+      kept = rw offsets (begin_kept p.offsets p.cells.items at block latest page o q.cells.items keys.page keys.kept next room start enough ext unused);
+      own = λ e. (
+          let same_page = free.1 (sym same ∙ e) in
+          rw offsets (begin_own p.offsets p.cells.items at block latest page o q.cells.items keys.page keys.kept next room start enough ext
+          (omega (arith, same_page, few)) (keys.own (sym same ∙ e))));
+      reserved = omega (arith, reserved, capacity, same);
+      few = rw same keys.few;
+      below = few;
+      long = rw offsets (length-set p.offsets block o ∙ all);
+    }
+  where
+    latest : ℕ
+    latest = block - 1
+
+    o : ℕ
+    o = page * 4096 + 1003520 - block * 4096
+
+    next : block ≡ block - 1 + 1
+    next = let some = within.0 in omega (arith, some)
+
+    room : block < length p.offsets
+    room =
+        let few = within.1 in
+        let all = keys.long in
+        omega (arith, few, all)
+
+    start : page * 4096 + 1003520 - block * 4096 + 4096 * block ≡ 4096 * page + 1003520
+    start = let few = within.1 in omega (arith, few)
+
+    enough : 4096 * page + 4096 ≤ length q.cells.items
+    enough = omega (arith, long)
+
+    unused : (k b : ℕ) → at k ≡ Some b → cell_of p.offsets b / 4096 ≢ page
+    unused k b is e = free.0 k (ap (page_of p.offsets) is ∙ ap (λ (n : ℕ). Some n) e)
 
 -- ---- more pages than records
 

@@ -1,22 +1,21 @@
 -- Cells of records, when a record comes, goes, or is written over.
 use Rattle.std.proofs.Common.{◌≡◌, ◌≢◌, ℕ, zero, suc, ◌<◌, ◌≤◌, List, [], ◌∷◌, ◌++◌, length}
 use Rattle.std.specs.Prelude.{⊤}
-use Rattle.std.proofs.Common.{Option, Some, None, refl, sym, ◌∙◌, ap, arith, get_or, set, nat_eq, nat_lt, subst}
-use Rattle.std.proofs.Common.{Bool, true, false, get_or-set_same, slice_get}
+use Rattle.std.proofs.Common.{Option, Some, None, refl, sym, ◌∙◌, ap, arith, get_or, set, nat_eq, nat_lt}
+use Rattle.std.proofs.Common.{Bool, true, false, get_or-set_same}
 use Rattle.std.proofs.Common.{get_or-set_other, cond, count_by, is_some}
 use Rattle.std.proofs.Math.Seq.{get_or-append_seam}
 use Rattle.std.proofs.lemmas.Bool.Decides.{nat_tests}
 use Rattle.std.proofs.lemmas.List.{get_or-map, get_or_append_left, get_or_past, length-map, length_push, map-set}
-use Rattle.std.proofs.lemmas.List.Elements.{All-get_or, All-set}
+use Rattle.std.proofs.lemmas.List.Elements.{All-set}
 use Rattle.std.proofs.lemmas.List.Sums.{sum_by-cons}
-use Rattle.std.proofs.lemmas.Option.{get_or_from_slice_get, slice_get_within}
 use Rattle.slab.specs.Slab.{Slab, Updates as Changes, slab_len}
 use Rattle.sts_records.specs.Cells.{AreWhole, IsSound, Lays, entry_of, entry_with, slots_of}
 use Rattle.sts_records.specs.PlaceLends.{with_body}
 use Rattle.sts_records.specs.Places.{Entry, Updates}
-use Rattle.sts_records.specs.Slots.{birth_of, body_of}
+use Rattle.sts_records.specs.Slots.{body_of}
 use Rattle.sts_records.specs.declared.places.Cell.{Cell}
-use Rattle.laws_words.proofs.OptionLemmas.{has_some, not_none}
+use Rattle.laws_words.proofs.OptionLemmas.{has_some}
 
 pub some_of : {X : Type 0} → (o : Option X) → o ≢ None → (x : X) × (o ≡ Some x)
 some_of None h = absurd (h refl)
@@ -62,14 +61,6 @@ module _ {T : Type 0} where
       let same : ◌≡◌ {A = Entry T} (record { birth = n; body = x }) e = cc in
       (ap (λ (y : Entry T). Some y.birth) same, ap (λ (y : Entry T). Some y.body) same)
 
-  pub birth_with : (b : Option ℕ) (x : T) → birth_of (entry_with b (Some x)) ≡ b
-  birth_with None x = refl
-  birth_with (Some n) x = refl
-
-  pub without_body : (b : Option ℕ) → entry_with {T = T} b None ≡ None
-  without_body None = refl
-  without_body (Some n) = refl
-
   pub with_other : (b : Option ℕ) (x w : T) → entry_with b (Some w) ≡ with_body (entry_with b (Some x)) w
   with_other None x w = refl
   with_other (Some n) x w = refl
@@ -92,15 +83,6 @@ module _ {T : Type 0} where
 
   -- ---- all cells
 
-  pub got : (cells : List (Cell T)) (key : ℕ) (c : Cell T) → slice_get cells key ≡ Some c → get_or (slots_of cells) key None ≡ entry_of c
-  got cells key c is =
-      get_or-map entry_of cells key c None (slice_get_within cells key c is) ∙ ap entry_of (get_or_from_slice_get cells key c c is)
-
-  pub got_none : (cells : List (Cell T)) (key : ℕ) → slice_get cells key ≡ None → get_or (slots_of cells) key None ≡ None
-  got_none [] key is = refl
-  got_none (c ∷ cells) zero is = cc
-  got_none (c ∷ cells) (suc key) is = got_none cells key is
-
   -- a key with a record has a cell
   pub inside_cells : (cells : List (Cell T)) (key : ℕ) → get_or (slots_of cells) key None ≢ None → key < length cells
   inside_cells cells key some = by (nat_lt key (length cells)) refl
@@ -116,23 +98,24 @@ module _ {T : Type 0} where
   pub read : (cells : List (Cell T)) (key : ℕ) (c : Cell T) → key < length cells → c ≡ get_or cells key c → get_or (slots_of cells) key None ≡ entry_of c
   read cells key c less is = get_or-map entry_of cells key c None less ∙ ap entry_of (sym is)
 
-  -- a cell with a birth has a body
-  pub whole_at : (cells : List (Cell T)) (key : ℕ) (c : Cell T) → slice_get cells key ≡ Some c → AreWhole cells → c.birth ≢ None → c.body ≢ None
-  whole_at cells key c is whole =
-      let at = All-get_or (λ (d : Cell T). d.birth ≢ None → d.body ≢ None) cells key c (slice_get_within cells key c is) whole in
-      subst (λ (d : Cell T). d.birth ≢ None → d.body ≢ None) (get_or_from_slice_get cells key c c is) at
-
   pub whole_set : (cells : List (Cell T)) (key : ℕ) (c : Cell T) → (c.birth ≢ None → c.body ≢ None) → AreWhole cells → AreWhole (set cells key c)
   whole_set cells key c own whole = All-set (λ (d : Cell T). d.birth ≢ None → d.body ≢ None) cells key c own whole
 
-  -- the birth in a cell is that of its record
-  pub birth_own : (c : Cell T) → (c.birth ≢ None → c.body ≢ None) → birth_of (entry_of c) ≡ c.birth
-  birth_own c own = by c.birth c.body own
-    where
-      by : (b : Option ℕ) (x : Option T) → (b ≢ None → x ≢ None) → birth_of (entry_with b x) ≡ b
-      by None x own = refl
-      by (Some n) None own = absurd (own (not_none (Some n) n refl) refl)
-      by (Some n) (Some x) own = refl
+  -- a record was found in the cell that was read
+  pub record Found (cells : List (Cell T)) (key : ℕ) (c : Cell T) : Type 0 where
+    pub less : key < length cells
+    pub is : get_or (slots_of cells) key None ≡ entry_of c
+    pub entry : Entry T
+    pub birth : c.birth ≡ Some entry.birth
+    pub body : c.body ≡ Some entry.body
+
+  pub found : (cells : List (Cell T)) (key : ℕ) (c : Cell T) → get_or (slots_of cells) key None ≢ None → c ≡ get_or cells key c → Found cells key c
+  found cells key c some at =
+      let less = inside_cells cells key some in
+      let is = read cells key c less at in
+      let e = some_of (entry_of c) (λ none. some (is ∙ none)) in
+      let both = parts c.birth c.body e.0 e.1 in
+      record { less = less; is = is; entry = e.0; birth = both.0; body = both.1 }
 
   -- ---- what changes
 
@@ -200,10 +183,8 @@ module _ {T : Type 0} where
       by None is = is
       by (Some e) is =
           let same = s.same key in
-          absurd (true_false (rw (none, is) at same))
-        where
-          true_false : false ≡ true → ⊥
-          true_false f = cc
+          let no : false ≡ true = rw (none, is) at same in
+          cc
 
   -- the slab has the key of a record
   pub key_at : (keys : Slab ⊤) (slots : List (Option (Entry T))) (room key : ℕ) → IsSound keys slots room → get_or slots key None ≢ None → is_some (get_or keys.slots key None) ≡ true

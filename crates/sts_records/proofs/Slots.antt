@@ -6,8 +6,6 @@ use Rattle.std.proofs.Common.{get_or-set_other, length-append, subst}
 use Rattle.std.proofs.Math.Seq.{get_or-append_seam}
 use Rattle.std.proofs.lemmas.Bool.Decides.{nat_tests}
 use Rattle.std.proofs.lemmas.List.{ext_get_or, get_or_append_left, get_or_past}
-use Rattle.std.specs.Borrow.{Bor, MutBor}
-use Rattle.std.specs.Option.{option_copied, option_copied_mut, IsSome}
 use Rattle.std.proofs.lemmas.Option.{same_Some}
 use Rattle.laws_words.proofs.ListLemmas.{read_within}
 use Rattle.sts_records.specs.Holes.{Holes, key_at}
@@ -121,44 +119,32 @@ module _ {T : Type 0} where
   body_own : (b : ℕ) (x : T) → body_of b (Some (record { birth = b; body = x })) ≡ Some x
   body_own b x = let q : nat_eq b b ≡ true = grind (arith, nat_tests) in rw q refl
 
+  -- the records of other births stay, if only the entry at the key of this birth changes, and it isn't theirs
+  others_stay : (keys : List ℕ) (old new : List (Option (Entry T))) (birth : ℕ) (e : Entry T) → get_or old (get_or keys birth 0) None ≡ Some e → e.birth ≡ birth → ((i : ℕ) → i ≢ birth → body_of i (get_or new (get_or keys birth 0) None) ≡ None) → ((j : ℕ) → j ≢ get_or keys birth 0 → get_or new j None ≡ get_or old j None) → (i : ℕ) → i ≢ birth → body_of i (get_or new (get_or keys i 0) None) ≡ body_of i (get_or old (get_or keys i 0) None)
+  others_stay keys old new birth e was own none others i ne = by (nat_eq (get_or keys i 0) (get_or keys birth 0)) refl
+    where
+      by : (t : Bool) → nat_eq (get_or keys i 0) (get_or keys birth 0) ≡ t → body_of i (get_or new (get_or keys i 0) None) ≡ body_of i (get_or old (get_or keys i 0) None)
+      by true q =
+          let s : get_or keys i 0 ≡ get_or keys birth 0 = grind (arith, nat_tests) in
+          let r : nat_eq e.birth i ≡ false = grind (arith, nat_tests) in
+          let gone : body_of i (Some e) ≡ None = rw r refl in
+          ap (λ n. body_of i (get_or new n None)) s ∙ none i ne ∙ sym (ap (λ n. body_of i (get_or old n None)) s ∙ ap (body_of i) was ∙ gone)
+      by false q = let s : get_or keys i 0 ≢ get_or keys birth 0 = grind (arith, nat_tests) in ap (body_of i) (others (get_or keys i 0) s)
+
   -- the entry of one birth is replaced by another of that birth
   pub rewritten : (keys : List ℕ) (old new : List (Option (Entry T))) (birth : ℕ) (e : Entry T) (x : T) → birth < length keys → get_or old (get_or keys birth 0) None ≡ Some e → e.birth ≡ birth → get_or new (get_or keys birth 0) None ≡ Some (record { birth = birth; body = x }) → ((j : ℕ) → j ≢ get_or keys birth 0 → get_or new j None ≡ get_or old j None) → slots 0 keys new ≡ set (slots 0 keys old) birth (Some x)
   rewritten keys old new birth e x less was own is others =
       written keys old new birth (Some x) less (rw is (body_own birth x))
-      (λ i ne. by i ne (nat_eq (get_or keys i 0) (get_or keys birth 0)) refl)
-    where
-      by : (i : ℕ) → i ≢ birth → (t : Bool) → nat_eq (get_or keys i 0) (get_or keys birth 0) ≡ t → body_of i (get_or new (get_or keys i 0) None) ≡ body_of i (get_or old (get_or keys i 0) None)
-      by i ne true q =
-          let s : get_or keys i 0 ≡ get_or keys birth 0 = grind (arith, nat_tests) in
-          let r : nat_eq e.birth i ≡ false = grind (arith, nat_tests) in
-          rw (s, is, was, body_other i birth x ne) (rw r refl)
-      by i ne false q = let s : get_or keys i 0 ≢ get_or keys birth 0 = grind (arith, nat_tests) in rw (others (get_or keys i 0) s) refl
+      (others_stay keys old new birth e was own (λ i ne. ap (body_of i) is ∙ body_other i birth x ne) others)
 
   -- the entry of one birth is discarded
   pub emptied : (keys : List ℕ) (old new : List (Option (Entry T))) (birth : ℕ) (e : Entry T) → birth < length keys → get_or old (get_or keys birth 0) None ≡ Some e → e.birth ≡ birth → get_or new (get_or keys birth 0) None ≡ None → ((j : ℕ) → j ≢ get_or keys birth 0 → get_or new j None ≡ get_or old j None) → slots 0 keys new ≡ set (slots 0 keys old) birth None
   emptied keys old new birth e less was own is others =
-      written keys old new birth None less (rw is refl)
-      (λ i ne. by i ne (nat_eq (get_or keys i 0) (get_or keys birth 0)) refl)
-    where
-      by : (i : ℕ) → i ≢ birth → (t : Bool) → nat_eq (get_or keys i 0) (get_or keys birth 0) ≡ t → body_of i (get_or new (get_or keys i 0) None) ≡ body_of i (get_or old (get_or keys i 0) None)
-      by i ne true q =
-          let s : get_or keys i 0 ≡ get_or keys birth 0 = grind (arith, nat_tests) in
-          let r : nat_eq e.birth i ≡ false = grind (arith, nat_tests) in
-          rw (s, is, was) (rw r refl)
-      by i ne false q = let s : get_or keys i 0 ≢ get_or keys birth 0 = grind (arith, nat_tests) in rw (others (get_or keys i 0) s) refl
+      written keys old new birth None less (rw is refl) (others_stay keys old new birth e was own (λ i ne. ap (body_of i) is) others)
 
   -- what a look-up finds
-  pub none_past : (keys : List ℕ) (entries : List (Option (Entry T))) (birth : ℕ) → false ≡ nat_lt birth (length keys) → None ≡ get_or (slots 0 keys entries) birth None
-  none_past keys entries birth e = sym (slot_past keys entries birth (grind (arith, nat_tests)))
-
-  pub none_at : (keys : List ℕ) (entries : List (Option (Entry T))) (birth k : ℕ) → birth < length keys → k ≡ get_or keys birth 0 → None ≡ get_or entries k None → None ≡ get_or (slots 0 keys entries) birth None
-  none_at keys entries birth k less e h = rw (slot_is keys entries birth less, ← e, ← h) refl
-
   pub some_at : (keys : List ℕ) (entries : List (Option (Entry T))) (birth k : ℕ) (x : Entry T) → birth < length keys → k ≡ get_or keys birth 0 → Some x ≡ get_or entries k None → x.birth ≡ birth → Some x.body ≡ get_or (slots 0 keys entries) birth None
   some_at keys entries birth k x less e h own = let q : nat_eq x.birth birth ≡ true = grind (arith, nat_tests) in rw (slot_is keys entries birth less, ← e, ← h) (rw q refl)
-
-  pub none_other : (keys : List ℕ) (entries : List (Option (Entry T))) (birth k : ℕ) (x : Entry T) → birth < length keys → k ≡ get_or keys birth 0 → Some x ≡ get_or entries k None → x.birth ≢ birth → None ≡ get_or (slots 0 keys entries) birth None
-  none_other keys entries birth k x less e h other = let q : nat_eq x.birth birth ≡ false = grind (arith, nat_tests) in rw (slot_is keys entries birth less, ← e, ← h) (rw q refl)
 
   -- a vacant key gets the entry of the next birth
   same_entries : (b n : ℕ) (keys : List ℕ) (old new : List (Option (Entry T))) (k : ℕ) (x : T) → b + length keys ≤ n → get_or old k None ≡ None → get_or new k None ≡ Some (record { birth = n; body = x }) → ((j : ℕ) → j ≢ k → get_or new j None ≡ get_or old j None) → slots b keys new ≡ slots b keys old
@@ -304,15 +290,8 @@ module _ {T : Type 0} where
           let k : get_or keys birth 0 ≡ key = cc in
           (s.entry, rw k at s.is, s.own, s.less)
 
-  -- a birth without a record has no key
-  pub key_none : (keys : List ℕ) (entries : List (Option (Entry T))) (birth : ℕ) → None ≡ get_or (slots 0 keys entries) birth None → None ≡ key_at (slots 0 keys entries) keys birth
-  key_none keys entries birth h = rw (← h) refl
-
-  pub key_some : (keys : List ℕ) (entries : List (Option (Entry T))) (birth key : ℕ) (x : T) → Some x ≡ get_or (slots 0 keys entries) birth None → key ≡ get_or keys birth 0 → Some key ≡ key_at (slots 0 keys entries) keys birth
-  key_some keys entries birth key x h e = rw (← h, e) refl
-
-  pub is_there : (keys : List ℕ) (entries : List (Option (Entry T))) (birth : ℕ) (x : T) → Some x ≡ get_or (slots 0 keys entries) birth None → Stands keys entries birth
-  is_there keys entries birth x h = stands keys entries birth (λ n. let no : Some x ≡ None = h ∙ n in cc)
+  pub key_some : (all : List (Option T)) (keys : List ℕ) (birth key : ℕ) (x : T) → Some x ≡ get_or all birth None → key ≡ get_or keys birth 0 → Some key ≡ key_at all keys birth
+  key_some all keys birth key x h e = rw (← h, e) refl
 
   -- the body of a record is replaced
   pub lent : (keys : List ℕ) (entries : List (Option (Entry T))) (birth : ℕ) (w : T) (room : ℕ) (s : Stands keys entries birth) → ◌≡◌ {A = Holes T} (record { slots = slots 0 keys (set entries (get_or keys birth 0) (Some (record { birth = s.entry.birth; body = w }))); keys = keys; room = room }) (record { slots = set (slots 0 keys entries) birth (Some w); keys = keys; room = room })
@@ -322,24 +301,6 @@ module _ {T : Type 0} where
       let here = get_or-set_same entries k (Some (record { birth = s.entry.birth; body = w })) None less in
       ap (λ (l : List (Option T)). record { slots = l; keys = keys; room = room })
       (rewritten keys entries _ birth s.entry w s.less s.is s.own (here ∙ (rw s.own refl)) (λ j ne. get_or-set_other entries k j _ None ne))
-
--- what a `&` to a record has
-pub is_some_got : {X : Type 0} → (o : Option (Bor X)) (x : X) → option_copied o ≡ Some x → IsSome o
-is_some_got None x e = cc
-is_some_got (Some r) x e = refl
-
-pub got_is : {X : Type 0} → (o : Option (Bor X)) (r : Bor X) (x : X) → o ≡ Some r → option_copied o ≡ Some x → r.now ≡ x
-got_is None r x e f = cc
-got_is (Some q) r x e f = let s : q ≡ r = cc in rw s at (same_Some _ _ f)
-
--- what a `&mut` to a record has
-pub is_some_of : {X : Type 0} → (o : Option (MutBor X)) (x : X) → option_copied_mut o ≡ Some x → IsSome o
-is_some_of None x e = cc
-is_some_of (Some r) x e = refl
-
-pub now_of : {X : Type 0} → (o : Option (MutBor X)) (r : MutBor X) (x : X) → o ≡ Some r → option_copied_mut o ≡ Some x → r.now ≡ x
-now_of None r x e f = cc
-now_of (Some q) r x e f = let s : q ≡ r = cc in rw s at (same_Some _ _ f)
 
 -- two records at one key are one
 pub is_entry : {X : Type 0} → {o : Option X} → {a b : X} → o ≡ Some a → o ≡ Some b → a ≡ b

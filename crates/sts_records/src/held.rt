@@ -89,6 +89,15 @@ impl<T: Drop> Held<T> {
         self.room
     }
 
+    /// The key of the record of a birth. It must exist.
+    #[inline(always)]
+    fn key(&self, birth: usize) -> usize
+        requires { slice_index_or self.now.slots birth None ≢ None }
+        ensures { result ≡ slice_index_or self.now.keys birth 0 }
+    {
+        self.pages.key(birth)
+    }
+
     /// The record of a birth, if it exists.
     pub fn get(&self, birth: usize) -> Option<&T>
         ensures { option_copied result ≡ slice_index_or self.now.slots birth None }
@@ -105,7 +114,7 @@ impl<T: Drop> Held<T> {
         requires { slice_index_or self.now.slots birth None ≢ None }
         ensures { slice_index_or self.now.slots birth None ≡ Some result.now }
     {
-        let key = self.pages.key(birth);
+        let key = self.key(birth);
         self.places.record(key)
     }
 
@@ -115,7 +124,7 @@ impl<T: Drop> Held<T> {
         ensures* writes_back { sem 𝓛 (lends_slot T.row self.entry birth result) }
         ensures value { slice_index_or self.old.slots birth None ≡ Some result.now }
     {
-        let key = self.pages.key(birth);
+        let key = self.key(birth);
         self.places.at(key)
     }
 
@@ -125,7 +134,7 @@ impl<T: Drop> Held<T> {
     {
         match self.get(birth) {
             None => None,
-            Some(_) => Some(self.pages.key(birth)),
+            Some(_) => Some(self.key(birth)),
         }
     }
 
@@ -208,7 +217,7 @@ impl<T: Drop> Held<T> {
         ensures keys { self.new.keys ≡ self.old.keys }
         ensures room { self.new.room ≡ self.old.room + 1 }
     {
-        let key = self.pages.key(birth);
+        let key = self.key(birth);
         self.places.discard(key);
         self.room += 1;
     }

@@ -15,12 +15,14 @@ use Rattle.sts_model.specs.declared.record.Bound.{Bound}
 use Rattle.sts_model.specs.declared.record.Frame.{Frame}
 use Rattle.sts_model.specs.declared.record.Entry.{Entry}
 use Rattle.sts_model.specs.declared.record.Entry.TheVariants as entry
+use Rattle.laws_live.specs.Effect.{live_bind, live_unbind}
 use Rattle.laws_live.specs.Order.{InOrder}
 use Rattle.sts_store.specs.declared.running.Running.{Running}
-use Rattle.sts_store.specs.Parts.{Parts, live_of}
+use Rattle.sts_store.specs.Parts.{Parts, live_of, frame_of}
 use Rattle.sts_store.specs.Sharing.{AreShared, Holder, Keeper, holder_of, keeper_of, holders, keepers, homes, home_at, inherited, behind}
 use Rattle.sts_store.specs.Stored.{IsStore}
-use Rattle.sts_store.proofs.Views.{with_running, Elsewhere}
+use Rattle.sts_store.proofs.Views.{with_running, running_seen, Elsewhere}
+use Rattle.sts_store.proofs.Writing.{Hand, frame_is}
 use Rattle.sts_store.proofs.Keeping.{kept_running}
 use Rattle.sts_store.proofs.Shared.{bind_shares, unbind_shares, instead}
 use Rattle.sts_store.proofs.Unsharing.{sharing_of, unshared, no_holder, no_keeper}
@@ -103,6 +105,16 @@ module _ (m : Parts) (is : IsStore m) (t : ℕ) (r q : Running) (d : Records) (a
       let after = bind_shares is.shared.shares t puts.key (holder_of r) (holder_of q) held puts.vacant whole puts.keys others more outer in
       kept_running m t r q d is at (subst (λ l. AreShared d l (keepers m) (homes m)) written (record { own = instead is.shared.own t (puts.key ∷ is.shared.own t); outside = is.shared.outside; shares = after }))
 
+  pub bound_live : (now : Parts) → Hand m now t r → (key : ℕ) → q.frame ≡ bound_frame r.frame key → list_of d q.env ≡ bound_here r.frame key ∷ list_of m.chains r.env → ((other : Env) → IsWhole m.chains other → Stays m.chains d other) → live_of (with_running m t q d) ≡ live_bind (live_of now) t (frame_of now t) key
+  bound_live now h key frame list others =
+      running_seen m t r q d (λ alive. record alive { frame = bound_frame r.frame key; environment = bound_here r.frame key ∷ alive.environment }) at
+      (λ flag.
+      ap (λ f. record { frame = f; flag = flag; environment = list_of d q.env }) frame
+      ∙ ap (λ e. record { frame = bound_frame r.frame key; flag = flag; environment = e }) list)
+      (bound_elsewhere others)
+      ∙ ap (λ f. live_bind (live_of m) t f key) (sym (frame_is h))
+      ∙ ap (λ p. live_bind (live_of p) t (frame_of now t) key) h.same
+
   -- ---- one binding less
 
   -- a task with a binding as its last entry: its innermost record, and the rest of its own
@@ -174,12 +186,22 @@ module _ (m : Parts) (is : IsStore m) (t : ℕ) (r q : Running) (d : Records) (a
         (subst (λ (o : Option Keeper). NotIn i.key (keys_of m.chains (unwrap_or o no_keeper).kept)) e
         (alone.scopes s (ap (λ (o : Option Keeper). is_some o) e)))
 
-    pub unbound_elsewhere : Elsewhere m t d
+    unbound_elsewhere : Elsewhere m t d
     unbound_elsewhere =
         record {
           tasks = λ v l ne e. (tasks_stay v (holder_of l) ne (held_of v l e)).list;
           scopes = λ s k e. (scopes_stay s (keeper_of k) (kept_of m s k e)).list;
         }
+
+    pub unbound_live : (now : Parts) → Hand m now t r → q.frame ≡ left_frame r.frame → drop 1 (list_of m.chains r.env) ≡ list_of d q.env → live_of (with_running m t q d) ≡ live_unbind (live_of now) t (frame_of now t)
+    unbound_live now h frame list =
+        running_seen m t r q d (λ alive. record alive { frame = left_frame r.frame; environment = drop 1 alive.environment }) at
+        (λ flag.
+        ap (λ f. record { frame = f; flag = flag; environment = list_of d q.env }) frame
+        ∙ ap (λ e. record { frame = left_frame r.frame; flag = flag; environment = e }) (sym list))
+        unbound_elsewhere
+        ∙ ap (λ f. live_unbind (live_of m) t f) (sym (frame_is h))
+        ∙ ap (λ p. live_unbind (live_of p) t (frame_of now t)) h.same
 
     pub unbound_store : IsStore (with_running m t q d)
     unbound_store =

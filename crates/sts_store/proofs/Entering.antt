@@ -1,5 +1,5 @@
 -- A scope is opened: the view after it, and the facts that keep the parts in order.
-use Rattle.std.proofs.Common.{◌≡◌, ◌≢◌, ℕ, List, [], ◌∷◌, ◌++◌, length, Bool, true, false, Some, None, refl, sym, ◌∙◌, ap, get_or, set, arith, cond, nat_eq}
+use Rattle.std.proofs.Common.{◌≡◌, ◌≢◌, ◌-◌, ℕ, List, [], ◌∷◌, ◌++◌, length, Bool, true, false, Some, None, refl, sym, ◌∙◌, ap, get_or, set, arith, cond, nat_eq}
 use Rattle.std.proofs.lemmas.Bool.Decides.{nat_tests}
 use Rattle.std.proofs.lemmas.List.{length-map, map-set, map-append, length-set}
 use Rattle.std.proofs.lemmas.List.Sums.{sum_by-cons}
@@ -137,3 +137,10 @@ open_kept m t x joiner timed keys room is order l =
   where
     q : Running
     q = record l.run { frame = entered l.run.frame x (length m.tree.scopes) }
+
+-- ---- what the calls leave: the tree with the scope, and the frame of its opener
+
+pub as_opened : (m : Parts) (t x : ℕ) (joiner : Joiner) (timed : Bool) (l : Lived m t) (g : Forest Env) (f : Frame) → g ≡ with_opened m.tree (opened t joiner timed l.run.env) g.scope_keys (m.tree.scope_room - 1) → f ≡ entered l.run.frame x (length m.tree.scopes) → with_running (record m { tree = g }) t (record l.run { frame = f }) m.chains ≡ with_scope_more m t l.run (entered l.run.frame x (length m.tree.scopes)) (opened t joiner timed l.run.env) g.scope_keys (m.tree.scope_room - 1)
+as_opened m t x joiner timed l g f tree frame =
+    ap (λ h. with_running (record m { tree = g }) t (record l.run { frame = h }) m.chains) frame
+    ∙ ap (λ (h : Forest Env). with_running (record m { tree = h }) t (record l.run { frame = entered l.run.frame x (length m.tree.scopes) }) m.chains) tree

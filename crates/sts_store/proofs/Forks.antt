@@ -1,8 +1,9 @@
 -- A subtask is forked: the view after it, and the facts that keep the parts in order.
-use Rattle.std.proofs.Common.{◌≡◌, ◌≢◌, ℕ, ℤ, zero, suc, ◌+◌, arith, List, [], ◌∷◌, ◌++◌, length, Bool, true, false, Option, Some, None, refl, sym, ◌∙◌, ap, get_or, set, cond, not, nat_eq, is_some, take, length-append}
+use Rattle.std.proofs.Common.{◌≡◌, ◌≢◌, ℕ, ℤ, zero, suc, ◌+◌, ◌-◌, arith, List, [], ◌∷◌, ◌++◌, length, Bool, true, false, Option, Some, None, refl, sym, ◌∙◌, ap, get_or, set, cond, not, nat_eq, is_some, take, length-append}
 use Rattle.std.proofs.lemmas.Bool.Decides.{nat_tests}
 use Rattle.std.proofs.lemmas.List.{length-map, map-append}
 use Rattle.std.specs.Prelude.{option_map, unwrap_or, reverse}
+use Rattle.std.proofs.lemmas.Option.{same_Some}
 use Rattle.sts_code.specs.Program.{Program, routine}
 use Rattle.sts_env.specs.Environments.{Records, list_of}
 use Rattle.sts_env.specs.declared.env.Env.{Env}
@@ -26,7 +27,7 @@ use Rattle.laws_live.specs.Order.{InOrder}
 use Rattle.sts_store.specs.View.{view_of, scope_seen, alive_of}
 use Rattle.sts_store.proofs.ViewingLemmas.{words, scope_there, same_view}
 use Rattle.sts_store.specs.declared.running.Running.{Running}
-use Rattle.sts_store.specs.Parts.{Parts, live_of, beside, frame_of, running_at, no_running, stand_of, unseen_of}
+use Rattle.sts_store.specs.Parts.{Parts, live_of, beside, frame_of, running_at, no_running, stand_of, Unseen, unseen_of}
 use Rattle.sts_store.specs.Sharing.{Holder, Keeper, holder_of, keeper_of, home_of, holders, keepers}
 use Rattle.sts_store.specs.Stored.{IsStore}
 use Rattle.sts_store.proofs.Views.{Lived, Same, lives_of, same_frame, frame_seen, with_running, tasks_same, length_from}
@@ -171,40 +172,83 @@ alive_same : (cancelled : Bool) (a b : Alive) → a ≡ b → alive_if (not canc
 alive_same true a b e = refl
 alive_same false a b e = ap (λ x. Some x) e
 
-module _ (m : Parts) (is : IsStore m) (order : InOrder (live_of m)) (t s : ℕ) (c : ScopeNode Env) (at : get_or m.tree.scopes s None ≡ Some c) (child : Running) (keys : List ℕ) (room : ℕ) (h : Holes Running) (slots : h.slots ≡ m.frames.slots ++ born_if (not c.cancelled) child ∷ []) (l : Lived m t) (g : Forest Env) (same : seen g ≡ seen (with_subtask m.tree s (not c.cancelled) keys room)) where
-  pub still_there : get_or h.slots t None ≡ Some l.run
+-- what the calls give: the scope, its forker, and the tree g and the frames h with the subtask
+pub record Forking (m : Parts) (t s : ℕ) (child : Running) (g : Forest Env) (h : Holes Running) : Type 0 where
+  pub is : IsStore m
+  pub order : InOrder (live_of m)
+  pub forker : Lived m t
+  pub scope : ScopeNode Env
+  pub at : get_or m.tree.scopes s None ≡ Some scope
+  pub env : child.env ≡ scope.environment
+  pub slots : h.slots ≡ m.frames.slots ++ born_if (not scope.cancelled) child ∷ []
+  pub same : seen g ≡ seen (with_subtask m.tree s (not scope.cancelled) g.task_keys (m.tree.task_room - 1))
+
+-- what the view doesn't show, after a fork
+abbrev pub unseen_forked : Parts → ℕ → ℕ → Unseen
+unseen_forked m s key = record (unseen_of m) { stands = (unseen_of m).stands ++ Some Free ∷ []; task_keys = m.tree.task_keys ++ key ∷ []; task_room = m.tree.task_room - 1; frame_room = cond (live_scope_at (live_of m) s).cancelled m.frames.room (m.frames.room - 1) }
+
+module _ {m : Parts} {t s : ℕ} {child : Running} {g : Forest Env} {h : Holes Running} (k : Forking m t s child g h) where
+  abbrev tree : Forest Env
+  tree = with_subtask m.tree s (not k.scope.cancelled) g.task_keys (m.tree.task_room - 1)
+
+  -- the parts before the forker goes on
+  abbrev with_child : Parts
+  with_child = more m k.is s k.scope k.at child (not k.scope.cancelled) g.task_keys (m.tree.task_room - 1) h k.slots
+
+  pub still_there : get_or h.slots t None ≡ Some k.forker.run
   still_there =
-      let less = inside_of m.frames.slots t (λ none. let runs = l.runs in let never : Some l.run ≡ None = sym runs ∙ none in cc) in
-      others m is s c at child (not c.cancelled) keys room h slots t (λ q. absurd (omega (arith, less, q))) ∙ l.runs
+      let less = inside_of m.frames.slots t (λ none. let runs = k.forker.runs in let never : Some k.forker.run ≡ None = sym runs ∙ none in cc) in
+      others m k.is s k.scope k.at child (not k.scope.cancelled) g.task_keys (m.tree.task_room - 1) h k.slots t (λ q. absurd (omega (arith, less, q)))
+      ∙ k.forker.runs
 
-  pub fork_kept : (f : Frame) → child.env ≡ c.environment → child.frame.entries ≡ [] → f.entries ≡ l.run.frame.entries → IsStore (with_running (record m { tree = g; frames = h }) t (record l.run { frame = f }) m.chains)
-  fork_kept f env entries kept =
-      let m2 : Parts = more m is s c at child (not c.cancelled) keys room h slots in
-      store_seen (with_running m2 t (record l.run { frame = f }) m.chains) g (with_subtask m.tree s (not c.cancelled) keys room) same
-      (kept_frame m2 t l.run (record l.run { frame = f }) (more_kept m is s c at child (not c.cancelled) keys room h slots order env entries) still_there (ap (λ es. record { env = l.run.env; entries = es }) kept))
-
-  pub fork_unseen : (f : Frame) → unseen_of (with_running (record m { tree = g; frames = h }) t (record l.run { frame = f }) m.chains) ≡ record (unseen_of m) { stands = (unseen_of m).stands ++ Some Free ∷ []; task_keys = keys; task_room = room; frame_room = h.room }
-  fork_unseen f =
-      rest_seen (with_running (record m { tree = g; frames = h }) t (record l.run { frame = f }) m.chains) g (with_subtask m.tree s (not c.cancelled) keys room) same
-      ∙ ap (λ st. record (unseen_of m) { stands = st; task_keys = keys; task_room = room; frame_room = h.room }) (map-append (option_map stand_of) m.tree.tasks (Some (subtask s (not c.cancelled)) ∷ []))
-
-  pub fork_live : (p : Program) (function : ℕ) (handle : Option ℕ) → child.env ≡ c.environment → child.frame ≡ entry_frame function (reverse (take (routine p function).args l.run.frame.operands)) (Lent s) → live_of (with_running (record m { tree = g; frames = h }) t (record l.run { frame = forked l.run.frame (routine p function).args handle (length m.tree.tasks) }) m.chains) ≡ live_fork p (live_of m) t (frame_of m t) s function handle
-  fork_live p function handle env frame =
-      frame_seen (record m { tree = g; frames = h }) t l.run (record l.run { frame = next }) (λ alive. record alive { frame = next }) still_there (λ flag. refl)
-      ∙ ap (λ v. with_live_frame v t next) (same_view (beside (more m is s c at child (not c.cancelled) keys room h slots)) g (with_subtask m.tree s (not c.cancelled) keys room) same ∙ more_seen m is s c at child (not c.cancelled) keys room h slots)
-      ∙ ap (λ a. forks (live_of m) t s a next) (alive_same c.cancelled (fresh_alive m.chains child) (live_child p (scope_seen (beside m) c) l.run.frame s function) begins)
-      ∙ sym (forks_is p (live_of m) t (frame_of m t) s function handle
-      ∙ ap (λ f. forks (live_of m) t s (forked_alive p (live_scope_at (live_of m) s) f s function) (forked f (routine p function).args handle (length (live_of m).tasks))) (same_frame m t l.run l l.runs)
-      ∙ ap (λ scope. forks (live_of m) t s (forked_alive p scope l.run.frame s function) (forked l.run.frame (routine p function).args handle (length (live_of m).tasks))) (scope_there (beside m) m.tree s c at)
-      ∙ ap (λ n. forks (live_of m) t s (forked_alive p (scope_seen (beside m) c) l.run.frame s function) (forked l.run.frame (routine p function).args handle n)) (length_from (beside m) 0 m.tree.tasks))
+  -- the room for frames afterwards, by the view
+  fork_room : h.room ≡ cond (not k.scope.cancelled) (m.frames.room - 1) m.frames.room → h.room ≡ cond (live_scope_at (live_of m) s).cancelled m.frames.room (m.frames.room - 1)
+  fork_room is =
+      is
+      ∙ flip k.scope.cancelled (m.frames.room - 1) m.frames.room
+      ∙ sym (ap (λ (x : LiveScope). cond x.cancelled m.frames.room (m.frames.room - 1)) (scope_there (beside m) m.tree s k.scope k.at))
     where
-      next : Frame
-      next = forked l.run.frame (routine p function).args handle (length m.tree.tasks)
+      flip : {X : Type 0} (b : Bool) (x y : X) → cond (not b) x y ≡ cond b y x
+      flip true x y = refl
+      flip false x y = refl
 
-      begins : fresh_alive m.chains child ≡ live_child p (scope_seen (beside m) c) l.run.frame s function
-      begins =
-          ap (λ f. record { frame = f; flag = false; environment = list_of m.chains child.env }) frame
-          ∙ ap (λ e. record { frame = entry_frame function (reverse (take (routine p function).args l.run.frame.operands)) (Lent s); flag = false; environment = list_of m.chains e }) env
+  -- its frame is written
+  module _ (r : Running) (there : get_or h.slots t None ≡ Some r) where
+    pub same_run : r ≡ k.forker.run
+    same_run = same_Some r k.forker.run (sym there ∙ still_there)
+
+    pub fork_kept : (f : Frame) → child.frame.entries ≡ [] → f.entries ≡ r.frame.entries → IsStore (with_running (record m { tree = g; frames = h }) t (record r { frame = f }) m.chains)
+    fork_kept f entries kept =
+        store_seen (with_running with_child t (record r { frame = f }) m.chains) g tree k.same
+        (kept_frame with_child t r (record r { frame = f })
+        (more_kept m k.is s k.scope k.at child (not k.scope.cancelled) g.task_keys (m.tree.task_room - 1) h k.slots k.order k.env entries)
+        there (ap (λ es. record { env = r.env; entries = es }) kept))
+
+    pub fork_unseen : (f : Frame) (key : ℕ) → g.task_keys ≡ m.tree.task_keys ++ key ∷ [] → h.room ≡ cond (not k.scope.cancelled) (m.frames.room - 1) m.frames.room → unseen_of (with_running (record m { tree = g; frames = h }) t (record r { frame = f }) m.chains) ≡ unseen_forked m s key
+    fork_unseen f key keys room =
+        rest_seen (with_running (record m { tree = g; frames = h }) t (record r { frame = f }) m.chains) g tree k.same
+        ∙ ap (λ st. record (unseen_of m) { stands = st; task_keys = g.task_keys; task_room = m.tree.task_room - 1; frame_room = h.room }) (map-append (option_map stand_of) m.tree.tasks (Some (subtask s (not k.scope.cancelled)) ∷ []))
+        ∙ ap (λ ks. record (unseen_of m) { stands = (unseen_of m).stands ++ Some Free ∷ []; task_keys = ks; task_room = m.tree.task_room - 1; frame_room = h.room }) keys
+        ∙ ap (λ n. record (unseen_of m) { stands = (unseen_of m).stands ++ Some Free ∷ []; task_keys = m.tree.task_keys ++ key ∷ []; task_room = m.tree.task_room - 1; frame_room = n }) (fork_room room)
+
+    pub fork_live : (p : Program) (function : ℕ) (handle : Option ℕ) (f : Frame) → child.frame ≡ entry_frame function (reverse (take (routine p function).args k.forker.run.frame.operands)) (Lent s) → f ≡ forked r.frame (routine p function).args handle (length m.tree.tasks) → live_of (with_running (record m { tree = g; frames = h }) t (record r { frame = f }) m.chains) ≡ live_fork p (live_of m) t (frame_of m t) s function handle
+    fork_live p function handle f first is =
+        frame_seen (record m { tree = g; frames = h }) t r (record r { frame = f }) (λ alive. record alive { frame = f }) there (λ flag. refl)
+        ∙ ap (with_live_frame (live_of (record m { tree = g; frames = h })) t) (is ∙ ap (λ (q : Running). forked q.frame (routine p function).args handle (length m.tree.tasks)) same_run)
+        ∙ ap (λ v. with_live_frame v t next) (same_view (beside with_child) g tree k.same ∙ more_seen m k.is s k.scope k.at child (not k.scope.cancelled) g.task_keys (m.tree.task_room - 1) h k.slots)
+        ∙ ap (λ a. forks (live_of m) t s a next) (alive_same k.scope.cancelled (fresh_alive m.chains child) (live_child p (scope_seen (beside m) k.scope) k.forker.run.frame s function) begins)
+        ∙ sym (forks_is p (live_of m) t (frame_of m t) s function handle
+        ∙ ap (λ f. forks (live_of m) t s (forked_alive p (live_scope_at (live_of m) s) f s function) (forked f (routine p function).args handle (length (live_of m).tasks))) (same_frame m t k.forker.run k.forker k.forker.runs)
+        ∙ ap (λ scope. forks (live_of m) t s (forked_alive p scope k.forker.run.frame s function) (forked k.forker.run.frame (routine p function).args handle (length (live_of m).tasks))) (scope_there (beside m) m.tree s k.scope k.at)
+        ∙ ap (λ n. forks (live_of m) t s (forked_alive p (scope_seen (beside m) k.scope) k.forker.run.frame s function) (forked k.forker.run.frame (routine p function).args handle n)) (length_from (beside m) 0 m.tree.tasks))
+      where
+        next : Frame
+        next = forked k.forker.run.frame (routine p function).args handle (length m.tree.tasks)
+
+        begins : fresh_alive m.chains child ≡ live_child p (scope_seen (beside m) k.scope) k.forker.run.frame s function
+        begins =
+            ap (λ f. record { frame = f; flag = false; environment = list_of m.chains child.env }) first
+            ∙ ap (λ e. record { frame = entry_frame function (reverse (take (routine p function).args k.forker.run.frame.operands)) (Lent s); flag = false; environment = list_of m.chains e }) k.env
 
 pub tasks_born : (m : Parts) → length (live_of m).tasks ≡ length m.tree.tasks
 tasks_born m = length_from (beside m) 0 m.tree.tasks

@@ -7,7 +7,7 @@ use Rattle.std.proofs.lemmas.List.Sums.{sum_by-cons}
 use Rattle.std.specs.Prelude.{option_map, is_some, unwrap_or, count_by}
 use Rattle.sts_env.specs.declared.env.Env.{Env}
 use Rattle.sts_tree.specs.Births.{births, drop_if}
-use Rattle.sts_tree.specs.Forest.{any_lives, closed, is_of}
+use Rattle.sts_tree.specs.Forest.{Forest, any_lives, closed, is_of}
 use Rattle.sts_tree.specs.declared.record.TaskNode.{TaskNode}
 use Rattle.sts_tree.specs.declared.record.ScopeNode.{ScopeNode}
 use Rattle.sts_tree.proofs.ClosedLemmas.{drop_at}
@@ -19,14 +19,14 @@ use Rattle.sts_model.specs.declared.event.Stand.TheVariants.{Free}
 use Rattle.sts_model.specs.declared.record.Entry.{Entry}
 use Rattle.sts_model.specs.declared.record.Entry.TheVariants as entry
 use Rattle.sts_model.specs.declared.record.Frame.{Frame}
-use Rattle.laws_live.specs.Effect.{live_gone}
+use Rattle.laws_live.specs.Effect.{live_cleared, live_closed, live_gone}
 use Rattle.laws_live.specs.Reading.{lives_in, live_any_lives, no_live_task, with_live_frame}
 use Rattle.sts_tree.specs.Reading.{lives_at}
 use Rattle.sts_tree.proofs.ClosingLemmas.{none_lives}
 use Rattle.laws_live.specs.Order.{InOrder, IsOwned}
 use Rattle.sts_store.specs.View.{Beside, tasks_from}
 use Rattle.sts_store.proofs.ViewingLemmas.{words, scope_there}
-use Rattle.sts_store.specs.Closing.{stands_left, gone_unseen}
+use Rattle.sts_store.specs.Closing.{stands_left, gone_unseen, slots_cleared}
 use Rattle.sts_store.specs.declared.running.Running.{Running}
 use Rattle.sts_store.specs.Parts.{Parts, live_of, beside, frame_of, stand_of, stand_in, unseen_of}
 use Rattle.sts_store.specs.Sharing.{Holder, holder_of, keeper_of, home_of, holders, homes, home_at, behind}
@@ -35,10 +35,11 @@ use Rattle.sts_store.proofs.Views.{Lived, lives_of, lives_is, same_frame, frame_
 use Rattle.sts_store.proofs.Keeping.{still_some}
 use Rattle.sts_store.proofs.Seeing.{scope_stands, stand_is}
 use Rattle.sts_store.proofs.Housed.{holds, housed}
-use Rattle.sts_store.proofs.Writing.{living}
+use Rattle.sts_store.proofs.Writing.{Hand, living, frame_is}
 use Rattle.sts_store.proofs.Entering.{behind_there}
 use Rattle.sts_store.proofs.Opening.{close_shares}
-use Rattle.sts_store.proofs.CloseLemmas.{innermost_own}
+use Rattle.sts_store.proofs.Clearing.{cleared_seen}
+use Rattle.sts_store.proofs.CloseLemmas.{innermost_own, gone_on}
 use Rattle.laws_words.proofs.OptionLemmas.{has_some}
 use Rattle.sts_tree.proofs.KeyLemmas.{same_key}
 
@@ -69,25 +70,28 @@ stands_gone b s n (Some x ∷ xs) = by (is_in s x.scope) (stands_gone b s (suc n
 
 -- ---- who leaves
 
--- the scope of a living task's innermost entry, if no subtask of it lives
-pub record Leaves (m : Parts) (t s : ℕ) : Type 0 where
+-- the scope of a living task's innermost entry, if no subtask of it lives; contracts see the store m
+-- as `now`
+pub record Leaves (m now : Parts) (t s : ℕ) : Type 0 where
   pub is : IsStore m
+  pub same : m ≡ now
   pub order : InOrder (live_of m)
   pub lived : Lived m t
   pub first : innermost (is_entry_of s) (frame_of m t).entries ≡ true
   pub none : live_any_lives (live_of m) s ≡ false
 
-pub leaves : (m now : Parts) → IsStore m → m ≡ now → (t s : ℕ) → lives_in (live_of now) t ≡ true → InOrder (live_of now) → innermost (is_entry_of s) (frame_of now t).entries ≡ true → live_any_lives (live_of now) s ≡ false → Leaves m t s
+pub leaves : (m now : Parts) → IsStore m → m ≡ now → (t s : ℕ) → lives_in (live_of now) t ≡ true → InOrder (live_of now) → innermost (is_entry_of s) (frame_of now t).entries ≡ true → live_any_lives (live_of now) s ≡ false → Leaves m now t s
 leaves m now is same t s lives order first none =
     record {
       is = is;
+      same = same;
       order = subst (λ n. InOrder (live_of n)) (sym same) order;
       lived = living m now is same t lives;
       first = subst (λ n. innermost (is_entry_of s) (frame_of n t).entries ≡ true) (sym same) first;
       none = subst (λ n. live_any_lives (live_of n) s ≡ false) (sym same) none;
     }
 
-module _ (m : Parts) (t s : ℕ) (k : Leaves m t s) where
+module _ {m now : Parts} {t s : ℕ} (k : Leaves m now t s) where
   own : IsOwned (live_of m) t s
   own = innermost_own (live_of m) t s k.order (ap (λ o. is_some (unwrap_or o no_live_task).alive) k.lived.seen) k.first
 
@@ -104,12 +108,12 @@ module _ (m : Parts) (t s : ℕ) (k : Leaves m t s) where
 
   -- ---- what is seen
 
-  pub gone_live : (r : Running) (f : Frame) → get_or m.frames.slots t None ≡ Some r → live_of (with_running (record m { tree = closed m.tree s }) t (record r { frame = f }) m.chains) ≡ with_live_frame (live_gone (live_of m) s) t f
+  gone_live : (r : Running) (f : Frame) → get_or m.frames.slots t None ≡ Some r → live_of (with_running (record m { tree = closed m.tree s }) t (record r { frame = f }) m.chains) ≡ with_live_frame (live_gone (live_of m) s) t f
   gone_live r f at =
       frame_seen (record m { tree = closed m.tree s }) t r (record r { frame = f }) (λ alive. record alive { frame = f }) at (λ flag. refl)
       ∙ ap (λ v. with_live_frame v t f) (words.close_is (beside m) m.tree s)
 
-  pub gone_rest : (q : Running) → unseen_of (with_running (record m { tree = closed m.tree s }) t q m.chains) ≡ gone_unseen (live_of m) (unseen_of m) s
+  gone_rest : (q : Running) → unseen_of (with_running (record m { tree = closed m.tree s }) t q m.chains) ≡ gone_unseen (live_of m) (unseen_of m) s
   gone_rest q =
       ap (λ stands. record (unseen_of m) { stands = stands; task_room = m.tree.task_room + length (births (is_of s) 0 m.tree.tasks); scope_room = m.tree.scope_room + 1 }) (stands_gone (beside m) s 0 m.tree.tasks)
       ∙ ap (λ n. record (unseen_of m) { stands = stands_left s (live_of m).tasks (unseen_of m).stands; task_room = m.tree.task_room + n; scope_room = m.tree.scope_room + 1 }) (sym (words.count_is (beside m) m.tree s))
@@ -161,7 +165,7 @@ module _ (m : Parts) (t s : ℕ) (k : Leaves m t s) where
                 cc,
           )
 
-  pub gone_kept : (r : Running) (f : Frame) → get_or m.frames.slots t None ≡ Some r → f.entries ≡ drop 1 r.frame.entries → IsStore (with_running (record m { tree = closed m.tree s }) t (record r { frame = f }) m.chains)
+  gone_kept : (r : Running) (f : Frame) → get_or m.frames.slots t None ≡ Some r → f.entries ≡ drop 1 r.frame.entries → IsStore (with_running (record m { tree = closed m.tree s }) t (record r { frame = f }) m.chains)
   unfolding homes_left
   gone_kept r f at left =
       record {
@@ -183,3 +187,27 @@ module _ (m : Parts) (t s : ℕ) (k : Leaves m t s) where
 
       outer : r.frame.entries ≡ entry.Scope s ∷ drop 1 r.frame.entries
       outer = scope_first s r.frame.entries (subst (λ (g : Frame). innermost (is_entry_of s) g.entries ≡ true) (same_frame m t r k.lived at) k.first)
+
+  -- ---- what the calls leave: the tree without the scope, and the frame of who goes on
+
+  pub leaver : (r : Running) → get_or m.frames.slots t None ≡ Some r → Hand m now t r
+  leaver r at = record { is = k.is; same = k.same; lived = k.lived; at = at }
+
+  module _ (g : Forest Env) (took : g ≡ closed m.tree s) (r : Running) (at : get_or m.frames.slots t None ≡ Some r) where
+    pub left_live : (f : Frame) → f ≡ gone_on r.frame (slots_cleared m.tree s r.frame.slots) → live_of (with_running (record m { tree = g }) t (record r { frame = f }) m.chains) ≡ live_closed (live_of now) t (frame_of now t) s
+    left_live f is =
+        ap (λ (x : Forest Env). live_of (with_running (record m { tree = x }) t (record r { frame = f }) m.chains)) took
+        ∙ gone_live r f at
+        ∙ ap (with_live_frame (live_gone (live_of m) s) t) (is ∙ ap (gone_on r.frame) (cleared_seen m s r.frame.slots))
+        ∙ ap (λ n. with_live_frame (live_gone (live_of n) s) t (gone_on r.frame (live_cleared (live_of n) s r.frame.slots))) k.same
+        ∙ ap (λ h. live_closed (live_of now) t h s) (sym (frame_is (leaver r at)))
+
+    pub left_rest : (q : Running) → unseen_of (with_running (record m { tree = g }) t q m.chains) ≡ gone_unseen (live_of now) (unseen_of now) s
+    left_rest q =
+        ap (λ (x : Forest Env). unseen_of (with_running (record m { tree = x }) t q m.chains)) took
+        ∙ gone_rest q
+        ∙ ap (λ n. gone_unseen (live_of n) (unseen_of n) s) k.same
+
+    pub left_kept : (f : Frame) → f.entries ≡ drop 1 r.frame.entries → IsStore (with_running (record m { tree = g }) t (record r { frame = f }) m.chains)
+    left_kept f entries =
+        subst (λ (x : Forest Env). IsStore (with_running (record m { tree = x }) t (record r { frame = f }) m.chains)) (sym took) (gone_kept r f at entries)

@@ -30,67 +30,59 @@ use Rattle.sts_store.proofs.Scoping.{raised_read, raised_lives}
 use Rattle.sts_store.proofs.Finishing.{asking, not_asking, root_asks_not, told_scope, finished_seen}
 use Rattle.sts_store.proofs.Shared.{end_shares}
 
+-- what the store's order reads of the tasks after t ended
+pub record EndsTasks (xs ys : List (Option TaskNode)) (t : ℕ) : Type 0 where
+  pub born : length ys ≡ length xs
+  pub dead : lives_of (get_or ys t None) ≡ false
+  pub others : (u : ℕ) → u ≢ t → lives_of (get_or ys u None) ≡ lives_of (get_or xs u None)
+  pub homes : map (option_map home_of) ys ≡ map (option_map home_of) xs
+  pub stands : map (option_map stand_of) ys ≡ map (option_map stand_of) xs
+
+-- the keys of tasks and scopes, and the room for them
+abbrev keys_and_room : Forest Env → List ℕ × (List ℕ × (ℕ × ℕ))
+keys_and_room f = (f.task_keys, (f.scope_keys, (f.task_room, f.scope_room)))
+
 -- the second tree is the first one after t ended, as far as the store's order depends on it
 pub record Ends (f g : Forest Env) (t : ℕ) : Type 0 where
-  pub born : length g.tasks ≡ length f.tasks
-  pub dead : lives_at g t ≡ false
-  pub others : (u : ℕ) → u ≢ t → lives_at g u ≡ lives_at f u
-  pub homes : map (option_map home_of) g.tasks ≡ map (option_map home_of) f.tasks
-  pub stands : map (option_map stand_of) g.tasks ≡ map (option_map stand_of) f.tasks
+  pub tasks : EndsTasks f.tasks g.tasks t
   pub keepers : map (option_map keeper_of) g.scopes ≡ map (option_map keeper_of) f.scopes
-  pub task_keys : g.task_keys ≡ f.task_keys
-  pub scope_keys : g.scope_keys ≡ f.scope_keys
-  pub task_room : g.task_room ≡ f.task_room
-  pub scope_room : g.scope_room ≡ f.scope_room
+  pub rest : keys_and_room g ≡ keys_and_room f
 
 -- its record is written, as that of one which lives no longer
 ends_task : (f : Forest Env) (t : ℕ) (x y : TaskNode) → get_or f.tasks t None ≡ Some x → y.lives ≡ false → y.scope ≡ x.scope → y.stand ≡ x.stand → Ends f (with_task f t y) t
 ends_task f t x y at dead home stand =
     record {
-      born = length-set f.tasks t (Some y);
-      dead = ap lives_of (get_or-set_same f.tasks t (Some y) None (inside_of f.tasks t (λ none. let never : Some x ≡ None = sym at ∙ none in cc))) ∙ dead;
-      others = λ u ne. ap lives_of (get_or-set_other f.tasks t u (Some y) None ne);
-      homes = unseen home_of f.tasks t x y at home;
-      stands = unseen stand_of f.tasks t x y at stand;
+      tasks = record {
+        born = length-set f.tasks t (Some y);
+        dead = ap lives_of (get_or-set_same f.tasks t (Some y) None (inside_of f.tasks t (λ none. let never : Some x ≡ None = sym at ∙ none in cc))) ∙ dead;
+        others = λ u ne. ap lives_of (get_or-set_other f.tasks t u (Some y) None ne);
+        homes = unseen home_of f.tasks t x y at home;
+        stands = unseen stand_of f.tasks t x y at stand;
+      };
       keepers = refl;
-      task_keys = refl;
-      scope_keys = refl;
-      task_room = refl;
-      scope_room = refl;
+      rest = refl;
     }
 
 -- and then a scope's record, with the same owner and environment
 ends_scope : (f g : Forest Env) (t s : ℕ) (c d : ScopeNode Env) → Ends f g t → get_or g.scopes s None ≡ Some c → keeper_of d ≡ keeper_of c → Ends f (with_scope g s d) t
 ends_scope f g t s c d e at same =
-    record {
-      born = e.born;
-      dead = e.dead;
-      others = e.others;
-      homes = e.homes;
-      stands = e.stands;
-      keepers = unseen keeper_of g.scopes s c d at same ∙ e.keepers;
-      task_keys = e.task_keys;
-      scope_keys = e.scope_keys;
-      task_room = e.task_room;
-      scope_room = e.scope_room;
-    }
+    record { tasks = e.tasks; keepers = unseen keeper_of g.scopes s c d at same ∙ e.keepers; rest = e.rest }
 
-raised_at : (g : Forest Env) (s u : ℕ) → lives_at (raise_all g s) u ≡ lives_at g u
-raised_at g s u = ap lives_of (map_at (raise s) g.tasks u) ∙ raised_lives s (get_or g.tasks u None)
+raised_at : (s u : ℕ) (xs : List (Option TaskNode)) → lives_of (get_or (map (option_map (raise s)) xs) u None) ≡ lives_of (get_or xs u None)
+raised_at s u xs = ap lives_of (map_at (raise s) xs u) ∙ raised_lives s (get_or xs u None)
 
 ends_raised : (f g : Forest Env) (t s : ℕ) → Ends f g t → Ends f (raise_all g s) t
 ends_raised f g t s e =
     record {
-      born = length-map g.tasks (option_map (raise s)) ∙ e.born;
-      dead = raised_at g s t ∙ e.dead;
-      others = λ u ne. raised_at g s u ∙ e.others u ne;
-      homes = raised_read home_of (λ x. refl) s g.tasks ∙ e.homes;
-      stands = raised_read stand_of (λ x. refl) s g.tasks ∙ e.stands;
+      tasks = record {
+        born = length-map g.tasks (option_map (raise s)) ∙ e.tasks.born;
+        dead = raised_at s t g.tasks ∙ e.tasks.dead;
+        others = λ u ne. raised_at s u g.tasks ∙ e.tasks.others u ne;
+        homes = raised_read home_of (λ x. refl) s g.tasks ∙ e.tasks.homes;
+        stands = raised_read stand_of (λ x. refl) s g.tasks ∙ e.tasks.stands;
+      };
       keepers = e.keepers;
-      task_keys = e.task_keys;
-      scope_keys = e.scope_keys;
-      task_room = e.task_room;
-      scope_room = e.scope_room;
+      rest = e.rest;
     }
 
 ends_cancel : (f g : Forest Env) (t s : ℕ) (c : ScopeNode Env) → Ends f g t → get_or g.scopes s None ≡ Some c → Ends f (cancel g s c) t
@@ -106,16 +98,15 @@ ends_seen m g h t same e =
     let o = order_seen h g same in
     let r = rest_seen m h g same in
     record {
-      born = o.born ∙ e.born;
-      dead = o.alive t ∙ e.dead;
-      others = λ u ne. o.alive u ∙ e.others u ne;
-      homes = o.homes ∙ e.homes;
-      stands = ap (λ z. z.stands) r ∙ e.stands;
+      tasks = record {
+        born = o.born ∙ e.tasks.born;
+        dead = o.alive t ∙ e.tasks.dead;
+        others = λ u ne. o.alive u ∙ e.tasks.others u ne;
+        homes = o.homes ∙ e.tasks.homes;
+        stands = ap (λ z. z.stands) r ∙ e.tasks.stands;
+      };
       keepers = ap (map (option_map keeper_of)) o.scopes ∙ e.keepers;
-      task_keys = ap (λ z. z.task_keys) r ∙ e.task_keys;
-      scope_keys = ap (λ z. z.scope_keys) r ∙ e.scope_keys;
-      task_room = ap (λ z. z.task_room) r ∙ e.task_room;
-      scope_room = ap (λ z. z.scope_room) r ∙ e.scope_room;
+      rest = ap keys_and_room same ∙ e.rest;
     }
 
 -- ---- the word itself
@@ -154,9 +145,9 @@ with_ended m t g room root_end = record m { tree = g; frames = record m.frames {
 pub end_kept : (m : Parts) (t : ℕ) (g : Forest Env) (room : ℕ) (root_end : Option End) → IsStore m → Ends m.tree g t → IsStore (with_ended m t g room root_end)
 end_kept m t g room root_end is e =
     record {
-      born = length-set m.frames.slots t None ∙ is.born ∙ sym e.born;
+      born = length-set m.frames.slots t None ∙ is.born ∙ sym e.tasks.born;
       alive = λ u. by u (nat_eq u t) refl;
-      shared = rw (map-set (option_map holder_of) m.frames.slots t None, e.homes, e.keepers) (record { own = is.shared.own; outside = is.shared.outside; shares = end_shares is.shared.shares t });
+      shared = rw (map-set (option_map holder_of) m.frames.slots t None, e.tasks.homes, e.keepers) (record { own = is.shared.own; outside = is.shared.outside; shares = end_shares is.shared.shares t });
     }
   where
     none_at : (xs : List (Option Running)) (k : ℕ) → is_some (get_or (set xs k None) k None) ≡ false
@@ -165,11 +156,13 @@ end_kept m t g room root_end is e =
     none_at (x ∷ xs) (suc k) = none_at xs k
 
     by : (u : ℕ) (b : Bool) → nat_eq u t ≡ b → is_some (get_or (set m.frames.slots t None) u None) ≡ lives_at g u
-    by u true q = let same : u ≡ t = grind (arith, nat_tests) in rw same (none_at m.frames.slots t ∙ sym e.dead)
-    by u false q = let ne : u ≢ t = grind (arith, nat_tests) in ap (λ (o : Option Running). is_some o) (get_or-set_other m.frames.slots t u None None ne) ∙ is.alive u ∙ sym (e.others u ne)
+    by u true q = let same : u ≡ t = grind (arith, nat_tests) in rw same (none_at m.frames.slots t ∙ sym e.tasks.dead)
+    by u false q = let ne : u ≢ t = grind (arith, nat_tests) in ap (λ (o : Option Running). is_some o) (get_or-set_other m.frames.slots t u None None ne) ∙ is.alive u ∙ sym (e.tasks.others u ne)
 
 pub end_unseen : (m : Parts) (t : ℕ) (g : Forest Env) (room : ℕ) (root_end : Option End) → Ends m.tree g t → unseen_of (with_ended m t g room root_end) ≡ record (unseen_of m) { frame_room = room }
-end_unseen m t g room root_end e = rw (e.stands, e.task_keys, e.scope_keys, e.task_room, e.scope_room) refl
+end_unseen m t g room root_end e =
+    ap (λ l. record (unseen_of m) { stands = l; task_keys = g.task_keys; scope_keys = g.scope_keys; task_room = g.task_room; frame_room = room; scope_room = g.scope_room }) e.tasks.stands
+    ∙ ap (λ (r : List ℕ × (List ℕ × (ℕ × ℕ))). record (unseen_of m) { task_keys = r.0; scope_keys = r.1.0; task_room = r.1.1.0; frame_room = room; scope_room = r.1.1.1 }) e.rest
 
 -- the view doesn't show the frame of a task that doesn't live
 unframed : (m : Parts) (t : ℕ) (g : Forest Env) (room : ℕ) (end : End) → Ends m.tree g t → live_of (with_ended m t g room (at_end (beside m) t end).root_end) ≡ view_of (at_end (beside m) t end) g
@@ -183,7 +176,7 @@ unframed m t g room end e = ap (λ l. record { tasks = l; scopes = (view_of b g)
 
     same : (u : ℕ) (x : TaskNode) → get_or g.tasks u None ≡ Some x → x.lives ≡ true → Same b d u
     same u x at lives =
-        let ne : u ≢ t = λ q. let yes : lives_at g t ≡ true = ap (lives_at g) (sym q) ∙ ap lives_of at ∙ lives in let never : true ≡ false = sym yes ∙ e.dead in cc in
+        let ne : u ≢ t = λ q. let yes : lives_at g t ≡ true = ap (lives_at g) (sym q) ∙ ap lives_of at ∙ lives in let never : true ≡ false = sym yes ∙ e.tasks.dead in cc in
         let kept = get_or-set_other m.frames.slots t u None None ne in
         record {
           frame = ap (λ o. (unwrap_or o no_running).frame) kept;

@@ -24,25 +24,38 @@ has_frame {m} {t} l = not_none (get_or m.frames.slots t None) l.run l.runs
 pub has_task : {m : Parts} {t : ℕ} → Lived m t → get_or m.tree.tasks t None ≢ None
 has_task {m} {t} l = not_none (get_or m.tree.tasks t None) l.task l.stands
 
-module _ (m now : Parts) (t : ℕ) (r : Running) (l : Lived m t) (at : get_or m.frames.slots t None ≡ Some r) (same : m ≡ now) where
+-- the record of a living task was looked up in the store m, which contracts see as `now`
+pub record Hand (m now : Parts) (t : ℕ) (r : Running) : Type 0 where
+  pub is : IsStore m
+  pub same : m ≡ now
+  pub lived : Lived m t
+  pub at : get_or m.frames.slots t None ≡ Some r
+
+pub hand_of : {m now : Parts} → IsStore m → m ≡ now → (t : ℕ) → lives_in (live_of now) t ≡ true → {r : Running} → get_or m.frames.slots t None ≡ Some r → Hand m now t r
+hand_of {m} {now} is same t lives at = record { is = is; same = same; lived = living m now is same t lives; at = at }
+
+-- another frame with the same structure list keeps the store in order
+pub entries_kept : (m : Parts) (t : ℕ) (r : Running) (f : Frame) → IsStore m → get_or m.frames.slots t None ≡ Some r → f.entries ≡ r.frame.entries → IsStore (with_running m t (record r { frame = f }) m.chains)
+entries_kept m t r f is at entries = kept_frame m t r (record r { frame = f }) is at (ap (λ (es : List Entry). record { env = r.env; entries = es }) entries)
+
+module _ {m now : Parts} {t : ℕ} {r : Running} (h : Hand m now t r) where
   -- the frame in the record is the frame that contracts see
   pub frame_is : frame_of now t ≡ r.frame
-  frame_is = ap (λ p. frame_of p t) (sym same) ∙ same_frame m t r l at
+  frame_is = ap (λ p. frame_of p t) (sym h.same) ∙ same_frame m t r h.lived h.at
 
   -- a fact of the frame that contracts see is a fact of the frame in the record
   pub at_hand : (P : Frame → Type 0) → P (frame_of now t) → P r.frame
-  at_hand P h = subst P frame_is h
+  at_hand P fact = subst P frame_is fact
 
   -- the view after a change of the frame in the record is the change of the frame in the view
   pub frame_done : (f : Frame) (word : Frame → Frame) → f ≡ word r.frame → live_of (with_running m t (record r { frame = f }) m.chains) ≡ with_live_frame (live_of now) t (word (frame_of now t))
   frame_done f word is =
-      frame_seen m t r (record r { frame = f }) (λ alive. record alive { frame = f }) at (λ flag. refl)
+      frame_seen m t r (record r { frame = f }) (λ alive. record alive { frame = f }) h.at (λ flag. refl)
       ∙ ap (with_live_frame (live_of m) t) (is ∙ ap word (sym frame_is))
-      ∙ ap (λ p. with_live_frame (live_of p) t (word (frame_of now t))) same
+      ∙ ap (λ p. with_live_frame (live_of p) t (word (frame_of now t))) h.same
 
--- another frame with the same structure list keeps the store in order
-pub frame_kept : (m : Parts) (t : ℕ) (r : Running) (f : Frame) → IsStore m → get_or m.frames.slots t None ≡ Some r → f.entries ≡ r.frame.entries → IsStore (with_running m t (record r { frame = f }) m.chains)
-frame_kept m t r f is at entries = kept_frame m t r (record r { frame = f }) is at (ap (λ (es : List Entry). record { env = r.env; entries = es }) entries)
+  pub frame_kept : (f : Frame) → f.entries ≡ r.frame.entries → IsStore (with_running m t (record r { frame = f }) m.chains)
+  frame_kept f entries = entries_kept m t r f h.is h.at entries
 
 -- ---- what was looked up is written
 

@@ -107,22 +107,6 @@ impl Store {
         self.tree.close_scope(s);
     }
 
-    /// Ends a close.
-    fn finish_close(&mut self, t: u32, s: u32)
-        requires lives { lives_in (live_of self.old) t ≡ true }
-        requires more { (frame_of self.old t).pc + 1 < 2 ^ 32 }
-        requires entry { innermost (is_entry_of s) (frame_of self.old t).entries ≡ true }
-        requires order { InOrder (live_of self.old) }
-        requires ended { live_any_lives (live_of self.old) s ≡ false }
-        ensures live { live_of self.new
-            ≡ live_closed (live_of self.old) t (frame_of self.old t) s }
-        ensures unseen { unseen_of self.new ≡ gone_unseen (live_of self.old)
-            (stood_unseen (unseen_of self.old) t Free) s }
-    {
-        self.stand(t, Stand::Free);
-        self.take_out(t, s);
-    }
-
     /// Does a step of the close of a scope, the innermost entry of its owner. While a subtask
     /// lives, the scope is cancelled and the owner waits. Otherwise the scope and its subtasks are
     /// taken out, and the owner goes on; a cancel would change nothing of what is left then.
@@ -138,7 +122,8 @@ impl Store {
         if self.any_lives(s) {
             self.begin_close(t, s);
         } else {
-            self.finish_close(t, s);
+            self.stand(t, Stand::Free);
+            self.take_out(t, s);
         }
     }
 }

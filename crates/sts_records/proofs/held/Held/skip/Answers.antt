@@ -1,15 +1,12 @@
-use Rattle.std.proofs.Common.{◌∷◌, [], ◌+◌, refl, sym, ◌∙◌, arith, length-append}
+use Rattle.std.proofs.Common.{◌+◌, refl, sym, ◌∙◌, arith}
 use Rattle.sts_records.specs.Places.{filled}
 use Rattle.sts_records.specs.Slots.{births}
-use Rattle.sts_records.proofs.Slots.{given_more, has_pages, length-slots, same_latest, skipped}
+use Rattle.sts_records.proofs.Holding.{next_few, skipped_keeps}
+use Rattle.sts_records.proofs.Slots.{has_pages, length-slots, same_latest, skipped}
 use Rattle.sts_records.proofs.held.Held.skip.Goals as goal
 
 pub turn-requires-clause-born : goal.turn-requires-clause-born
-turn-requires-clause-born g c =
-    let few = rw (← c.self.view_is) at c.requires in
-    let n = length-slots 0 c.self.inside.given.keys c.self.inside.places.slots in
-    let last = c.self.invariant.2 in
-    (omega arith, omega (arith, few, n, last))
+turn-requires-clause-born g c = next_few c.self.inside c.self.invariant (rw (← c.self.view_is) at c.requires)
 
 pub turn-requires-clause-keys : goal.turn-requires-clause-keys
 turn-requires-clause-keys g c = same_latest c.self.inside.pages c.self.inside.born (births c.self.inside.places.slots) c.self.invariant.5
@@ -20,22 +17,8 @@ turn-requires-clause-room g c = has_pages c.self.inside.pages c.self.inside.page
 
 pub invariant_of-self : goal.invariant_of-self
 invariant_of-self g c =
-    let few = rw (← c.self.view_is) at c.requires in
-    let keys = c.self.inside.given.keys in
-    let places = c.self.inside.places in
-    let n = length-slots 0 keys places.slots in
-    let i = c.self.invariant in
-    let last = i.2 in
-    let more = c.and-self-inside.ensures in
-    let long = length-append keys (0 ∷ []) in (
-      i.0,
-      i.1,
-      (rw more (omega (arith, last, long))),
-      omega (arith, last, few, n),
-      (rw more (given_more keys (births places.slots) 0 i.4)),
-      c.turn.ensures.keys,
-      (rw c.turn.ensures.pages i.6),
-    )
+    skipped_keeps c.self.inside c.self.invariant (rw (← c.self.view_is) at c.requires) c.turn.new.self c.and-self-inside.result.keys
+    c.and-self-inside.ensures c.turn.ensures.keys c.turn.ensures.pages
 
 pub returns-clause-birth : goal.returns-clause-birth
 returns-clause-birth g c = rw (← c.self.view_is) (c.self.invariant.2 ∙ sym (length-slots 0 c.self.inside.given.keys c.self.inside.places.slots))

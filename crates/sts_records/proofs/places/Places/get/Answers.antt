@@ -32,6 +32,10 @@ has_body {T} cells all key birth c e less is whole same =
 found : {T : Type 0} (cells all : List (Cell T)) (key : ℕ) (c : Cell T) → all ≡ cells → key < length all → c ≡ get_or all key c → get_or (slots_of cells) key None ≡ entry_of c
 found cells all key c e less is = read cells key c (rw e at less) (rw e at is)
 
+-- a record of another birth
+other : {T : Type 0} (cells all : List (Cell T)) (key birth : ℕ) (c : Cell T) → all ≡ cells → key < length all → c ≡ get_or all key c → option_eq eqb c.birth (Some birth) ≡ false → body_of birth (get_or (slots_of cells) key None) ≡ None
+other cells all key birth c e less is differs = ap (body_of birth) (found cells all key c e less is) ∙ body_not birth c.birth c.body (birth_not c.birth birth differs)
+
 past : {T : Type 0} (cells all : List (Cell T)) (key birth : ℕ) → all ≡ cells → length all ≤ key → body_of birth (get_or (slots_of cells) key None) ≡ None
 past cells all key birth e le =
     let long = length-map cells entry_of in
@@ -59,10 +63,11 @@ pub returns-in_default : goal.returns-in_default
 returns-in_default g c =
     elim c.in_default.branch [
       | in_default-via-in-Some+else-eq w ↦
-          let cell = w.in-Some.cell.now in
           let some = w.in-Some.ensures.lookup in
-          let is = found c.self.inside.cells.items c.deref.result.now c.args.key cell c.deref.ensures.value (ltb-true c.args.key (length c.deref.result.now) (sym some.0)) some.1 in
-          rw (← c.self.view_is) (sym (ap (body_of c.args.birth) is ∙ body_not c.args.birth cell.birth cell.body (birth_not cell.birth c.args.birth (sym w.eq.ensures ∙ w.if-eq.false))))
+          let less = ltb-true c.args.key (length c.deref.result.now) (sym some.0) in
+          rw (← c.self.view_is) (sym (other c.self.inside.cells.items c.deref.result.now c.args.key c.args.birth w.in-Some.cell.now
+          c.deref.ensures.value less some.1 (sym w.eq.ensures ∙ w.if-eq.false)))
       | in_default-via-in_default w ↦
-          rw (← c.self.view_is) (sym (past c.self.inside.cells.items c.deref.result.now c.args.key c.args.birth c.deref.ensures.value (ltb-false c.args.key (length c.deref.result.now) (sym w.in_default.ensures.lookup.0))))
+          let beyond = ltb-false c.args.key (length c.deref.result.now) (sym w.in_default.ensures.lookup.0) in
+          rw (← c.self.view_is) (sym (past c.self.inside.cells.items c.deref.result.now c.args.key c.args.birth c.deref.ensures.value beyond))
     ]

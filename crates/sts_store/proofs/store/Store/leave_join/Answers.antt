@@ -6,7 +6,7 @@ use Rattle.laws_live.specs.Reading.{with_alive}
 use Rattle.sts_store.specs.contracts.store.Store.{the_view}
 use Rattle.sts_store.specs.Parts.{live_of, unseen_of, frame_of}
 use Rattle.sts_store.proofs.Flags.{flag_kept, flag_rest, flag_frame_seen}
-use Rattle.sts_store.proofs.Writing.{living, has_frame, has_task, frame_is, frame_kept}
+use Rattle.sts_store.proofs.Writing.{hand_of, living, has_frame, has_task, frame_is, entries_kept}
 use Rattle.sts_store.proofs.store.Store.leave_join.Goals as goal
 
 pub clear_flag-requires : goal.clear_flag-requires
@@ -19,7 +19,7 @@ pub invariant_of-self : goal.invariant_of-self
 invariant_of-self c =
     let m = the_view c.self.inside in
     let l = living m c.args.self.now c.self.invariant c.self.view_is c.args.t c.requires in
-    frame_kept (record m { tree = c.clear_flag.new.self }) c.args.t c.at.result.now c.goes.new.self
+    entries_kept (record m { tree = c.clear_flag.new.self }) c.args.t c.at.result.now c.goes.new.self
     (flag_kept m c.self.invariant c.args.t l false c.clear_flag.new.self (c.clear_flag.ensures l.task l.stands))
     c.at.ensures.value (ap (λ (f : Frame). f.entries) c.goes.ensures)
 
@@ -34,10 +34,10 @@ returns-clause-live c =
     let now = c.args.self.now in
     let t = c.args.t in
     let r = c.at.result.now in
-    let l = living m now c.self.invariant c.self.view_is t c.requires in
-    let frame : c.goes.new.self ≡ goes (frame_of now t) c.args.to 0 [] = c.goes.ensures ∙ ap (λ f. goes f c.args.to 0 []) (sym (frame_is m now t r l c.at.ensures.value c.self.view_is)) in
-    flag_frame_seen m c.self.invariant t l false c.clear_flag.new.self (c.clear_flag.ensures l.task l.stands) r c.goes.new.self
-    (λ alive. record alive { frame = c.goes.new.self; flag = false }) c.at.ensures.value refl
+    let h = hand_of c.self.invariant c.self.view_is t c.requires c.at.ensures.value in
+    let frame : c.goes.new.self ≡ goes (frame_of now t) c.args.to 0 [] = c.goes.ensures ∙ ap (λ f. goes f c.args.to 0 []) (sym (frame_is h)) in
+    flag_frame_seen m c.self.invariant t h.lived false c.clear_flag.new.self (c.clear_flag.ensures h.lived.task h.lived.stands) r c.goes.new.self
+    (λ alive. record alive { frame = c.goes.new.self; flag = false }) h.at refl
     ∙ ap (λ f. left (live_of m) t f) frame
     ∙ ap (λ n. left (live_of n) t (goes (frame_of now t) c.args.to 0 [])) c.self.view_is
 

@@ -9,12 +9,11 @@ use Rattle.sts_store.proofs.store.Store.push_value.Goals as goal
 
 pub returns-clause-get : goal.returns-clause-get
 returns-clause-get c p =
-    let state = c.state-state.ensures ∙ ap (λ u. live_state (live_of c.args.self.now) u) (c.named.ensures ∙ ap (λ f. named (slot f c.args.handle)) c.frame-frame.ensures) in
+    let task = c.named.ensures ∙ ap (λ f. named (slot f c.args.handle)) c.frame-frame.ensures in
+    let state = c.state-state.ensures ∙ ap (λ u. live_state (live_of c.args.self.now) u) task in
     let value = to_z-of_z w64 c.value_or_zero.result (search rules) ∙ c.value_or_zero.ensures ∙ ap value_or_zero state in
     went_on c.args.self.now _ c.args.t 0 c.frame-frame.result.now _ _ c.goes_with.ensures.live c.frame-frame.ensures value
 
+-- `get` and `except` push the same
 pub returns-clause-except : goal.returns-clause-except
-returns-clause-except c p =
-    let state = c.state-state.ensures ∙ ap (λ u. live_state (live_of c.args.self.now) u) (c.named.ensures ∙ ap (λ f. named (slot f c.args.handle)) c.frame-frame.ensures) in
-    let value = to_z-of_z w64 c.value_or_zero.result (search rules) ∙ c.value_or_zero.ensures ∙ ap value_or_zero state in
-    went_on c.args.self.now _ c.args.t 0 c.frame-frame.result.now _ _ c.goes_with.ensures.live c.frame-frame.ensures value
+returns-clause-except c p = returns-clause-get c p
