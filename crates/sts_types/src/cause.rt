@@ -3,6 +3,7 @@
 ghost use Rattle.std.specs.Prelude.{◌≡◌, not, ◌&&◌, ◌||◌, is_some};
 ghost use Rattle.std.specs.List.{list_any, range_with_len};
 ghost use Rattle.sts_rules.specs.Causes as def;
+ghost use Rattle.sts_rules.specs.TypeState as typed;
 ghost use Rattle.sts_code.specs.Facts as facts;
 
 use crate::slots::{
@@ -144,13 +145,19 @@ fn may_read(profile: Profile, scope: Option<TypedScope>) -> bool
     }
 }
 
+/// Is the scope of a subtask not readable, or the subtask not known to have ended as it should?
+fn cannot_read(profile: Profile, state: &TypeState, slot: u8, ended: bool) -> bool
+    ensures { result ≡ not (def.passes (def.is_readable profile)
+        (typed.scope_in state.now.entries slot) && ended) }
+{
+    !(may_read(profile, state.scope_in(slot)) && ended)
+}
+
 fn is_illegal_get(profile: Profile, state: &TypeState, handle: u8) -> bool
     ensures { result ≡ def.is_illegal profile (Instr.Get handle) state.now }
 {
     match state.kind(handle) {
-        SlotKind::Sub(slot, known) => {
-            !(may_read(profile, state.scope_in(slot)) && is_known_success(known))
-        }
+        SlotKind::Sub(slot, known) => cannot_read(profile, state, slot, is_known_success(known)),
         _ => false,
     }
 }
@@ -159,9 +166,7 @@ fn is_illegal_except(profile: Profile, state: &TypeState, handle: u8) -> bool
     ensures { result ≡ def.is_illegal profile (Instr.Except handle) state.now }
 {
     match state.kind(handle) {
-        SlotKind::Sub(slot, known) => {
-            !(may_read(profile, state.scope_in(slot)) && is_known_failed(known))
-        }
+        SlotKind::Sub(slot, known) => cannot_read(profile, state, slot, is_known_failed(known)),
         _ => false,
     }
 }
