@@ -1,7 +1,8 @@
 -- A place of a function that is being typed, and its edges after the first (this project's own).
 use Rattle.std.specs.Prelude.{◌≡◌, ℕ, ◌<◌, List, [], ◌∷◌, ◌++◌, length, Option, option_to_list}
 use Rattle.std.specs.List.{All}
-use Rattle.sts_code.specs.Program.{routine}
+use Rattle.sts_code.specs.Program.{Program, routine}
+use Rattle.sts_code.specs.declared.instr.Instr.{Instr}
 use Rattle.sts_rules.specs.declared.typing.Known.TheVariants as known
 use Rattle.sts_rules.specs.declared.typing.TypedPhase.TheVariants.{Late, Attempted, Joined}
 use Rattle.sts_rules.specs.TypeState.{TypeState}
@@ -16,6 +17,16 @@ use Rattle.sts_types.specs.declared.site.Site.{Site}
 pub record IsSite (s : Site) : Type 0 where
   pub code : s.loops.now ≡ (routine s.program.now s.function).code
   pub inside : s.pc < length s.loops.now
+  pub skip : option_to_list s.skip ≡ skipped_to s.loops.now s.pc s.instr
+
+-- the site is this place of this function
+pub record IsSiteOf (p : Program) (f : ℕ) (code : List Instr) (k : ℕ) (i : Instr) (s : Site)
+    : Type 0 where
+  pub program : s.program.now ≡ p
+  pub function : s.function ≡ f
+  pub loops : s.loops.now ≡ code
+  pub pc : s.pc ≡ k
+  pub instr : s.instr ≡ i
   pub skip : option_to_list s.skip ≡ skipped_to s.loops.now s.pc s.instr
 
 -- the edges of the instruction there, if no cause holds

@@ -14,10 +14,9 @@ ghost use Rattle.sts_types.specs.Typing.{IsTyping, Tells};
 use crate::arrival::Arrival;
 use crate::arrivals::Arrivals;
 use crate::follow::edge_count;
-use crate::leads::skip;
-use crate::least::{least_cause, short_way};
+use crate::least::short_way;
 use crate::loops::{CodeLoops, Tables};
-use crate::site::Site;
+use crate::site::{Site, tested};
 use crate::state::{TypeState, entry};
 use crate::typing::Typing;
 use std::alloc::{AllocError, Global};
@@ -153,18 +152,10 @@ fn visit_in_full(
         (λ _. PassedTo program.now function arrivals.new.table (pc + 1))
         (Tells program.now function) }
 {
-    let skip = skip(loops, pc, instr);
-    let site = Site {
-        program,
-        function,
-        loops,
-        pc,
-        instr,
-        skip,
+    let site = match tested(program, function, loops, pc, instr, arrivals.state()) {
+        Ok(site) => site,
+        Err(cause) => return Err(refused(pc, cause)),
     };
-    if let Some(cause) = least_cause(&site, arrivals.state()) {
-        return Err(refused(pc, cause));
-    }
     if !keeps_turn(instr, arrivals) {
         return Err(refused(pc, Cause::StatesDiffer));
     }
