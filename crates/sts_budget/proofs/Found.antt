@@ -13,8 +13,6 @@ use Rattle.sts_budget.specs.declared.budgets.BudgetError.{BudgetError}
 use Rattle.sts_budget.specs.declared.budgets.BudgetError.TheVariants.{Memory, TooMuch}
 use Rattle.sts_budget.specs.Change.{cause_of, limit_of, IsMost}
 use Rattle.sts_budget.specs.Outcome.{IsFound, IsNumber}
-use Rattle.sts_budget.specs.declared.layout.Layout.{Layout}
-use Rattle.sts_budget.specs.Ready.{IsLaidFor}
 use Rattle.sts_budget.proofs.LastTurns.{no_excess, least_excess}
 
 -- no resource before this one is over its limit
@@ -61,11 +59,3 @@ none_exceeds earlier code s t o b hs ht ho hb _ e = e
 
 pub found_all : (earlier : List Budgets) (code code' : List Instr) → code ≡ code' → (s t o b : ℕ) → IsWithin Steps earlier code s → IsWithin Tasks earlier code t → IsWithin Scopes earlier code o → IsWithin Binds earlier code b → IsFound earlier code' (Ok (record { steps = s; tasks = t; scopes = o; binds = b }))
 found_all earlier code code' same s t o b hs ht ho hb = subst (λ xs. IsFound earlier xs (Ok (record { steps = s; tasks = t; scopes = o; binds = b }))) same (record { steps = hs.0; tasks = ht.0; scopes = ho.0; binds = hb.0 }, none_exceeds earlier code s t o b hs ht ho hb)
-
--- ---- the passes that ask for them
-
-pub as_ready : (bs earlier : List Budgets) (xs code : List Instr) (k l : Layout) → bs ≡ earlier → xs ≡ code → k ≡ l → IsLaidFor earlier code l → IsLaidFor bs xs k
-as_ready bs earlier xs code k l e f g h = rw (e, f, g) h
-
-pub as_number : (r s : Resource) (bs earlier : List Budgets) (xs code : List Instr) (o : Result ℕ BudgetError) → r ≡ s → bs ≡ earlier → xs ≡ code → IsNumber r bs xs o → IsNumber s earlier code o
-as_number r s bs earlier xs code o e f g h = subst (λ q. IsNumber q earlier code o) e (subst (λ q. IsNumber r q code o) f (subst (λ q. IsNumber r bs q o) g h))

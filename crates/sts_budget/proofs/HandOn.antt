@@ -28,7 +28,7 @@ use Rattle.sts_budget.specs.Sums.{Flows, FitsEntries, Stands}
 use Rattle.sts_budget.specs.Table.{read, New, Handed, over_go, over_loop, IsSpread, IsPartial}
 use Rattle.sts_budget.specs.Table.{IsCarried, IsSent, IsStopped, HandsTooMuch, Passes}
 use Rattle.std.proofs.lemmas.List.{get_or_default}
-use Rattle.sts_budget.proofs.Sorts.{Sort, sort, is_times, is_next, is_end, goes_on, GoesOn, straight}
+use Rattle.sts_budget.proofs.Sorts.{Sort, sort, is_times, is_next, is_end, goes_on, GoesOn, among_at, straight}
 use Rattle.sts_budget.proofs.TypedLemmas.{next_of}
 use Rattle.sts_budget.proofs.SumsLemmas.{IsSourced, go_stands, loop_stands}
 use Rattle.sts_budget.proofs.Forward.{among_cases, partial_more, sourced}
@@ -208,6 +208,24 @@ module _ (k : Resource) (earlier : List Budgets) (code : List Instr) (l : Layout
           let lp = ready.good.loop (head_in l pc) h.0.0 h.0.1 in
           omega (arith, lp.2, h.1, w.0)
       by EndsPath e w = absurd w
+
+  -- what is said of an instruction that was read off the code
+  module _ (pc : ℕ) (i : Instr) (at : i ≡ instr_at code pc) (quiet : is_quiet (instr_at code pc) ≡ false) where
+    -- it leads to rows of the table
+    pub leads_at : (places : ℕ) → places ≡ length code → (j d : ℕ) → j < length (targets i ++ next_place pc i) → get_or (targets i ++ next_place pc i) j d < places
+    leads_at places long j d lt =
+        let q = get_or (targets i ++ next_place pc i) j d in
+        let h : q < length code = leads_in pc q quiet (subst (λ x. Among (targets x ++ next_place pc x) q) at (among_at (targets i ++ next_place pc i) j d lt)) in
+        subst (λ n. q < n) (sym long) h
+
+    module _ (n most : ℕ) (values : List ℕ) (before : List (List ℕ)) (few : (q : ℕ) → depth_of k (names_in l q) < n) (is : (d : ℕ) → d < n → get_or values d 0 ≡ min (handed_value k earlier code l (read before) pc d) 18446744073709551615) where
+      -- the sums that it hands on were sent there
+      pub sent_at : (after : List (List ℕ)) → most < 4294967296 → IsSent values (λ q. depth_of k (names_in l q)) most (targets i ++ next_place pc i) before after → IsSpread c f (head_in l) pc before after
+      sent_at after small sent = sent_spread n pc most values before after few quiet small is (subst (λ x. IsSent values (λ q. depth_of k (names_in l q)) most (targets x ++ next_place pc x) before after) at sent)
+
+      -- one of them passes the limit
+      pub over_at : pc < length code → IsStopped values (λ q. depth_of k (names_in l q)) most (targets i ++ next_place pc i) → HandsTooMuch c f (head_in l) pc (read before) most
+      over_at within stopped = stopped_over n pc most values before few within quiet is (subst (λ x. IsStopped values (λ q. depth_of k (names_in l q)) most (targets x ++ next_place pc x)) at stopped)
 
   -- ---- the pass
 

@@ -173,6 +173,12 @@ module _ (k : Resource) (earlier : List Budgets) (code : List Instr) (l : Layout
         | inr a ↦ (a.0, (omega (arith, a.1.0), (let m : top ≡ max v top = omega arith in a.1.1 ∙ m)))
       ]
 
+  -- one more place has been added
+  pub topped_next : (pc v end most : ℕ) (bases bases' : List ℕ) (top top' : ℕ) → pc < length code → HasBases k earlier code l rows pc bases × IsTop k earlier code l rows pc top × (top ≤ most) → v ≡ here pc → v ≤ most → most < 4294967296 → end < 4294967296 → ((n : ℕ) → instr_at code pc ≡ Times n → (n < 65536) × (end ≡ read rows (c.mate pc) (depth_of k (names_in l pc)))) → bases' ≡ bases_after (instr_at code pc) pc (own_step k) v end bases → top' ≡ max v top
+      → HasBases k earlier code l rows (pc + 1) bases' × IsTop k earlier code l rows (pc + 1) top' × (top' ≤ most)
+  topped_next pc v end most bases bases' top top' lt h is le low low' at after greater =
+      (bases_next pc v end bases bases' lt h.0 is (omega arith) low' at after, subst (IsTop k earlier code l rows (pc + 1)) (sym greater) (top_next pc top v h.1 is), omega (arith, h.2))
+
   pub finished : (top : ℕ) → IsTop k earlier code l rows (length code) top → IsMost k earlier code (own_of k + top)
   finished top t = elim t.attained [
     | inl e ↦ absurd (omega (arith, ready.good.some_code))

@@ -90,9 +90,10 @@ keeps_depth _ s ordered right own = inl (omega arith)
 
 -- ---- the function
 
-long : (es : List TypedEntry) → length (names es) ≡ length es
-long [] = refl
-long (e ∷ es) = ap suc (long es)
+-- as many names as entries
+pub named_long : (es : List TypedEntry) → length (names es) ≡ length es
+named_long [] = refl
+named_long (e ∷ es) = ap suc (named_long es)
 
 module _ (p : Program) (f : ℕ) (accepted : IsWellTyped p f) (some_code : 0 < length (routine p f).code) (bounds : (pc n : ℕ) → instr_at (routine p f).code pc ≡ Times n → 0 < n) (earlier : List Budgets) where
   abbrev c : Skeleton
@@ -188,12 +189,12 @@ module _ (p : Program) (f : ℕ) (accepted : IsWellTyped p f) (some_code : 0 < l
     held_step from s to x i here_names h ordered right_slot own (over_go g among same entries) =
         let after : Held s.loops (length (names_after i (names s.entries))) = elim (keeps_depth i s ordered right_slot own) [
           | inl le ↦ held_more s.loops (length (names s.entries)) (length (names_after i (names s.entries))) le h
-          | inr r ↦ held_less s.loops (length (names s.entries)) (length (names_after i (names s.entries))) r.1 (subst (λ n. list_any (λ (l : TypedLoop). nat_le n l.entries) s.loops ≡ false) (sym (long s.entries)) r.0) h
+          | inr r ↦ held_less s.loops (length (names s.entries)) (length (names_after i (names s.entries))) r.1 (subst (λ n. list_any (λ (l : TypedLoop). nat_le n l.entries) s.loops ≡ false) (sym (named_long s.entries)) r.0) h
         ] in
         subst (λ ls. Held ls (length (names x.entries))) (sym same) (subst (λ ns. Held s.loops (length ns)) (sym entries) after)
     held_step from s to x i here_names h ordered right_slot own (into_loop n is loops entries) =
-        let n_is : length s.entries ≡ length (names_at from) = sym (long s.entries) ∙ ap length here_names in
-        let le : length s.entries ≤ length (names s.entries) = omega (arith, long s.entries) in
+        let n_is : length s.entries ≡ length (names_at from) = sym (named_long s.entries) ∙ ap length here_names in
+        let le : length s.entries ≤ length (names s.entries) = omega (arith, named_long s.entries) in
         subst (λ ls. Held ls (length (names x.entries))) (sym loops) (subst (λ es. Held (record { at = from; entries = length s.entries } ∷ s.loops) (length (names es))) (sym entries) (le, n_is, h))
     held_step from s to x i here_names h ordered right_slot own (past_loop n q is m loops entries) =
         subst (λ ls. Held ls (length (names x.entries))) (sym loops) (subst (λ es. Held s.loops (length (names es))) (sym entries) h)

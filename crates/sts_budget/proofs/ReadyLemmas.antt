@@ -17,8 +17,7 @@ use Rattle.sts_budget.specs.Layout.{IsDeepest}
 use Rattle.sts_budget.specs.Ready.{IsLaidFor, first_of, names_in}
 use Rattle.sts_budget.specs.TypedNames.{names}
 use Rattle.sts_budget.proofs.CheckedLemmas.{IsChecked, is_checked}
-use Rattle.sts_budget.proofs.Named.{led, knows_names}
-use Rattle.sts_budget.proofs.TogetherLemmas.{named_long}
+use Rattle.sts_budget.proofs.Named.{led, knows_names, named_long}
 use Rattle.sts_budget.proofs.TypedLemmas.{fits, structured, opened}
 
 -- each fork is of an earlier function

@@ -22,6 +22,18 @@ set_below P xs i v within below here d lt = elim (cases_eq d i) [
 pub set_above : (xs : List ℕ) (i v d : ℕ) → i < d → get_or (set xs i v) d 0 ≡ get_or xs d 0
 set_above xs i v d lt = let ne : d ≢ i = omega arith in get_or-set_other xs i d v 0 ne
 
+-- one more sum is raised
+abbrev pub AreRaised : ℕ → ℕ → (values before row : List ℕ) → Type 0
+AreRaised n i values before row = (length row ≡ n) × ((d : ℕ) → d < i → get_or row d 0 ≡ max (get_or before d 0) (get_or values d 0)) × ((d : ℕ) → i ≤ d → get_or row d 0 ≡ get_or before d 0)
+
+pub raised_more : (n i : ℕ) (values before row : List ℕ) (m : ℕ) → i < n → AreRaised n i values before row → m ≡ max (get_or row i 0) (get_or values i 0) → AreRaised n (i + 1) values before (set row i m)
+raised_more n i values before row m lt h is =
+    let old : get_or row i 0 ≡ get_or before i 0 = h.2 i (omega arith) in (
+      length-set row i m ∙ h.0,
+      set_below (λ d x. x ≡ max (get_or before d 0) (get_or values d 0)) row i m (omega (arith, h.0)) h.1 (is ∙ ap (λ x. max x (get_or values i 0)) old),
+      (λ d le. (set_above row i m d (omega arith) ∙ h.2 d (omega arith))),
+    )
+
 pub sent_none : (values : List ℕ) (low : ℕ → ℕ) (most : ℕ) (places : List ℕ) (rows : List (List ℕ)) → IsSent values low most (take 0 places) rows rows
 sent_none values low most places rows = record { long = refl; raised = λ pc d a le. absurd a; same = λ pc d out. refl; small = λ pc d a le. absurd a }
 

@@ -1,10 +1,11 @@
 -- The sums of all resources in one pass (this project's own).
-use Rattle.std.specs.Prelude.{ℕ, ◌-◌, ◌≤◌, List}
+use Rattle.std.specs.Prelude.{◌≡◌, ℕ, ◌-◌, ◌≤◌, List, length}
 use Rattle.sts_code.specs.declared.instr.Instr.{Instr}
 use Rattle.sts_rules.specs.declared.budget.Budgets.{Budgets}
 use Rattle.sts_budget.specs.declared.change.Resource.{Resource}
 use Rattle.sts_budget.specs.declared.change.Resource.TheVariants.{Steps, Tasks, Scopes, Binds}
 use Rattle.sts_budget.specs.declared.greatest.Top.{Top}
+use Rattle.sts_budget.specs.declared.pass.Pass.{Pass}
 use Rattle.sts_budget.specs.declared.together.Handed.{Handed}
 use Rattle.sts_budget.specs.declared.together.Source.{Source}
 use Rattle.sts_budget.specs.declared.together.Tables.{Tables}
@@ -12,12 +13,24 @@ use Rattle.sts_budget.specs.declared.together.Tops.{Tops}
 use Rattle.sts_budget.specs.Change.{limit_of, own_of, IsMost}
 use Rattle.sts_budget.specs.Last.{HasBases, IsTop}
 
+-- p is the pass over the function for the resource k
+pub record IsPassOf (s : Source) (k : Resource) (p : Pass) : Type 0 where
+  pub resource : p.resource ≡ k
+  pub earlier : p.earlier.now ≡ s.earlier.now
+  pub code : p.code.now ≡ s.code.now
+  pub layout : p.layout.now ≡ s.layout.now
+  pub limit : p.most ≡ limit_of k - own_of k
+
 -- the table of a resource
 abbrev pub rows_of : {n : ℕ} → Tables n → Resource → List (List ℕ)
 rows_of t Steps = t.steps.items
 rows_of t Tasks = t.tasks.items
 rows_of t Scopes = t.scopes.items
 rows_of t Binds = t.binds.items
+
+-- each table has this many rows
+abbrev pub AreLong : {n : ℕ} → Tables n → ℕ → Type 0
+AreLong t places = (k : Resource) → length (rows_of t k) ≡ places
 
 -- the sums of a resource that are handed on
 abbrev pub sums_of : {n : ℕ} → Handed n → Resource → List ℕ

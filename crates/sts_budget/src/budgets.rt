@@ -12,10 +12,10 @@ ghost use Rattle.sts_budget.specs.Together.{AreMost};
 ghost use Rattle.sts_types.specs.Typing.{IsTyping};
 
 use crate::change::Resource;
-use crate::greatest::{greatest, most_of};
+use crate::greatest::greatest;
 use crate::layout::lay_out;
 use crate::pass::Pass;
-use crate::together::{Source, budgets_together};
+use crate::together::{Source, budgets_together, pass_of};
 use std::alloc::{AllocError, Global};
 use sts_code::{Program, code_of};
 use sts_rules::{Budgets, Cause};
@@ -132,23 +132,6 @@ fn cause_of(resource: Resource) -> Cause
         Resource::Tasks => Cause::TooManyTasks,
         Resource::Scopes => Cause::TooManyScopes,
         Resource::Binds => Cause::TooManyBinds,
-    }
-}
-
-/// The pass over a function for a resource.
-fn pass_of<'p>(resource: Resource, source: &Source<'p>) -> Pass<'p>
-    ensures resource { result.resource ≡ resource }
-    ensures earlier { result.earlier.now ≡ source.now.earlier.now }
-    ensures code { result.code.now ≡ source.now.code.now }
-    ensures layout { result.layout.now ≡ source.now.layout.now }
-    ensures most { result.most ≡ limit_of resource - own_of resource }
-{
-    Pass {
-        resource,
-        earlier: source.earlier,
-        code: source.code,
-        layout: source.layout,
-        most: most_of(resource),
     }
 }
 

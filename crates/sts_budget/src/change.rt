@@ -120,27 +120,6 @@ fn binding_of(resource: Resource, earlier: &[Budgets]) -> u64
     }
 }
 
-#[inline(always)]
-fn measured(
-    resource: Resource,
-    earlier: &[Budgets],
-    instr: Instr,
-    entries: &Stack<TypedEntry, 16>,
-) -> SumChange
-    requires { def.ForksEarlier (length earlier.now) instr }
-    ensures { result ≡ def.measured (def.measure_of resource earlier.now) instr (names entries.now) }
-{
-    match instr {
-        Instr::Open { .. } => SumChange::Opens(scope_of(resource, earlier)),
-        Instr::Bind(_) => SumChange::Opens(binding_of(resource, earlier)),
-        Instr::Fork { slot, function, .. } => SumChange::Adds {
-            position: position_of(slot, entries),
-            amount: subtask_of(resource, earlier, function),
-        },
-        _ => SumChange::Rises(0),
-    }
-}
-
 /// How the instruction changes the sums of this resource, if these entries are open.
 #[inline(always)]
 pub fn change_of(
@@ -152,9 +131,17 @@ pub fn change_of(
     requires { def.ForksEarlier (length earlier.now) instr }
     ensures { result ≡ def.change_of resource earlier.now instr (names entries.now) }
 {
-    match resource {
-        Resource::Steps => SumChange::Rises(steps_of(earlier, instr)),
-        _ => measured(resource, earlier, instr, entries),
+    if let Resource::Steps = resource {
+        return SumChange::Rises(steps_of(earlier, instr));
+    }
+    match instr {
+        Instr::Open { .. } => SumChange::Opens(scope_of(resource, earlier)),
+        Instr::Bind(_) => SumChange::Opens(binding_of(resource, earlier)),
+        Instr::Fork { slot, function, .. } => SumChange::Adds {
+            position: position_of(slot, entries),
+            amount: subtask_of(resource, earlier, function),
+        },
+        _ => SumChange::Rises(0),
     }
 }
 

@@ -13,7 +13,7 @@ ghost use Rattle.sts_budget.specs.Layout as layouts;
 ghost use Rattle.sts_budget.specs.Ready.{IsLaidFor, flows_in, head_in, names_in};
 ghost use Rattle.sts_budget.specs.Table.{IsCarried, IsRaisedAt, IsSent, IsSpread, IsPartial, read};
 ghost use Rattle.sts_budget.specs.Together.{rows_of, sums_of, over_open, width, most, AreMost};
-ghost use Rattle.sts_budget.specs.Together.{AreTopped, top_of, budget_of};
+ghost use Rattle.sts_budget.specs.Together.{AreLong, AreTopped, IsPassOf, top_of, budget_of};
 
 use crate::change::Resource;
 use crate::greatest::{Top, add_place, most_of, no_top, own_of};
@@ -31,6 +31,20 @@ pub(crate) struct Source<'p> {
     pub(crate) earlier: &'p [Budgets],
     pub(crate) code: &'p [Instr],
     pub(crate) layout: &'p Layout<'p>,
+}
+
+/// The pass over a function for a resource.
+#[inline(always)]
+pub(crate) fn pass_of<'p>(resource: Resource, source: &Source<'p>) -> Pass<'p>
+    ensures { IsPassOf source.now resource result }
+{
+    Pass {
+        resource,
+        earlier: source.earlier,
+        code: source.code,
+        layout: source.layout,
+        most: most_of(resource),
+    }
 }
 
 /// The tables of greatest sums, one for each resource. Steps are summed over no entry.
@@ -163,31 +177,15 @@ impl<const N: usize> Tables<N> {
         requires small { N ≤ 17 }
         requires fits { (q : ℕ) → length (names_in source.now.layout.now q) < N }
         requires in_code { pc < length source.now.code.now }
-        requires rows { (k : Resource) →
-            length (rows_of self.now k) ≡ length source.now.code.now }
+        requires rows { AreLong self.now (length source.now.code.now) }
         ensures { (k : Resource) (d : ℕ) → d < width N k → get_or (sums_of result k) d 0 ≡
             min (handed_value k source.now.earlier.now source.now.code.now
             source.now.layout.now (read (rows_of self.now k)) pc d) 18446744073709551615 }
     {
-        let steps = Pass {
-            resource: Resource::Steps,
-            earlier: source.earlier,
-            code: source.code,
-            layout: source.layout,
-            most: most_of(Resource::Steps),
-        };
-        let tasks = Pass {
-            resource: Resource::Tasks,
-            ..steps
-        };
-        let scopes = Pass {
-            resource: Resource::Scopes,
-            ..steps
-        };
-        let binds = Pass {
-            resource: Resource::Binds,
-            ..steps
-        };
+        let steps = pass_of(Resource::Steps, source);
+        let tasks = pass_of(Resource::Tasks, source);
+        let scopes = pass_of(Resource::Scopes, source);
+        let binds = pass_of(Resource::Binds, source);
         Handed {
             steps: values_of(&steps, self.steps.as_slice(), pc),
             tasks: values_of(&tasks, self.tasks.as_slice(), pc),
@@ -203,8 +201,7 @@ impl<const N: usize> Tables<N> {
         requires small { N ≤ 17 }
         requires fits { (q : ℕ) → length (names_in source.now.layout.now q) < N }
         requires in_code { pc < length source.now.code.now }
-        requires rows { (k : Resource) →
-            length (rows_of self.old k) ≡ length source.now.code.now }
+        requires rows { AreLong self.old (length source.now.code.now) }
         ensures { IsTrue result → (k : Resource) →
             IsSpread (skeleton source.now.earlier.now source.now.code.now)
             (flows_in k source.now.earlier.now source.now.code.now source.now.layout.now)
@@ -276,66 +273,20 @@ impl Tops {
     {
         let depth = source.layout.typing.entries(pc).len();
         let head = source.layout.typing.head(pc);
-        let steps = Pass {
-            resource: Resource::Steps,
-            earlier: source.earlier,
-            code: source.code,
-            layout: source.layout,
-            most: most_of(Resource::Steps),
-        };
-        let tasks = Pass {
-            resource: Resource::Tasks,
-            most: most_of(Resource::Tasks),
-            ..steps
-        };
-        let scopes = Pass {
-            resource: Resource::Scopes,
-            most: most_of(Resource::Scopes),
-            ..steps
-        };
-        let binds = Pass {
-            resource: Resource::Binds,
-            most: most_of(Resource::Binds),
-            ..steps
-        };
-        if !add_place(
-            &steps,
-            tables.steps.as_slice(),
-            &mut self.steps,
-            pc,
-            0,
-            head,
-        ) {
+        let steps = pass_of(Resource::Steps, source);
+        let tasks = pass_of(Resource::Tasks, source);
+        let scopes = pass_of(Resource::Scopes, source);
+        let binds = pass_of(Resource::Binds, source);
+        if !add_place(&steps, &tables.steps, &mut self.steps, pc, 0, head) {
             return false;
         }
-        if !add_place(
-            &tasks,
-            tables.tasks.as_slice(),
-            &mut self.tasks,
-            pc,
-            depth,
-            head,
-        ) {
+        if !add_place(&tasks, &tables.tasks, &mut self.tasks, pc, depth, head) {
             return false;
         }
-        if !add_place(
-            &scopes,
-            tables.scopes.as_slice(),
-            &mut self.scopes,
-            pc,
-            depth,
-            head,
-        ) {
+        if !add_place(&scopes, &tables.scopes, &mut self.scopes, pc, depth, head) {
             return false;
         }
-        add_place(
-            &binds,
-            tables.binds.as_slice(),
-            &mut self.binds,
-            pc,
-            depth,
-            head,
-        )
+        add_place(&binds, &tables.binds, &mut self.binds, pc, depth, head)
     }
 }
 

@@ -10,43 +10,29 @@ use Rattle.sts_rules.specs.declared.typing.Cause.TheVariants.{SlotKind, SlotBusy
 use Rattle.sts_rules.specs.declared.typing.Cause.TheVariants.{IllegalState, Structure, Nesting}
 use Rattle.sts_rules.specs.declared.typing.Cause.TheVariants.{Unbound, JoinEdges}
 use Rattle.sts_rules.specs.TypeState.{TypeState}
-use Rattle.sts_rules.specs.Causes.{holds, least_cause}
+use Rattle.sts_rules.specs.Causes.{causes, holds, least_cause}
 use Rattle.sts_rules.specs.Causes as test
 use Rattle.sts_rules.specs.Fits.{Fits}
-use Rattle.sts_types.proofs.CauseLemmas.{none_here}
+use Rattle.sts_types.proofs.CauseLemmas.{none_found}
 
 pub fits : (p : Program) (f pc : ℕ) (i : Instr) (s : TypeState) → least_cause p f pc i s ≡ None → Fits p f pc i s
 fits p f pc i s e =
-    let t = holds p f pc i s in
-    let a = none_here (t StackUnder) StackUnder _ e in
-    let b = none_here (t StackOver) StackOver _ a.1 in
-    let c = none_here (t FallsOff) FallsOff _ b.1 in
-    let d = none_here (t BackJump) BackJump _ c.1 in
-    let g = none_here (t LoopMismatch) LoopMismatch _ d.1 in
-    let h = none_here (t LoopDepth) LoopDepth _ g.1 in
-    let j = none_here (t SlotKind) SlotKind _ h.1 in
-    let k = none_here (t SlotBusy) SlotBusy _ j.1 in
-    let l = none_here (t WrongThread) WrongThread _ k.1 in
-    let m = none_here (t IllegalState) IllegalState _ l.1 in
-    let n = none_here (t Structure) Structure _ m.1 in
-    let o = none_here (t Nesting) Nesting _ n.1 in
-    let q = none_here (t Unbound) Unbound _ o.1 in
-    let r = none_here (t JoinEdges) JoinEdges _ q.1 in
+    let no = none_found (holds p f pc i s) causes e in
     record {
-      operands = a.0;
-      room = b.0;
-      inside = c.0;
-      forward = d.0;
-      loops = g.0;
-      depth = h.0;
-      slots = j.0;
-      free = k.0;
-      own = l.0;
-      legal = m.0;
-      structure = n.0;
-      nesting = o.0;
-      bound = q.0;
-      joins = r.0;
+      operands = no 0;
+      room = no 1;
+      inside = no 2;
+      forward = no 3;
+      loops = no 4;
+      depth = no 5;
+      slots = no 6;
+      free = no 7;
+      own = no 8;
+      legal = no 9;
+      structure = no 10;
+      nesting = no 11;
+      bound = no 12;
+      joins = no 13;
     }
 
 -- ---- the lowest-numbered cause, found in parts
@@ -101,12 +87,26 @@ module _ (p : Program) (f pc : ℕ) (i : Instr) (s : TypeState) where
   pub over_found : test.lacks_operands p i s ≡ false → test.overflows p i s ≡ true → Some StackOver ≡ least_cause p f pc i s
   over_found some_operands e = here _ StackOver _ e ∙ past _ StackUnder _ some_operands
 
-  module _ (code : List Instr) (is : code ≡ (routine p f).code) (some_operands : test.lacks_operands p i s ≡ false) (room : test.overflows p i s ≡ false) (o : Option Cause) (e : o ≡ lead code None) where
+  -- the first two causes don't hold, and o is what is found of the next three
+  pub record IsLed (code : List Instr) (o : Option Cause) : Type 0 where
+    pub same : code ≡ (routine p f).code
+    pub some_operands : test.lacks_operands p i s ≡ false
+    pub room : test.overflows p i s ≡ false
+    pub is : o ≡ lead code None
+
+  -- nor do these and V6, and o' is what is found of the three after it
+  pub record IsSlotted (code : List Instr) (o o' : Option Cause) : Type 0 where
+    pub led : IsLed code o
+    pub none : is_some o ≡ false
+    pub flat : test.is_too_deep i s ≡ false
+    pub is : o' ≡ slot None
+
+  module _ {code : List Instr} {o : Option Cause} (h : IsLed code o) where
     lead_is : o ≡ lead (routine p f).code None
-    lead_is = e ∙ ap (λ c. lead c None) is
+    lead_is = h.is ∙ ap (λ c. lead c None) h.same
 
     first_two : (rest : Option Cause) → rest ≡ cond (test.lacks_operands p i s) (Some StackUnder) (cond (test.overflows p i s) (Some StackOver) rest)
-    first_two rest = past _ StackOver rest room ∙ past _ StackUnder _ some_operands
+    first_two rest = past _ StackOver rest h.room ∙ past _ StackUnder _ h.some_operands
 
     pub lead_found : is_some o ≡ true → o ≡ least_cause p f pc i s
     lead_found t = found _ _ _ FallsOff BackJump LoopMismatch o after_leads lead_is t ∙ first_two (lead (routine p f).code after_leads)
@@ -117,21 +117,21 @@ module _ (p : Program) (f pc : ℕ) (i : Instr) (s : TypeState) where
     pub depth_found : is_some o ≡ false → test.is_too_deep i s ≡ true → Some LoopDepth ≡ least_cause p f pc i s
     depth_found none deep = here _ LoopDepth (slot after_slots) deep ∙ lead_missed none
 
-    module _ (none : is_some o ≡ false) (flat : test.is_too_deep i s ≡ false) (o' : Option Cause) (e' : o' ≡ slot None) where
-      after_depth : slot after_slots ≡ least_cause p f pc i s
-      after_depth = past _ LoopDepth (slot after_slots) flat ∙ lead_missed none
+  module _ {code : List Instr} {o o' : Option Cause} (h : IsSlotted code o o') where
+    after_depth : slot after_slots ≡ least_cause p f pc i s
+    after_depth = past _ LoopDepth (slot after_slots) h.flat ∙ lead_missed h.led h.none
 
-      pub slot_found : is_some o' ≡ true → o' ≡ least_cause p f pc i s
-      slot_found t = found _ _ _ SlotKind SlotBusy WrongThread o' after_slots e' t ∙ after_depth
+    pub slot_found : is_some o' ≡ true → o' ≡ least_cause p f pc i s
+    slot_found t = found _ _ _ SlotKind SlotBusy WrongThread o' after_slots h.is t ∙ after_depth
 
-      slot_passed : is_some o' ≡ false → after_slots ≡ least_cause p f pc i s
-      slot_passed t = missed _ _ _ SlotKind SlotBusy WrongThread o' after_slots e' t ∙ after_depth
+    slot_passed : is_some o' ≡ false → after_slots ≡ least_cause p f pc i s
+    slot_passed t = missed _ _ _ SlotKind SlotBusy WrongThread o' after_slots h.is t ∙ after_depth
 
-      pub illegal_found : is_some o' ≡ false → test.is_illegal p.profile i s ≡ true → Some IllegalState ≡ least_cause p f pc i s
-      illegal_found t illegal = here _ IllegalState (cond (test.breaks_structure i s) (Some Structure) late) illegal ∙ slot_passed t
+    pub illegal_found : is_some o' ≡ false → test.is_illegal p.profile i s ≡ true → Some IllegalState ≡ least_cause p f pc i s
+    illegal_found t illegal = here _ IllegalState (cond (test.breaks_structure i s) (Some Structure) late) illegal ∙ slot_passed t
 
-      pub structure_found : is_some o' ≡ false → test.is_illegal p.profile i s ≡ false → test.breaks_structure i s ≡ true → Some Structure ≡ least_cause p f pc i s
-      structure_found t legal broken = here _ Structure late broken ∙ past _ IllegalState _ legal ∙ slot_passed t
+    pub structure_found : is_some o' ≡ false → test.is_illegal p.profile i s ≡ false → test.breaks_structure i s ≡ true → Some Structure ≡ least_cause p f pc i s
+    structure_found t legal broken = here _ Structure late broken ∙ past _ IllegalState _ legal ∙ slot_passed t
 
-      pub slot_missed : is_some o' ≡ false → test.is_illegal p.profile i s ≡ false → test.breaks_structure i s ≡ false → late ≡ least_cause p f pc i s
-      slot_missed t legal ordered = past _ Structure late ordered ∙ past _ IllegalState _ legal ∙ slot_passed t
+    pub slot_missed : is_some o' ≡ false → test.is_illegal p.profile i s ≡ false → test.breaks_structure i s ≡ false → late ≡ least_cause p f pc i s
+    slot_missed t legal ordered = past _ Structure late ordered ∙ past _ IllegalState _ legal ∙ slot_passed t

@@ -16,5 +16,6 @@ pub mod PromisingLemmas
 pub mod Ranges
 pub mod RoomLemmas
 pub mod SimpleLemmas
+pub mod Sites
 pub mod Stacks
 pub mod Visiting

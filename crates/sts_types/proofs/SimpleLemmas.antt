@@ -21,7 +21,7 @@ use Rattle.sts_rules.specs.Edges.{follows, back_of, moved}
 use Rattle.sts_types.specs.declared.arrival.Arrival.{Arrival}
 use Rattle.sts_types.specs.Arrivals.{Arrive, at_height}
 use Rattle.sts_types.specs.Simple.{is_simple, is_straight, IsShort}
-use Rattle.sts_types.proofs.Fitting.{one_of, after_leads, lead_missed}
+use Rattle.sts_types.proofs.Fitting.{one_of, after_leads, lead_missed, IsLed}
 
 -- facts of a straight instruction; the instructions are gone through once for all of them
 straight_facts : (code : List Instr) (pc : ℕ) (s : TypeState) (i : Instr) → is_straight i ≡ true → (falls_off code pc i ≡ leb (length code) (pc + 1)) × (jumps_back pc i ≡ false) × (mismatches code pc i s ≡ is_other_loop code (heads s.loops) (pc + 1))
@@ -78,10 +78,13 @@ short p f pc i s code n e is some_operands count few none =
     let facts = simple_facts p f pc code s i e in
     record {
       simple = e;
-      none = sym (facts.1 ∙ lead_missed p f pc i s code is some_operands (fits_in p i s n facts.2 count few) None (none ∙ straight_lead code pc i s facts.0) refl);
+      none = sym (facts.1 ∙ lead_missed p f pc i s (led facts.2 facts.0) refl);
       count = count;
       few = few;
     }
+  where
+    led : join_overflows s i ≡ false → is_straight i ≡ true → IsLed p f pc i s code None
+    led fits straight = record { same = is; some_operands = some_operands; room = fits_in p i s n fits count few; is = none ∙ straight_lead code pc i s straight }
 
 -- one edge leads on to the next place
 pub short_follows : (p : Program) (f : ℕ) (code : List Instr) (pc : ℕ) (i : Instr) (s : TypeState) (n : ℕ) → IsShort p f pc i s n → follows p code pc i s ≡ (pc + 1, at_height n s) ∷ []

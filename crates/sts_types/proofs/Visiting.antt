@@ -1,12 +1,13 @@
 -- One place of the pass over a function: each exit of the body, and how the pass goes on.
 use Rattle.std.proofs.Common.{◌≡◌, ◌≢◌, ℕ, ◌+◌, ◌<◌, ◌≤◌, ◌↔◌, IsTrue, IfSome, Bool, true, false}
-use Rattle.std.proofs.Common.{List, length, Option, Some, None, Ok, get_or, set, replicate}
+use Rattle.std.proofs.Common.{List, [], ◌∷◌, length, Option, Some, None, Ok, get_or, set, replicate}
 use Rattle.std.proofs.Common.{refl, sym, ap, ◌∙◌, subst, arith, get_or-set_same, get_or-set_other}
 use Rattle.std.proofs.Common.{length-set}
 use Rattle.std.specs.List.{All}
 use Rattle.std.proofs.lemmas.List.{length-replicate, get_or-replicate}
 use Rattle.sts_code.specs.Program.{Program, routine, instr_at}
 use Rattle.sts_code.specs.declared.instr.Instr.{Instr}
+use Rattle.sts_code.specs.declared.instr.Instr.TheVariants.{Ret}
 use Rattle.sts_rules.specs.declared.typing.Cause.{Cause}
 use Rattle.sts_rules.specs.declared.typing.Cause.TheVariants.{StatesDiffer, DeadCode}
 use Rattle.sts_rules.specs.TypeState.{TypeState, entry}
@@ -16,8 +17,9 @@ use Rattle.sts_rules.specs.Flow.{IsAlone, TurnKeeps}
 use Rattle.sts_rules.specs.Refusal.{size, IsTypeRefusal, IsWellTyped}
 use Rattle.sts_types.specs.declared.arrival.Arrival.{Arrival}
 use Rattle.sts_types.specs.declared.arrival.Arrival.TheVariants.{Nothing, One, Several}
-use Rattle.sts_types.specs.Arrivals.{Arrive, filled, none}
+use Rattle.sts_types.specs.Arrivals.{Arrive, at_height, filled, none}
 use Rattle.sts_types.specs.Room.{HasRoom}
+use Rattle.sts_types.specs.Simple.{IsShort}
 use Rattle.sts_types.proofs.Arriving.{all_places}
 use Rattle.sts_types.proofs.EdgeLemmas.{instr_there, refused_there, edges_there}
 use Rattle.sts_types.proofs.Fitting.{fits}
@@ -30,6 +32,7 @@ use Rattle.sts_types.specs.Typing.{Typing, IsTyping, Tells}
 use Rattle.sts_types.proofs.Passing.{all_alone, begin, is_dead, has_two, has_edge_cause}
 use Rattle.sts_types.proofs.Passing.{has_turn_cause, turn_differs, turn_same, no_turn, goes_on}
 use Rattle.sts_types.proofs.RoomLemmas.{has_room}
+use Rattle.sts_types.proofs.SimpleLemmas.{short_arrives, short_back, short_place}
 use Rattle.sts_rules.proofs.VerdictLemmas.{clear_excludes}
 
 pub within_code : (loops code : List Instr) (count pc : ℕ) → count ≡ length loops → loops ≡ code → pc < count → pc < length code
@@ -88,79 +91,95 @@ is_typing p f code table t is passed long each loops = record {
     whole = subst (Passed (typing p f) (size p f) table) (ap length is) passed
 
 module _ (p : Program) (f : ℕ) (code : List Instr) (is : code ≡ (routine p f).code) (table : List (Arrival TypeState)) (k : ℕ) (within : k < length code) (at : Passed (typing p f) (size p f) table k) where
-  here : k < size p f
-  here = omega (arith, ap length is)
-
-  long : k < length table
-  long = omega (arith, here, at.holds.0)
+  inside : k < size p f
+  inside = omega (arith, ap length is)
 
   pub dead_here : get_or table k Nothing ≡ Nothing → IsTypeRefusal p f k DeadCode
-  dead_here e = (here, is_dead (typing p f) (size p f) (laws p f) table k here at e, at.clear)
+  dead_here e = (inside, is_dead (typing p f) (size p f) (laws p f) table k inside at e, at.clear)
 
   pub several_here : get_or table k Nothing ≡ Several → IsTypeRefusal p f k StatesDiffer
-  several_here e = (here, has_two (typing p f) (size p f) (laws p f) table k here at e, at.clear)
+  several_here e = (inside, has_two (typing p f) (size p f) (laws p f) table k inside at e, at.clear)
 
-  module _ (s : TypeState) (one_here : get_or table k Nothing ≡ One s) (i d : Instr) (instr : i ≡ get_or code k d) where
-    pub cause_here : (c : Cause) → least_cause p f k i s ≡ Some c → IsTypeRefusal p f k c
-    cause_here c e =
-        let refuses = refused_there p f code is k within s i d instr c e in
-        (here, has_edge_cause (typing p f) (size p f) (laws p f) table k here at s one_here c refuses, at.clear)
+-- the pass has come to the place k, where s is the only typestate that has arrived and i the instruction
+pub record IsHere (p : Program) (f : ℕ) (code : List Instr) (table : List (Arrival TypeState)) (k : ℕ) (s : TypeState) (i : Instr) : Type 0 where
+  pub is : code ≡ (routine p f).code
+  pub within : k < length code
+  pub at : Passed (typing p f) (size p f) table k
+  pub one : get_or table k Nothing ≡ One s
+  pub instr : i ≡ get_or code k Ret
 
-    module _ (none : least_cause p f k i s ≡ None) where
-      out : List (ℕ × TypeState)
-      out = follows p (routine p f).code k i s
+module _ {p : Program} {f : ℕ} {code : List Instr} {table : List (Arrival TypeState)} {k : ℕ} {s : TypeState} {i : Instr} (h : IsHere p f code table k s i) where
+  here : k < size p f
+  here = omega (arith, h.within, ap length h.is)
 
-      fine : edges p f k s ≡ Ok (follows p (routine p f).code k i s)
-      fine = edges_there p f code is k within s i d instr none
+  pub cause_here : (c : Cause) → least_cause p f k i s ≡ Some c → IsTypeRefusal p f k c
+  cause_here c e =
+      let refuses = refused_there p f code h.is k h.within s i Ret h.instr c e in
+      (here, has_edge_cause (typing p f) (size p f) (laws p f) table k here h.at s h.one c refuses, h.at.clear)
 
-      pub room : HasRoom p i s
-      room = has_room p f k i s (fits p f k i s none)
+  module _ (none : least_cause p f k i s ≡ None) where
+    fine : edges p f k s ≡ Ok (follows p (routine p f).code k i s)
+    fine = edges_there p f code h.is k h.within s i Ret h.instr none
 
-      pub places : (loops : List Instr) (n : ℕ) → loops ≡ code → n ≡ length table → All (λ e. e.0 < n) (follows p loops k i s)
-      places loops n same count =
-          let all = all_places (follows p (routine p f).code k i s) (size p f) (λ to x l. ((laws p f).up k s _ to x fine l).1) in
-          subst (λ m. All (λ e. e.0 < m) (follows p loops k i s)) (sym at.holds.0 ∙ sym count) (subst (λ c. All (λ e. e.0 < size p f) (follows p c k i s)) (sym is ∙ sym same) all)
+    pub room : HasRoom p i s
+    room = has_room p f k i s (fits p f k i s none)
 
-      back_here : (q : ℕ) → back_of i s ≡ Some q → q ≤ k
-      back_here q b = back_down p f k i s q (fits p f k i s none) b
+    pub places : (loops : List Instr) (n : ℕ) → loops ≡ code → n ≡ length table → All (λ e. e.0 < n) (follows p loops k i s)
+    places loops n same count =
+        let all = all_places (follows p (routine p f).code k i s) (size p f) (λ to x l. ((laws p f).up k s _ to x fine l).1) in
+        subst (λ m. All (λ e. e.0 < m) (follows p loops k i s)) (sym h.at.holds.0 ∙ sym count) (subst (λ c. All (λ e. e.0 < size p f) (follows p c k i s)) (sym h.is ∙ sym same) all)
 
-      pub back_fits : k < 4096 → IfSome (back_of i s) (λ q. (q < 4294967296) × (q < length table))
-      back_fits small = by (back_of i s) refl
+    back_here : (q : ℕ) → back_of i s ≡ Some q → q ≤ k
+    back_here q b = back_down p f k i s q (fits p f k i s none) b
+
+    pub back_fits : k < 4096 → IfSome (back_of i s) (λ q. (q < 4294967296) × (q < length table))
+    back_fits small = by (back_of i s) refl
+      where
+        long : k < length table
+        long = omega (arith, here, h.at.holds.0)
+
+        by : (o : Option ℕ) → back_of i s ≡ o → IfSome o (λ q. (q < 4294967296) × (q < length table))
+        by None e = tt
+        by (Some q) e = let le = back_here q e in (omega arith, omega (arith, long))
+
+    back_there : (o : Option ℕ) → back_of i s ≡ o → back_of (instr_at (routine p f).code k) s ≡ o
+    back_there o b = ap (λ j. back_of j s) (sym (instr_there p f code h.is k h.within s i Ret h.instr)) ∙ b
+
+    pub no_turn_here : back_of i s ≡ None → TurnKeeps (typing p f) k s
+    no_turn_here e = no_turn (typing p f) (size p f) (laws p f) table k here h.at s h.one (back_there None e)
+
+    module _ (q : ℕ) (back : back_of i s ≡ Some q) (b : Bool) (tests : IsTrue b ↔ (get_or table q Nothing ≡ One s)) where
+      turn_at : b ≡ false → IsTypeRefusal p f k StatesDiffer
+      turn_at differs =
+          let other : get_or table q Nothing ≢ One s = λ e. (let t = tests.1 e in cc) in
+          let d' = turn_differs (typing p f) (size p f) (laws p f) table k here h.at s h.one _ q fine (back_there (Some q) back) other in
+          (here, has_turn_cause (typing p f) (size p f) (laws p f) table k here h.at s h.one _ fine d', h.at.clear)
+
+      keeps_at : b ≡ true → TurnKeeps (typing p f) k s
+      keeps_at kept = turn_same (typing p f) (size p f) (laws p f) table k here h.at s h.one _ q fine (back_there (Some q) back) (tests.0 kept)
+
+    module _ (b : Bool) (tests : IsTrue b ↔ IfSome (back_of i s) (λ q. get_or table q Nothing ≡ One s)) where
+      pub turn_here : b ≡ false → IsTypeRefusal p f k StatesDiffer
+      turn_here differs = by (back_of i s) refl tests
         where
-          by : (o : Option ℕ) → back_of i s ≡ o → IfSome o (λ q. (q < 4294967296) × (q < length table))
-          by None e = tt
-          by (Some q) e = let le = back_here q e in (omega arith, omega (arith, long))
+          by : (o : Option ℕ) → back_of i s ≡ o → (IsTrue b ↔ IfSome o (λ q. get_or table q Nothing ≡ One s)) → IsTypeRefusal p f k StatesDiffer
+          by None e t = let u = t.1 tt in cc
+          by (Some q) e t = turn_at q e b t differs
 
-      back_there : (o : Option ℕ) → back_of i s ≡ o → back_of (instr_at (routine p f).code k) s ≡ o
-      back_there o b = ap (λ j. back_of j s) (sym (instr_there p f code is k within s i d instr)) ∙ b
+      pub keeps_here : b ≡ true → TurnKeeps (typing p f) k s
+      keeps_here kept = by (back_of i s) refl tests
+        where
+          by : (o : Option ℕ) → back_of i s ≡ o → (IsTrue b ↔ IfSome o (λ q. get_or table q Nothing ≡ One s)) → TurnKeeps (typing p f) k s
+          by None e t = no_turn_here e
+          by (Some q) e t = keeps_at q e b t kept
 
-      pub no_turn_here : back_of i s ≡ None → TurnKeeps (typing p f) k s
-      no_turn_here e = no_turn (typing p f) (size p f) (laws p f) table k here at s one_here (back_there None e)
+    pub goes_on_here : (loops : List Instr) (after : List (Arrival TypeState)) → loops ≡ code → TurnKeeps (typing p f) k s → Arrive table (follows p loops k i s) after → Passed (typing p f) (size p f) after (k + 1)
+    goes_on_here loops after same keeps arrives = goes_on (typing p f) (size p f) (laws p f) table k here h.at s h.one _ after fine keeps (subst (λ c. Arrive table (follows p c k i s) after) (same ∙ h.is) arrives)
 
-      module _ (q : ℕ) (back : back_of i s ≡ Some q) (b : Bool) (tests : IsTrue b ↔ (get_or table q Nothing ≡ One s)) where
-        turn_at : b ≡ false → IsTypeRefusal p f k StatesDiffer
-        turn_at differs =
-            let other : get_or table q Nothing ≢ One s = λ e. (let t = tests.1 e in cc) in
-            let d' = turn_differs (typing p f) (size p f) (laws p f) table k here at s one_here _ q fine (back_there (Some q) back) other in
-            (here, has_turn_cause (typing p f) (size p f) (laws p f) table k here at s one_here _ fine d', at.clear)
+  module _ {n : ℕ} (short : IsShort p f k i s n) where
+    -- the short way leads to a place of the table, and goes on there
+    pub short_leads : (loops : List Instr) → loops ≡ code → k + 1 < length table
+    short_leads loops same = short_place p f loops k i s n (length table) short (places short.none loops (length table) same refl)
 
-        keeps_at : b ≡ true → TurnKeeps (typing p f) k s
-        keeps_at kept = turn_same (typing p f) (size p f) (laws p f) table k here at s one_here _ q fine (back_there (Some q) back) (tests.0 kept)
-
-      module _ (b : Bool) (tests : IsTrue b ↔ IfSome (back_of i s) (λ q. get_or table q Nothing ≡ One s)) where
-        pub turn_here : b ≡ false → IsTypeRefusal p f k StatesDiffer
-        turn_here differs = by (back_of i s) refl tests
-          where
-            by : (o : Option ℕ) → back_of i s ≡ o → (IsTrue b ↔ IfSome o (λ q. get_or table q Nothing ≡ One s)) → IsTypeRefusal p f k StatesDiffer
-            by None e t = let h = t.1 tt in cc
-            by (Some q) e t = turn_at q e b t differs
-
-        pub keeps_here : b ≡ true → TurnKeeps (typing p f) k s
-        keeps_here kept = by (back_of i s) refl tests
-          where
-            by : (o : Option ℕ) → back_of i s ≡ o → (IsTrue b ↔ IfSome o (λ q. get_or table q Nothing ≡ One s)) → TurnKeeps (typing p f) k s
-            by None e t = no_turn_here e
-            by (Some q) e t = keeps_at q e b t kept
-
-      pub goes_on_here : (loops : List Instr) (after : List (Arrival TypeState)) → loops ≡ code → TurnKeeps (typing p f) k s → Arrive table (follows p loops k i s) after → Passed (typing p f) (size p f) after (k + 1)
-      goes_on_here loops after same keeps arrives = goes_on (typing p f) (size p f) (laws p f) table k here at s one_here _ after fine keeps (subst (λ c. Arrive table (follows p c k i s) after) (same ∙ is) arrives)
+    pub goes_on_short : (loops : List Instr) (after : List (Arrival TypeState)) → loops ≡ code → Arrive table ((k + 1, at_height n s) ∷ []) after → Passed (typing p f) (size p f) after (k + 1)
+    goes_on_short loops after same arrives = goes_on_here short.none loops after same (no_turn_here short.none (short_back p f k i s n short)) (short_arrives p f loops k i s n table after short arrives)

@@ -1,32 +1,14 @@
 -- Instructions that only pop and push, and go on to the next place (this project's own).
-use Rattle.std.specs.Prelude.{Bool, true, false, ℕ, ◌≡◌, ◌+◌, ◌-◌, ◌≤◌, None}
+use Rattle.std.specs.Prelude.{Bool, true, false, ◌&&◌, ℕ, ◌≡◌, ◌+◌, ◌-◌, ◌≤◌, None}
 use Rattle.sts_code.specs.Facts.{pops, pushes}
 use Rattle.sts_code.specs.Program.{Program}
 use Rattle.sts_code.specs.declared.limits.TheConstants.{MAX_OPERANDS}
 use Rattle.sts_rules.specs.Causes.{least_cause}
 use Rattle.sts_rules.specs.TypeState.{TypeState}
 use Rattle.sts_code.specs.declared.instr.Instr.{Instr}
-use Rattle.sts_code.specs.declared.instr.Instr.TheVariants.{Push, Pop, Dup, Swap, Load, Store, Add}
-use Rattle.sts_code.specs.declared.instr.Instr.TheVariants.{Sub, Mul, Lt, Eq, Bound, OrElse}
-use Rattle.sts_code.specs.declared.instr.Instr.TheVariants.{Interrupted, Div, Jmp, Jz, Times, Next}
-use Rattle.sts_code.specs.declared.instr.Instr.TheVariants.{Join, Case, Ret, Fail}
-
-abbrev pub is_simple : Instr → Bool
-is_simple (Push k) = true
-is_simple Pop = true
-is_simple Dup = true
-is_simple Swap = true
-is_simple (Load x) = true
-is_simple (Store x) = true
-is_simple Add = true
-is_simple Sub = true
-is_simple Mul = true
-is_simple Lt = true
-is_simple Eq = true
-is_simple (Bound k) = true
-is_simple (OrElse k) = true
-is_simple Interrupted = true
-is_simple _ = false
+use Rattle.sts_code.specs.declared.instr.Instr.TheVariants.{Bound, OrElse, Interrupted, Div, Jmp, Jz}
+use Rattle.sts_code.specs.declared.instr.Instr.TheVariants.{Times, Next, Join, Case, Ret, Fail}
+use Rattle.sts_model.specs.Local.{is_local}
 
 -- the instruction only goes on to the next place, and begins and ends no loop
 abbrev pub is_straight : Instr → Bool
@@ -40,6 +22,14 @@ is_straight (Case h success failed) = false
 is_straight Ret = false
 is_straight Fail = false
 is_straight _ = true
+
+-- a local instruction like that, or one that asks the environment or for an interrupt: it only pops
+-- and pushes
+abbrev pub is_simple : Instr → Bool
+is_simple (Bound k) = true
+is_simple (OrElse k) = true
+is_simple Interrupted = true
+is_simple i = is_local i && is_straight i
 
 -- the instruction only pops and pushes, no cause holds, and afterwards there are this many operands
 pub record IsShort (p : Program) (f pc : ℕ) (i : Instr) (s : TypeState) (n : ℕ) : Type 0 where

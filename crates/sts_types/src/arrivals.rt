@@ -5,7 +5,7 @@ ghost use Rattle.std.specs.Prelude.{slice_index_or, slice_set, option_to_list, A
 ghost use Rattle.std.specs.Prelude.{IsTrue};
 ghost use Rattle.sts_rules.specs.Edges as def;
 ghost use Rattle.sts_rules.specs.TypeState.{TypeState};
-ghost use Rattle.sts_types.specs.Site.{IsSite, HasRoomAt, follows_at};
+ghost use Rattle.sts_types.specs.Site.{IsSite, HasRoomAt, LeadInside, follows_at};
 ghost use Rattle.sts_types.specs.Arrivals.{Merged, ArriveAt, IsMarked, arrival_of, at_height};
 ghost use Rattle.sts_types.specs.Arrivals.{filled, none, state_of, IsAtStart};
 
@@ -265,8 +265,7 @@ impl Arrivals {
     pub(crate) fn arrive_along(&mut self, site: &Site<'_>, number: usize) -> Result<(), AllocError>
         requires site { IsSite site.now }
         requires room { HasRoomAt site.now self.old.state }
-        requires places { All (λ e. e.0 < length self.old.table)
-            (follows_at site.now self.old.state) }
+        requires places { LeadInside site.now self.old }
         ensures table { OnOk result (ArriveAt self.old.table
             (slice_get (follows_at site.now self.old.state) number) self.new.table) }
         ensures start { self.new.start ≡ self.old.start }

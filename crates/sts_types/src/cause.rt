@@ -6,15 +6,14 @@ ghost use Rattle.sts_rules.specs.Causes as def;
 ghost use Rattle.sts_code.specs.Facts as facts;
 
 use crate::slots::{
-    can_join, is_binding, is_empty, is_known_failed, is_known_success, is_lent, is_opened, is_own,
-    is_readable, is_scope_in, is_sub,
+    can_join, is_binding, is_empty, is_lent, is_opened, is_own, is_readable, is_scope_in, is_sub,
 };
 use crate::state::TypeState;
 use sts_code::{
     Instr, MAX_ENTRIES, MAX_LOOPS, MAX_OPERANDS, Profile, Program, can_fail, filled_slot,
     is_await_all, owners_slot, pops, pushes, subtask_slot,
 };
-use sts_rules::{SlotKind, TypedEntry, TypedScope};
+use sts_rules::{Known, SlotKind, TypedEntry, TypedScope};
 
 // ---- V1, V2 and V6
 
@@ -144,28 +143,6 @@ fn may_read(profile: Profile, scope: Option<TypedScope>) -> bool
     }
 }
 
-fn is_illegal_get(profile: Profile, state: &TypeState, handle: u8) -> bool
-    ensures { result ≡ def.is_illegal profile (Instr.Get handle) state.now }
-{
-    match state.kind(handle) {
-        SlotKind::Sub(slot, known) => {
-            !(may_read(profile, state.scope_in(slot)) && is_known_success(known))
-        }
-        _ => false,
-    }
-}
-
-fn is_illegal_except(profile: Profile, state: &TypeState, handle: u8) -> bool
-    ensures { result ≡ def.is_illegal profile (Instr.Except handle) state.now }
-{
-    match state.kind(handle) {
-        SlotKind::Sub(slot, known) => {
-            !(may_read(profile, state.scope_in(slot)) && is_known_failed(known))
-        }
-        _ => false,
-    }
-}
-
 pub(crate) fn is_illegal(profile: Profile, instr: Instr, state: &TypeState) -> bool
     ensures { result ≡ def.is_illegal profile instr state.now }
 {
@@ -176,8 +153,16 @@ pub(crate) fn is_illegal(profile: Profile, instr: Instr, state: &TypeState) -> b
         Instr::Tally(slot, _) | Instr::Total(slot) => {
             is_own(state.kind(slot)) && !may_read(profile, state.scope_in(slot))
         }
-        Instr::Get(handle) => is_illegal_get(profile, state, handle),
-        Instr::Except(handle) => is_illegal_except(profile, state, handle),
+        Instr::Get(handle) => match state.kind(handle) {
+            SlotKind::Sub(slot, Known::Success) => !may_read(profile, state.scope_in(slot)),
+            SlotKind::Sub(_, _) => true,
+            _ => false,
+        },
+        Instr::Except(handle) => match state.kind(handle) {
+            SlotKind::Sub(slot, Known::Failed) => !may_read(profile, state.scope_in(slot)),
+            SlotKind::Sub(_, _) => true,
+            _ => false,
+        },
         _ => false,
     }
 }

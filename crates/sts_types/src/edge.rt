@@ -6,10 +6,8 @@ ghost use Rattle.sts_rules.specs.Edges as def;
 ghost use Rattle.sts_rules.specs.Refusal.{size};
 
 use crate::follow::{Edges, all_edges};
-use crate::leads::skip;
-use crate::least::least_cause;
 use crate::loops::CodeLoops;
-use crate::site::Site;
+use crate::site::tested;
 use crate::state::TypeState;
 use sts_code::{Program, code_of};
 use sts_rules::Cause;
@@ -52,17 +50,8 @@ pub fn edges_with_loops(
         (λ cause. def.edges program.now function pc state.now ≡ Err cause) }
 {
     let instr = code_of(program, function as usize)[pc as usize];
-    let skip = skip(loops, pc, instr);
-    let site = Site {
-        program,
-        function,
-        loops,
-        pc,
-        instr,
-        skip,
-    };
-    match least_cause(&site, state) {
-        Some(cause) => Err(cause),
-        None => Ok(all_edges(&site, state)),
+    match tested(program, function, loops, pc, instr, state) {
+        Ok(site) => Ok(all_edges(&site, state)),
+        Err(cause) => Err(cause),
     }
 }

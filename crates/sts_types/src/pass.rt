@@ -1,23 +1,22 @@
 //! One forward pass over a function, which finds its least place with a cause.
 
 ghost use Rattle.std.specs.Prelude.{◌≡◌, ◌≤◌, ◌<◌, ◌^◌, ◌↔◌, length, replicate, slice_index_or};
-ghost use Rattle.std.specs.Prelude.{slice_set, vec_len, IsTrue, OnOk, IfOk, IfSome, MatchResult, All};
+ghost use Rattle.std.specs.Prelude.{slice_set, vec_len, IsTrue, OnOk, IfOk, IfSome, MatchResult};
 ghost use Rattle.std.specs.Prelude.{Some, ℕ, ◌+◌, ◌∷◌, [], option_to_list};
 ghost use Rattle.sts_rules.specs.Edges as def;
 ghost use Rattle.sts_rules.specs.Refusal.{IsWellTyped};
 ghost use Rattle.sts_code.specs.Program.{routine, instr_at};
 ghost use Rattle.sts_types.specs.Arrivals.{Merged, Arrive, at_height};
 ghost use Rattle.sts_types.specs.Passing.{PassedTo};
-ghost use Rattle.sts_types.specs.Site.{IsSite, HasRoomAt, follows_at};
+ghost use Rattle.sts_types.specs.Site.{IsSite, HasRoomAt, LeadInside, Followed, follows_at};
 ghost use Rattle.sts_types.specs.Typing.{IsTyping, Tells};
 
 use crate::arrival::Arrival;
 use crate::arrivals::Arrivals;
 use crate::follow::edge_count;
-use crate::leads::skip;
-use crate::least::{least_cause, short_way};
+use crate::least::short_way;
 use crate::loops::{CodeLoops, Tables};
-use crate::site::Site;
+use crate::site::{Site, tested};
 use crate::state::{TypeState, entry};
 use crate::typing::Typing;
 use std::alloc::{AllocError, Global};
@@ -62,10 +61,8 @@ fn spread(site: &Site<'_>, arrivals: &mut Arrivals) -> Result<(), AllocError>
     requires site { IsSite site.now }
     requires start { arrivals.old.start ≡ arrivals.old.state }
     requires room { HasRoomAt site.now arrivals.old.state }
-    requires places { All (λ e. e.0 < length arrivals.old.table)
-        (follows_at site.now arrivals.old.state) }
-    ensures { OnOk result (Arrive arrivals.old.table
-        (follows_at site.now arrivals.old.state) arrivals.new.table) }
+    requires places { LeadInside site.now arrivals.old }
+    ensures { OnOk result (Followed site.now arrivals.old arrivals.new.table) }
 {
     for number in 0..edge_count(site.instr) {
         arrivals.go_back();
@@ -78,11 +75,9 @@ fn spread(site: &Site<'_>, arrivals: &mut Arrivals) -> Result<(), AllocError>
 fn go_one_way(site: &Site<'_>, arrivals: &mut Arrivals) -> Result<(), AllocError>
     requires site { IsSite site.now }
     requires room { HasRoomAt site.now arrivals.old.state }
-    requires places { All (λ e. e.0 < length arrivals.old.table)
-        (follows_at site.now arrivals.old.state) }
+    requires places { LeadInside site.now arrivals.old }
     requires one { length (follows_at site.now arrivals.old.state) ≤ 1 }
-    ensures { OnOk result (Arrive arrivals.old.table
-        (follows_at site.now arrivals.old.state) arrivals.new.table) }
+    ensures { OnOk result (Followed site.now arrivals.old arrivals.new.table) }
 {
     arrivals.arrive_along(site, 0)?;
     Ok(())
@@ -95,10 +90,8 @@ fn follow(site: &Site<'_>, arrivals: &mut Arrivals) -> Result<(), AllocError>
     requires small { site.now.pc < MAX_INSTRUCTIONS }
     requires start { arrivals.old.start ≡ arrivals.old.state }
     requires room { HasRoomAt site.now arrivals.old.state }
-    requires places { All (λ e. e.0 < length arrivals.old.table)
-        (follows_at site.now arrivals.old.state) }
-    ensures { OnOk result (Arrive arrivals.old.table
-        (follows_at site.now arrivals.old.state) arrivals.new.table) }
+    requires places { LeadInside site.now arrivals.old }
+    ensures { OnOk result (Followed site.now arrivals.old arrivals.new.table) }
 {
     match arrivals.state().moves_to(site.program, site.pc, site.instr) {
         Some((to, height)) => {
@@ -159,18 +152,10 @@ fn visit_in_full(
         (λ _. PassedTo program.now function arrivals.new.table (pc + 1))
         (Tells program.now function) }
 {
-    let skip = skip(loops, pc, instr);
-    let site = Site {
-        program,
-        function,
-        loops,
-        pc,
-        instr,
-        skip,
+    let site = match tested(program, function, loops, pc, instr, arrivals.state()) {
+        Ok(site) => site,
+        Err(cause) => return Err(refused(pc, cause)),
     };
-    if let Some(cause) = least_cause(&site, arrivals.state()) {
-        return Err(refused(pc, cause));
-    }
     if !keeps_turn(instr, arrivals) {
         return Err(refused(pc, Cause::StatesDiffer));
     }

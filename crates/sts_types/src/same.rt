@@ -15,18 +15,11 @@ fn above<T: Copy + Default + Drop, const N: usize>(stack: &Stack<T, N>, below: u
     stack.as_slice()[below]
 }
 
-/// Takes over the loops of another stack.
-pub(crate) fn copy_loops(copy: &mut Stack<TypedLoop, 8>, stack: &Stack<TypedLoop, 8>)
-    ensures { copy.new ≡ stack.now }
-{
-    copy.drop_top(copy.len());
-    for i in 0..stack.len() {
-        copy.push(above(stack, i));
-    }
-}
-
-/// Takes over the entries of another stack.
-pub(crate) fn copy_entries(copy: &mut Stack<TypedEntry, 16>, stack: &Stack<TypedEntry, 16>)
+/// Takes over the values of another stack.
+pub(crate) fn copy_stack<T: Copy + Default + Drop, const N: usize>(
+    copy: &mut Stack<T, N>,
+    stack: &Stack<T, N>,
+)
     ensures { copy.new ≡ stack.now }
 {
     copy.drop_top(copy.len());

@@ -9,7 +9,7 @@ ghost use Rattle.sts_model.specs.Misuse as misuse;
 use crate::state::TypeState;
 use sts_code::{Instr, Joiner, Profile};
 use sts_model::Stack;
-use sts_rules::{Known, SlotKind, TypedEntry, TypedLoop, TypedPhase, TypedScope};
+use sts_rules::{SlotKind, TypedEntry, TypedLoop, TypedPhase, TypedScope};
 
 /// Does the slot hold nothing?
 pub fn is_empty(kind: SlotKind) -> bool
@@ -94,20 +94,6 @@ pub fn is_readable(profile: Profile, scope: TypedScope) -> bool
         TypedPhase::Late => matches!(profile, Profile::Two),
         _ => false,
     }
-}
-
-/// Is the subtask known to be a success?
-pub fn is_known_success(known: Known) -> bool
-    ensures { result ≡ def.is_known_success known }
-{
-    matches!(known, Known::Success)
-}
-
-/// Is the subtask known to have failed?
-pub fn is_known_failed(known: Known) -> bool
-    ensures { result ≡ def.is_known_failed known }
-{
-    matches!(known, Known::Failed)
 }
 
 /// Is the entry a binding?

@@ -3,7 +3,7 @@
 ghost use Rattle.std.specs.Prelude.{◌≡◌, ◌↔◌, ◌<◌, ◌≤◌, ◌+◌, ◌∷◌, IsTrue, length, drop, slice_set};
 ghost use Rattle.sts_rules.specs.TypeState as def;
 
-use crate::same::{are_same_entries, are_same_loops, are_same_slots, copy_entries, copy_loops};
+use crate::same::{are_same_entries, are_same_loops, are_same_slots, copy_stack};
 use std::marker::Model;
 use sts_code::{MAX_OPERANDS, Program};
 use sts_model::Stack;
@@ -63,8 +63,8 @@ impl TypeState {
         ensures { self.new ≡ other.now }
     {
         self.height = other.height;
-        copy_loops(&mut self.loops, &other.loops);
-        copy_entries(&mut self.entries, &other.entries);
+        copy_stack(&mut self.loops, &other.loops);
+        copy_stack(&mut self.entries, &other.entries);
         self.slots = other.slots;
     }
 

@@ -1,6 +1,6 @@
 -- Function by function.
-use Rattle.std.proofs.Common.{◌≡◌, ℕ, ◌+◌, ◌<◌, ◌≤◌, ◌⊎◌, inl, inr, List}
-use Rattle.std.proofs.Common.{length, Err, arith, subst, sym, refl}
+use Rattle.std.proofs.Common.{◌≡◌, ℕ, ◌+◌, ◌<◌, ◌≤◌, ◌⊎◌, inl, inr, List, [], ◌∷◌, ◌++◌}
+use Rattle.std.proofs.Common.{length, Err, arith, subst, sym, ap, refl, ◌∙◌}
 use Rattle.std.proofs.Common.{Result, Ok, MatchResult}
 use Rattle.std.specs.Result.{IsErrAnd}
 use Rattle.std.proofs.lemmas.Bool.{cases_lt}
@@ -16,6 +16,7 @@ use Rattle.sts_types.specs.declared.pass.TypeError.{TypeError}
 use Rattle.sts_types.specs.declared.pass.TypeError.TheVariants.{Memory, Refused}
 use Rattle.sts_types.specs.Typing.{Tells as TellsOfTyping}
 use Rattle.sts_verify.specs.Verifying.{Tells, TellsOf, told, at_end}
+use Rattle.sts_verify.proofs.BudgetLemmas.{budgets_more}
 
 -- one function more
 pub sound_more : (p : Program) (k : ℕ) → ((f : ℕ) → f < k → IsSound p f) → IsSound p k → (f : ℕ) → f < k + 1 → IsSound p f
@@ -42,6 +43,12 @@ typing_tells p f (Refused pc cause) t = ill_typed t
 pub typing_refused : {A : Type 0} (p : Program) (f : ℕ) (e : TypeError) (r : Result A TypeError) (P : A → Type 0) → TellsOfTyping p f e → IsErrAnd r (λ x. x ≡ e) → MatchResult r P (TellsOf p f)
 typing_refused p f e (Ok x) P t a = absurd a
 typing_refused p f e (Err x) P t a = subst (TellsOf p f) (sym a) (typing_tells p f e t)
+
+-- a function whose budgets are found
+pub budgets_found : (p : Program) (f : ℕ) (bs now : List Budgets) (b : Budgets) → IsWellTyped p f → length bs ≡ f → AreBudgets p bs → IsFound bs (routine p f).code (Ok b) → now ≡ bs ++ b ∷ [] → IsSound p f × (length now ≡ f + 1) × AreBudgets p now
+budgets_found p f bs now b typed long right found is =
+    let more = budgets_more p bs b f long right found.0 in
+    (record { typed = typed; earlier = bs; long = long; right = right; within = found.1 }, ap length is ∙ more.0, subst (AreBudgets p) (sym is) more.1)
 
 -- a function that the search for budgets refuses
 pub budget_tells : (p : Program) (f : ℕ) (bs : List Budgets) (e : BudgetError) (count : ℕ) → IsWellTyped p f → length bs ≡ f → AreBudgets p bs → count ≡ size p f → IsFound bs (routine p f).code (Err e) → TellsOf p f (at_end count e)

@@ -7,7 +7,13 @@ use Rattle.sts_budget.specs.Table.{IsPartial}
 use Rattle.sts_rules.specs.declared.typing.TypedEntry.{TypedEntry}
 use Rattle.sts_budget.specs.TypedNames.{names}
 use Rattle.sts_budget.proofs.LastTurns.{exceeds, bases_none, top_none, finished, own_within, limit_small}
+use Rattle.sts_budget.proofs.TogetherLemmas.{adds}
+use Rattle.sts_budget.proofs.greatest.greatest_by.Goals.{In-Some}
 use Rattle.sts_budget.proofs.greatest.greatest_by.Goals as goal
+
+-- the table has the greatest sums of all places
+whole : (g : _) (c : In-Some g) → IsPartial (skeleton c.args.pass.now.earlier.now c.args.pass.now.code.now) (flows_in c.args.pass.now.resource c.args.pass.now.earlier.now c.args.pass.now.code.now c.args.pass.now.layout.now) (length c.args.pass.now.code.now) c.in-Some.best.items
+whole g c = rw c.in-Some.is at (c.in_ok-best.ensures {u = tt})
 
 pub returns-in-None : goal.returns-in-None
 returns-in-None g c =
@@ -20,43 +26,24 @@ table-requires g c = (omega (arith, c.requires.small), (c.requires.ready, (c.req
 
 pub loop-pc-init : goal.loop-pc-init
 loop-pc-init g c =
-    let whole : IsPartial (skeleton c.args.pass.now.earlier.now c.args.pass.now.code.now)
-    (flows_in c.args.pass.now.resource c.args.pass.now.earlier.now c.args.pass.now.code.now c.args.pass.now.layout.now)
-    (length c.args.pass.now.code.now) c.in-Some.best.items = rw c.in-Some.is at (c.in_ok-best.ensures {u = tt}) in (
-      bases_none c.args.pass.now.resource c.args.pass.now.earlier.now c.args.pass.now.code.now c.args.pass.now.layout.now c.requires.ready
-          c.in-Some.best.items whole c.in_ok-top.top.bases.items (c.in_ok-top.ensures {u = tt}).0,
-      subst (IsTop c.args.pass.now.resource
-          c.args.pass.now.earlier.now c.args.pass.now.code.now c.args.pass.now.layout.now c.in-Some.best.items 0)
-          (sym (c.in_ok-top.ensures {u = tt}).1) (top_none c.args.pass.now.resource c.args.pass.now.earlier.now c.args.pass.now.code.now
-          c.args.pass.now.layout.now c.requires.ready c.in-Some.best.items whole),
-      omega (arith, (c.in_ok-top.ensures {u = tt}).1),
+    let h = goal.at.loop-pc-init g c in
+    let p = c.args.pass.now in
+    let made = c.in_ok-top.ensures {u = tt} in (
+      bases_none p.resource p.earlier.now p.code.now p.layout.now c.requires.ready c.in-Some.best.items (whole g h.In-Some) c.in_ok-top.top.bases.items
+          made.0,
+      subst (IsTop p.resource p.earlier.now p.code.now p.layout.now c.in-Some.best.items 0) (sym made.1)
+          (top_none p.resource p.earlier.now p.code.now p.layout.now c.requires.ready c.in-Some.best.items (whole g h.In-Some)),
+      omega (arith, made.1),
     )
 
 pub add_place-requires : goal.add_place-requires
 add_place-requires g c =
-    let whole : IsPartial (skeleton c.args.pass.now.earlier.now c.args.pass.now.code.now)
-    (flows_in c.args.pass.now.resource c.args.pass.now.earlier.now c.args.pass.now.code.now c.args.pass.now.layout.now)
-    (length c.args.pass.now.code.now) c.in-Some.best.items = rw c.in-Some.is at (c.in_ok-best.ensures {u = tt}) in (
+    let p = c.args.pass.now in
+    let depth = c.depth_of-depth.ensures.value ∙ ap (λ (es : List TypedEntry). depth_of p.resource (names es)) c.entries.ensures in (
       omega (arith, c.requires.small),
-      (
-        c.requires.ready,
-        (
-          c.requires.most,
-          (
-            c.requires.small,
-            (
-              c.requires.fits,
-              (
-                c.loop-pc-test.true,
-                (
-                  c.depth_of-depth.ensures.value ∙ ap (λ (es : List TypedEntry). depth_of c.args.pass.now.resource (names es)) c.entries.ensures,
-                  (c.head-head.ensures, (rw c.as_slice.ensures.value whole, rw c.as_slice.ensures.value c.loop-pc.invariant)),
-                ),
-              ),
-            ),
-          ),
-        ),
-      ),
+      adds p.resource p.earlier.now p.code.now p.layout.now p.most g.row.N c.loop-pc.pc _ _ c.in-Some.best.items _
+          c.as_slice.ensures.value c.loop-pc.top c.requires.ready c.requires.most c.requires.small c.requires.fits c.loop-pc-test.true depth
+          c.head-head.ensures (whole g (goal.at.add_place-requires g c).In-Some) c.loop-pc.invariant,
     )
 
 pub returns-then-not-add_place : goal.returns-then-not-add_place
@@ -71,16 +58,13 @@ loop-pc-preserved g c = subst (λ rows. IsTopped c.args.pass.now rows (c.loop-pc
 
 pub returns : goal.returns
 returns g c =
-    let whole : IsPartial (skeleton c.args.pass.now.earlier.now c.args.pass.now.code.now)
-    (flows_in c.args.pass.now.resource c.args.pass.now.earlier.now c.args.pass.now.code.now c.args.pass.now.layout.now) (length c.args.pass.now.code.now)
-    c.in-Some.best.items = rw c.in-Some.is at (c.in_ok-best.ensures {u = tt}) in
-    let n : c.loop-pc.pc ≡ length c.args.pass.now.code.now = omega arith in
-    let t = finished c.args.pass.now.resource c.args.pass.now.earlier.now c.args.pass.now.code.now c.args.pass.now.layout.now c.requires.ready
-    c.in-Some.best.items whole c.loop-pc.top.greatest (subst (λ q. IsTop c.args.pass.now.resource c.args.pass.now.earlier.now c.args.pass.now.code.now
-    c.args.pass.now.layout.now c.in-Some.best.items q c.loop-pc.top.greatest) n c.loop-pc.invariant.1) in
-    let most_is : c.args.pass.now.most ≡ limit_of c.args.pass.now.resource - own_of c.args.pass.now.resource = c.requires.most in
-    let le : c.own_of.result + c.loop-pc.top.greatest ≤ limit_of c.args.pass.now.resource =
-    omega (arith, c.own_of.ensures, c.loop-pc.invariant.2, most_is, own_within c.args.pass.now.resource) in
+    let p = c.args.pass.now in
+    let n : c.loop-pc.pc ≡ length p.code.now = omega arith in
+    let top = subst (λ q. IsTop p.resource p.earlier.now p.code.now p.layout.now c.in-Some.best.items q c.loop-pc.top.greatest) n c.loop-pc.invariant.1 in
+    let t = finished p.resource p.earlier.now p.code.now p.layout.now c.requires.ready c.in-Some.best.items (whole g (goal.at.returns g c).In-Some)
+    c.loop-pc.top.greatest top in
+    let le : c.own_of.result + c.loop-pc.top.greatest ≤ limit_of p.resource =
+    omega (arith, c.own_of.ensures, c.loop-pc.invariant.2, c.requires.most, own_within p.resource) in
     (rw c.own_of.ensures t, le)
 
 pub head-head-requires : goal.head-head-requires

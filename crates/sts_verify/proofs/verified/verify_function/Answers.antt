@@ -1,12 +1,10 @@
-use Rattle.std.proofs.Common.{◌≡◌, [], ◌∷◌, ◌++◌, length, Ok, Err, sym, ap, ◌∙◌, subst, arith}
+use Rattle.std.proofs.Common.{length, Ok, Err, sym, ap, subst, arith}
 use Rattle.sts_code.specs.Program.{routine}
 use Rattle.sts_rules.specs.Budget.{AreBudgets}
-use Rattle.sts_rules.specs.Refusal.{IsSound}
 use Rattle.sts_budget.specs.Outcome.{IsFound}
 use Rattle.sts_budget.proofs.CheckedLemmas.{is_checked}
 use Rattle.sts_verify.specs.Verifying.{TellsOf}
-use Rattle.sts_verify.proofs.BudgetLemmas.{budgets_more}
-use Rattle.sts_verify.proofs.Verifying.{typing_refused, budget_tells}
+use Rattle.sts_verify.proofs.Verifying.{typing_refused, budget_tells, budgets_found}
 use Rattle.sts_verify.proofs.verified.verify_function.Goals as goal
 
 pub returns-in_err-typing : goal.returns-in_err-typing
@@ -25,18 +23,8 @@ pub returns-in-Ok-push : goal.returns-in-Ok-push
 returns-in-Ok-push c =
     let found = subst (λ bs. IsFound bs (routine c.args.program.now c.args.function).code (Ok c.in-Ok.found)) c.as_slice.ensures.value
     c.in-Ok.ensures in
-    let more =
-    budgets_more c.args.program.now c.args.budgets.now.items c.in-Ok.found c.args.function c.requires.long c.requires.right found.0 in
-    let sound : IsSound c.args.program.now c.args.function = record {
-      typed = c.in_ok-typing.ensures.typed;
-      earlier =
-          c.args.budgets.now.items;
-      long = c.requires.long;
-      right = c.requires.right;
-      within = found.1;
-    } in
-    let items : c.push.new.self.items ≡ c.args.budgets.now.items ++ c.in-Ok.found ∷ [] = c.in-Ok-push.ensures.items in
-    (sound, ap length items ∙ more.0, subst (AreBudgets c.args.program.now) (sym items) more.1)
+    budgets_found c.args.program.now c.args.function c.args.budgets.now.items c.push.new.self.items c.in-Ok.found c.in_ok-typing.ensures.typed
+    c.requires.long c.requires.right found c.in-Ok-push.ensures.items
 
 pub returns : goal.returns
 returns c =

@@ -1,28 +1,20 @@
-use Rattle.std.proofs.Common.{◌<◌, length, rules, subst}
+use Rattle.std.proofs.Common.{rules, subst}
 use Rattle.sts_budget.specs.declared.change.Resource.TheVariants.{Steps, Tasks, Scopes, Binds}
 use Rattle.sts_budget.specs.Table.{IsRaisedAt}
 use Rattle.sts_budget.proofs.TogetherLemmas.{each}
 use Rattle.sts_budget.proofs.together.Tables.raise_to.Goals as goal
 
 pub raise_row-requires : goal.raise_row-requires
-raise_row-requires g c =
-    let inside : c.args.to < length c.args.self.now.steps.items = c.requires.inside Steps in
-    search (rules, inside, c.requires.low, c.requires.small)
+raise_row-requires g c = search (rules, c.requires.inside Steps, c.requires.low, c.requires.small)
 
 pub raise_row-requires-2 : goal.raise_row-requires-2
-raise_row-requires-2 g c =
-    let inside : c.args.to < length c.args.self.now.tasks.items = c.requires.inside Tasks in
-    search (rules, inside, c.requires.low, c.requires.small)
+raise_row-requires-2 g c = search (rules, c.requires.inside Tasks, c.requires.low, c.requires.small)
 
 pub raise_row-requires-3 : goal.raise_row-requires-3
-raise_row-requires-3 g c =
-    let inside : c.args.to < length c.args.self.now.scopes.items = c.requires.inside Scopes in
-    search (rules, inside, c.requires.low, c.requires.small)
+raise_row-requires-3 g c = search (rules, c.requires.inside Scopes, c.requires.low, c.requires.small)
 
 pub raise_row-requires-4 : goal.raise_row-requires-4
-raise_row-requires-4 g c =
-    let inside : c.args.to < length c.args.self.now.binds.items = c.requires.inside Binds in
-    search (rules, inside, c.requires.low, c.requires.small)
+raise_row-requires-4 g c = search (rules, c.requires.inside Binds, c.requires.low, c.requires.small)
 
 pub returns : goal.returns
 returns g c = λ yes. each _

@@ -9,14 +9,13 @@ use Rattle.sts_budget.proofs.together.Tables.step_on.Goals as goal
 
 pub returns : goal.returns
 returns g c =
-    let next : c.args.pc + 1 < length c.args.self.now.steps.items = c.requires.inside Steps in
-    let within : c.args.pc < length c.args.self.now.steps.items = omega (arith, next) in
-    let is : c.index.result.now ≡ get_or c.args.self.now.steps.items c.args.pc [] = c.index.ensures ∙ get_or_default c.args.self.now.steps.items c.args.pc _ [] within in
-    λ yes. each _
-    (carried_step c.args.pc (most Steps) c.risen-steps.result c.args.self.now.steps.items c.raise_row.new.best.items c.index.result.now next is (most_small Steps) (c.risen-steps.ensures 0 (omega arith)) (subst (λ m. IsRaisedAt c.risen-steps.result 0 m (c.args.pc + 1) c.args.self.now.steps.items c.raise_row.new.best.items) c.most_of.ensures (c.raise_row.ensures.raised yes)))
-    c.carry.ensures
-    c.carry-2.ensures
-    c.carry-3.ensures
+    let rows = c.args.self.now.steps.items in
+    let next : c.args.pc + 1 < length rows = c.requires.inside Steps in
+    let within : c.args.pc < length rows = omega (arith, next) in
+    let is : c.index.result.now ≡ get_or rows c.args.pc [] = c.index.ensures ∙ get_or_default rows c.args.pc _ [] within in
+    λ yes. each _ (carried_step c.args.pc (most Steps) c.risen-steps.result rows c.raise_row.new.best.items c.index.result.now next is (most_small Steps)
+    (c.risen-steps.ensures 0 (omega arith)) (subst (λ m. IsRaisedAt c.risen-steps.result 0 m (c.args.pc + 1) rows c.raise_row.new.best.items)
+    c.most_of.ensures (c.raise_row.ensures.raised yes))) c.carry.ensures c.carry-2.ensures c.carry-3.ensures
 
 pub index-requires : goal.index-requires
 index-requires g c =
