@@ -118,6 +118,13 @@ all_noted p f nodes k rules all long h = record { long = h.long; each = λ pc in
     by pc inside None e = all_plain p f pc (instr_at (routine p f).code pc) nodes k refl all long (h.none pc e inside)
     by pc inside (Some r) e = h.some pc r e
 
+-- what the table of rules says of a place
+pub rule_at : (p : Program) (f : ℕ) (rules : List (Option Reliance)) (pc : ℕ) (rule : Option Reliance) → AreRules p f rules → pc < size p f → rule ≡ slice_index_or rules pc rule → MatchOption rule (IsPlain p f pc) (Relies p f pc)
+rule_at p f rules pc rule h inside read =
+    let long = h.long in
+    let same : slice_index_or rules pc None ≡ rule = sym (read ∙ get_or_default rules pc rule None (omega (arith, long, inside))) in
+    subst (λ (o : Option Reliance). MatchOption o (IsPlain p f pc) (Relies p f pc)) same (h.each pc inside)
+
 -- ---- place after place
 
 pub nothing_noted : (p : Program) (f : ℕ) (before : List Note) → AddsNotes p f 0 before before

@@ -59,6 +59,14 @@ there_more next old new n y less read h a j d lj = by (split j n lj)
         let is : slice_index_or next j d ≡ y = ap (λ (k : ℕ). slice_index_or next k d) e ∙ get_or_default next n d y less ∙ sym read in
         subst (Contains new) (sym is) a.there
 
+-- a follower more was added, if it wasn't there
+pub spread_more : (p : Program) (f : ℕ) (nodes next old new : List Node) (at : ℕ) (x : Node) (n : ℕ) (y : Node) → AreFound p f nodes → at < length nodes → x ≡ slice_index_or nodes at x → next ≡ followers p f x → n < length next → y ≡ slice_index_or next n y → Adds old y new → AreFound p f old × Grows nodes old × AreThere next n old → AreFound p f new × Grows nodes new × AreThere next (n + 1) new
+spread_more p f nodes next old new at x n y found within is made less read added h = (
+  found_more p f old new y h.0 added (follower_comes p f nodes next at x n y found within is made less read),
+  grows_on nodes old new h.1 added.grows,
+  there_more next old new n y less read h.2 added,
+)
+
 -- all nodes after the node are there
 pub all_there : (p : Program) (f : ℕ) (old new next : List Node) (at : ℕ) (x : Node) (n : ℕ) → at < length old → x ≡ slice_index_or old at x → next ≡ followers p f x → length next ≤ n → AreThere next n new → IsSpread p f old at new
 all_there p f old new next at x n within is made long h d m c =

@@ -25,20 +25,23 @@ fn rule_words(reliance: Reliance) -> &'static str
     }
 }
 
-fn say_note(
-    alloc: Global,
-    out: &mut Vec<u8>,
-    outline: &Outline<'_>,
-    program: &Program,
-    note: Note,
-) -> Said
-    ensures { OnOk result (out.new.items
-        ≡ out.old.items ++ def.note_line outline.now program.now note) }
-{
-    say(out, rule_words(note.reliance))?;
-    say(out, name_of(program, note.function))?;
-    say_place(alloc, out, outline.sentence(note.function, note.place))?;
-    say(out, "\n")
+/// A program, and the outline of the text that spells it.
+#[derive(Clone, Copy)]
+struct Told<'a, 't> {
+    outline: &'a Outline<'t>,
+    program: &'a Program,
+}
+
+impl Told<'_, '_> {
+    fn say_note(self, alloc: Global, out: &mut Vec<u8>, note: Note) -> Said
+        ensures { OnOk result (out.new.items ≡ out.old.items
+            ++ def.note_line self.entry.outline.now self.entry.program.now note) }
+    {
+        say(out, rule_words(note.reliance))?;
+        say(out, name_of(self.program, note.function))?;
+        say_place(alloc, out, self.outline.sentence(note.function, note.place))?;
+        say(out, "\n")
+    }
 }
 
 /// A line for each note.
@@ -56,8 +59,9 @@ pub fn note_lines(
     ensures { OnOk result (out.new.items
         ≡ out.old.items ++ def.note_lines outline.now program.now notes.now) }
 {
+    let told = Told { outline, program };
     for note in notes {
-        say_note(alloc, out, outline, program, *note)?;
+        told.say_note(alloc, out, *note)?;
     }
     Ok(())
 }

@@ -1,7 +1,7 @@
 //! The instructions of a program that rely on a rule that JDK 25 doesn't share.
 
 ghost use Rattle.std.specs.Prelude.{◌≡◌, ◌<◌, length, IfOk, OnOk, None, if◌then◌else◌};
-ghost use Rattle.std.specs.Prelude.{is_some, replicate, slice_index_or, slice_set};
+ghost use Rattle.std.specs.Prelude.{is_some, slice_index_or, slice_set};
 ghost use Rattle.sts_code.specs.Program.{instr_at, routine};
 ghost use Rattle.sts_rules.specs.Refusal.{size};
 ghost use Rattle.look_accepted.specs.Found.{AreAll};
@@ -13,6 +13,7 @@ use crate::reliance::{Reliance, relied_on};
 use crate::search::search;
 use std::alloc::{AllocError, Global};
 use sts_code::{Instr, Program, code_of};
+use sts_rules::filled;
 
 /// An instruction that relies on such a rule.
 #[derive(Clone, Copy, PartialEq, Eq)]
@@ -27,17 +28,6 @@ fn instr_here(program: &Program, function: u32, place: usize) -> Instr
     ensures { result ≡ instr_at (routine program.now function).code place }
 {
     code_of(program, function as usize)[place]
-}
-
-/// A table of `count` places without a rule.
-fn no_rules(alloc: Global, count: usize) -> Result<Vec<Option<Reliance>>, AllocError>
-    ensures { IfOk result (λ t. t.items ≡ replicate count None) }
-{
-    let mut rules = Vec::with_capacity(alloc, count)?;
-    for _ in 0..count {
-        rules.push(None)?;
-    }
-    Ok(rules)
 }
 
 /// Notes the rule that the instruction of a node relies on, unless one was noted for its place.
@@ -65,7 +55,7 @@ fn all_rules(
     requires all { AreAll program.now function nodes.now }
     ensures { IfOk result (λ t. def.AreRules program.now function t.items) }
 {
-    let mut rules = no_rules(alloc, code_of(program, function as usize).len())?;
+    let mut rules = filled(alloc, code_of(program, function as usize).len(), None)?;
     for number in 0..nodes.len() {
         note_rule(program, function, &nodes[number], &mut rules);
     }

@@ -8,6 +8,7 @@ ghost use Rattle.look_accepted.specs.Found as def;
 use crate::node::{Node, copy, first, followers, is_same};
 use std::alloc::{AllocError, Global};
 use sts_code::{Program, code_of};
+use sts_rules::filled;
 use sts_types::loops::{CodeLoops, Tables};
 
 /// The nodes by place, as lists of their numbers. `last` has the node that was found last at each
@@ -21,12 +22,8 @@ struct Places {
 impl Places {
     /// No nodes yet, at this number of places.
     fn new(alloc: Global, count: usize) -> Result<Places, AllocError> {
-        let mut last = Vec::with_capacity(alloc, count)?;
-        for _ in 0..count {
-            last.push(None)?;
-        }
         Ok(Places {
-            last,
+            last: filled(alloc, count, None)?,
             earlier: Vec::new(alloc),
         })
     }

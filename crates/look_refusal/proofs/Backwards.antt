@@ -19,7 +19,7 @@ use Rattle.look_refusal.specs.Trail.{IsTrail, IsFrom, handed, looped, sum_in, be
 use Rattle.look_refusal.specs.Walk.{AreParts, IsBegin, IsStepBack, IsWalked, IsWalkedBack, IsWalkedBackOut, rest_in}
 use Rattle.look_refusal.proofs.Leading.{Way, straight, looping, around_found, around_missing, way_of, leads_straight, leads_loop, leads_later, handed_straight, handed_loop}
 use Rattle.look_refusal.proofs.Tables.{fits_here}
-use Rattle.look_refusal.proofs.Walking.{walked_none, walked_both, walked_straight, walked_skip, walked_loop, walked_out}
+use Rattle.look_refusal.proofs.Walking.{IsOpenWalk, open_walked, open_out, walked_none, walked_both, walked_straight, walked_skip, walked_loop, walked_out}
 
 -- a walk back from one spot that reached another
 pub record IsUnderWay (s : Search) (t : Trail) (times : ℕ) (at to : Spot) (before now : Shares) : Type 0 where
@@ -163,7 +163,7 @@ module _ (s : Search) (ready : IsReady s) (t : Trail) (trail : IsTrail s t) wher
       }
 
   -- `n` turns fit, if each adds something
-  pub many_fit : (times n g rest : ℕ) → 0 < g → rest + times * n * g ≤ greatest_number → times * n ≤ greatest_number
+  many_fit : (times n g rest : ℕ) → 0 < g → rest + times * n * g ≤ greatest_number → times * n ≤ greatest_number
   many_fit times n g rest pos le =
       let m : times * n * 1 ≤ times * n * g = mul-le-mul_left (times * n) (omega arith) in
       omega arith
@@ -174,6 +174,12 @@ module _ (s : Search) (ready : IsReady s) (t : Trail) (trail : IsTrail s t) wher
       let w = u.total in
       omega arith
 
+  -- the turns of a loop fit, if each adds something
+  pub turns_fit : (times q : ℕ) (l : CostLoop) (at to : Spot) (before now : Shares) → IsLoop s l → l.end ≡ q → IsUnderWay s t times at to before now → before.total + times * sum_in t to.place to.depth ≤ greatest_number → (best_in t at.place at.depth).from ≡ Some q → 0 < sum_in t q at.depth + (flow s).added q at.depth → times * l.turns ≤ greatest_number
+  turns_fit times q l at to before now is end u fits e pos =
+      let total = loop_total times q l at to before now is end u fits e in
+      many_fit times l.turns (sum_in t q at.depth + (flow s).added q at.depth) (now.total + (times * sum_in t l.head at.depth + times * (flow s).added l.head at.depth)) pos (omega (arith, total))
+
   -- the beginning of the turn that the end of a loop leads back to
   turn_is : (l : CostLoop) (d : ℕ) (end turn : Spot) → around s.code.now l.end ≡ l.head ∷ around s.code.now l.head → d ≤ (flow s).depth l.head → end.place ≡ l.end → end.depth ≡ d → IsBegin s end turn → turn ≡ record { place = l.head + 1; depth = d }
   turn_is l d end turn round low place depth b =
@@ -181,10 +187,27 @@ module _ (s : Search) (ready : IsReady s) (t : Trail) (trail : IsTrail s t) wher
       let m : min end.depth ((flow s).depth l.head) ≡ d = omega (arith, depth) in
       b.inside l.head (around s.code.now l.head) inner ∙ ap (λ x. record { place = l.head + 1; depth = x }) m
 
+  -- the way over a loop, given what was added there
+  over_loop : (times q : ℕ) (l : CostLoop) (at to next : Spot) (before now after : Shares) → IsLoop s l → l.end ≡ q → IsUnderWay s t times at to before now → (best_in t at.place at.depth).from ≡ Some q → IsWithin s l at → next.place ≡ l.head → next.depth ≡ at.depth → length after.places.items ≡ length now.places.items → AreParts after → IsWalked (paths s) (flow s) times next at now after → after.total + times * sum_in t l.head at.depth ≡ now.total + times * sum_in t at.place at.depth → IsUnderWay s t times next to before after
+  over_loop times q l at to next before now after is end_is u e w place next_depth long parts over moved =
+      let f = from_is at q u.spot e in
+      let here : sum_in t next.place next.depth ≡ sum_in t l.head at.depth = ap (λ x. sum_in t x next.depth) place ∙ ap (λ x. sum_in t l.head x) next_depth in
+      let here' = ap (λ x. times * x) here in
+      let total = u.total in
+      record {
+        low = omega (arith, place, w.before, f.0, u.low, end_is);
+        spot = record { in_code = omega (arith, place, is.head); shallow = subst (λ x. next.depth ≤ (flow s).depth x) (sym place) (omega (arith, w.at_head, next_depth)) };
+        same = ap (around s.code.now) place ∙ sym w.round_behind ∙ u.same;
+        kept = λ p ps round. ap (λ x. min x ((flow s).depth p)) next_depth ∙ u.kept p ps round;
+        long = long ∙ u.long;
+        parts = parts;
+        walked = walked_both (paths s) (flow s) times next at to before now after u.walked over;
+        total = omega arith;
+      }
+
   -- the shares and the sum on the way over a loop
   pub loop_step : (times many q : ℕ) (l : CostLoop) (at to end turn next : Spot) (before now v1 v2 after : Shares) → IsLoop s l → l.end ≡ q → IsUnderWay s t times at to before now → (best_in t at.place at.depth).from ≡ Some q → ends_turn (instr_at s.code.now q) ≡ true → many ≡ times * l.turns → IsStepBack (flow s) q at many now v1 end → IsWalkedBack s t many turn end v1 v2 → IsStepBack (flow s) l.head at times v2 after next → AreParts after → IsUnderWay s t times next to before after
   loop_step times many q l at to end turn next before now v1 v2 after is end_is u e turning many_is last body first parts =
-      let f = from_is at q u.spot e in
       let w = within_loop l at q is end_is u.spot e turning in
       let sum = ap (λ x. times * x) (loop_sum l at q is end_is u.spot e) in
       let end_place : end.place ≡ l.end = last.place ∙ sym end_is in
@@ -196,52 +219,25 @@ module _ (s : Search) (ready : IsReady s) (t : Trail) (trail : IsTrail s t) wher
       let first' : IsStepBack (flow s) l.head begun times v2 after next = record { place = first.place; depth = first.depth; raised = first.raised } in
       let turn_spot : IsSpot s begun = record { in_code = w.turn_in; shallow = w.at_turn } in
       let over = walked_loop s l times many at begun end next now v1 v2 after is w.behind u.spot refl refl turn_spot many_is last' walked first' in
-      let next_depth : next.depth ≡ at.depth = first.depth ∙ w.source_head in
-      let place = first.place in
-      let here : sum_in t next.place next.depth ≡ sum_in t l.head at.depth = ap (λ x. sum_in t x next.depth) place ∙ ap (λ x. sum_in t l.head x) next_depth in
-      let here' = ap (λ x. times * x) here in
       let at_end : sum_in t end.place end.depth ≡ sum_in t q at.depth = ap (λ x. sum_in t x end.depth) last.place ∙ ap (λ x. sum_in t q x) end_depth in
       let body_total : v2.total ≡ v1.total + times * l.turns * sum_in t q at.depth = body.total ∙ ap (λ x. v1.total + many * x) at_end ∙ ap (λ x. v1.total + x * sum_in t q at.depth) many_is in
       let last_total : v1.total ≡ now.total + times * l.turns * (flow s).added q at.depth = last.raised.all ∙ ap (λ x. now.total + x * (flow s).added q at.depth) many_is in
       let first_total : after.total ≡ v2.total + times * (flow s).added l.head at.depth = first.raised.all in
-      let total = u.total in
-      record {
-        low = omega (arith, place, w.before, f.0, u.low, end_is);
-        spot = record { in_code = omega (arith, place, is.head); shallow = subst (λ x. next.depth ≤ (flow s).depth x) (sym place) (omega (arith, w.at_head, next_depth)) };
-        same = ap (around s.code.now) place ∙ sym w.round_behind ∙ u.same;
-        kept = λ p ps round. ap (λ x. min x ((flow s).depth p)) next_depth ∙ u.kept p ps round;
-        long = first.raised.long ∙ body.walked.1.1.long ∙ last.raised.long ∙ u.long;
-        parts = parts;
-        walked = walked_both (paths s) (flow s) times next at to before now after u.walked over;
-        total = omega arith;
-      }
+      let moved : after.total + times * sum_in t l.head at.depth ≡ now.total + times * sum_in t at.place at.depth = omega arith in
+      over_loop times q l at to next before now after is end_is u e w first.place (first.depth ∙ w.source_head) (first.raised.long ∙ body.walked.1.1.long ∙ last.raised.long) parts over moved
 
   -- its turns add nothing
   pub skip_step : (times q : ℕ) (l : CostLoop) (at to next : Spot) (before now after : Shares) → IsLoop s l → l.end ≡ q → IsUnderWay s t times at to before now → (best_in t at.place at.depth).from ≡ Some q → ends_turn (instr_at s.code.now q) ≡ true → sum_in t q at.depth ≡ 0 → (flow s).added q at.depth ≡ 0 → IsStepBack (flow s) l.head at times now after next → AreParts after → IsUnderWay s t times next to before after
   skip_step times q l at to next before now after is end_is u e turning none_before none_added first parts =
-      let f = from_is at q u.spot e in
       let w = within_loop l at q is end_is u.spot e turning in
       let nothing : l.turns * (sum_in t q at.depth + (flow s).added q at.depth) ≡ 0 = ap (λ x. l.turns * (x + (flow s).added q at.depth)) none_before ∙ ap (λ x. l.turns * (0 + x)) none_added ∙ omega arith in
       let sum_is : sum_in t at.place at.depth ≡ sum_in t l.head at.depth + (flow s).added l.head at.depth = loop_sum l at q is end_is u.spot e ∙ omega (arith, nothing) in
       let sum = ap (λ x. times * x) sum_is in
       let behind : at.place ≡ (paths s).mate l.head + 1 = w.behind ∙ ap (λ x. x + 1) (sym is.mate) in
       let over = walked_skip (paths s) (flow s) l.head l.turns times at next now after is.opens behind u.spot.shallow first in
-      let next_depth : next.depth ≡ at.depth = first.depth ∙ w.source_head in
-      let place = first.place in
-      let here : sum_in t next.place next.depth ≡ sum_in t l.head at.depth = ap (λ x. sum_in t x next.depth) place ∙ ap (λ x. sum_in t l.head x) next_depth in
-      let here' = ap (λ x. times * x) here in
       let first_total : after.total ≡ now.total + times * (flow s).added l.head at.depth = first.raised.all in
-      let total = u.total in
-      record {
-        low = omega (arith, place, w.before, f.0, u.low, end_is);
-        spot = record { in_code = omega (arith, place, is.head); shallow = subst (λ x. next.depth ≤ (flow s).depth x) (sym place) (omega (arith, w.at_head, next_depth)) };
-        same = ap (around s.code.now) place ∙ sym w.round_behind ∙ u.same;
-        kept = λ p ps round. ap (λ x. min x ((flow s).depth p)) next_depth ∙ u.kept p ps round;
-        long = first.raised.long ∙ u.long;
-        parts = parts;
-        walked = walked_both (paths s) (flow s) times next at to before now after u.walked over;
-        total = omega arith;
-      }
+      let moved : after.total + times * sum_in t l.head at.depth ≡ now.total + times * sum_in t at.place at.depth = omega arith in
+      over_loop times q l at to next before now after is end_is u e w first.place (first.depth ∙ w.source_head) first.raised.long parts over moved
 
   -- ---- at the beginning of a turn
 
@@ -277,12 +273,10 @@ module _ (s : Search) (ready : IsReady s) (t : Trail) (trail : IsTrail s t) wher
       let total = u.total in
       record { begin = by z.1 (cases_eq at.place 0); walked = u.walked; total = omega arith; parts = u.parts }
     where
-      fit : FitsEntries (paths s) (around s.code.now) (flow s)
-      fit = fits_here s ready
-
       by : ((q : ℕ) → q < at.place → LeadsOn s q at.place → ⊥) → (at.place ≡ 0) ⊎ ((at.place ≡ 0) → ⊥) → IsBegin s to at
       by none (inr nz) = begin_at times at to before now u none at.place refl (ready.led at.place (omega arith) u.spot.in_code)
       by none (inl zero_is) =
+          let fit : FitsEntries (paths s) (around s.code.now) (flow s) = fits_here s ready in
           let round : around s.code.now to.place ≡ [] = sym u.same ∙ ap (around s.code.now) zero_is ∙ ready.good.outside in
           record {
             outside = λ is. spot_is at (record { place = 0; depth = 0 }) zero_is (omega (arith, u.spot.shallow, ap (flow s).depth zero_is, fit.empty));
@@ -376,7 +370,7 @@ module _ (s : Search) (ready : IsReady s) (t : Trail) (trail : IsTrail s t) wher
       let r = rest_inside l at (around s.code.now l.head) is round refl turn.depth depth in
       omega arith
 
-  pub out_rest : (l : CostLoop) (at turn next : Spot) (now v1 v2 : Shares) → IsLoop s l → around s.code.now at.place ≡ l.head ∷ around s.code.now l.head → turn.depth ≡ min at.depth ((flow s).depth l.head) → v1.total ≡ now.total + 1 * sum_in t at.place at.depth → IsWalkedBackOut s t l turn next v1 v2 → v2.total + rest_in s t next ≡ now.total + rest_in s t at
+  out_rest : (l : CostLoop) (at turn next : Spot) (now v1 v2 : Shares) → IsLoop s l → around s.code.now at.place ≡ l.head ∷ around s.code.now l.head → turn.depth ≡ min at.depth ((flow s).depth l.head) → v1.total ≡ now.total + 1 * sum_in t at.place at.depth → IsWalkedBackOut s t l turn next v1 v2 → v2.total + rest_in s t next ≡ now.total + rest_in s t at
   out_rest l at turn next now v1 v2 is round depth total out =
       let r = rest_inside l at (around s.code.now l.head) is round refl turn.depth depth in
       let here : rest_in s t next ≡ base (paths s) (flow s) (sum_in t) (last_turns (around s.code.now l.head)) turn.depth + sum_in t l.head turn.depth = ap (λ x. base (paths s) (flow s) (sum_in t) (last_turns (around s.code.now x)) next.depth + sum_in t x next.depth) out.place ∙ ap (λ x. base (paths s) (flow s) (sum_in t) (last_turns (around s.code.now l.head)) x + sum_in t l.head x) out.depth in
@@ -438,8 +432,18 @@ module _ (s : Search) (ready : IsReady s) (t : Trail) (trail : IsTrail s t) wher
   pub turn_of_none : (at turn : Spot) (found d : Option ℕ) → IsBegin s at turn → found ≡ get_or s.layout.now.typing.now.loops.heads turn.place d → found ≡ None → (turn ≡ record { place = 0; depth = 0 }) × (around s.code.now at.place ≡ [])
   turn_of_none at turn found d b is told = turn_outside at turn b (around_missing s ready turn.place found d (turn_in at turn b) is told)
 
-  pub next_spot : (l : CostLoop) (at turn next : Spot) (v1 v2 : Shares) → IsLoop s l → turn ≡ record { place = l.head + 1; depth = min at.depth ((flow s).depth l.head) } → IsWalkedBackOut s t l turn next v1 v2 → IsSpot s next
+  next_spot : (l : CostLoop) (at turn next : Spot) (v1 v2 : Shares) → IsLoop s l → turn ≡ record { place = l.head + 1; depth = min at.depth ((flow s).depth l.head) } → IsWalkedBackOut s t l turn next v1 v2 → IsSpot s next
   next_spot l at turn next v1 v2 is turn_same out =
       let place = out.place in
       let depth : next.depth ≡ min at.depth ((flow s).depth l.head) = out.depth ∙ ap (λ (x : Spot). x.depth) turn_same in
       record { in_code = omega (arith, place, is.head); shallow = subst (λ x. next.depth ≤ (flow s).depth x) (sym place) (omega arith) }
+
+  -- the walk back so far, out of one more loop
+  pub out_of_loop : (l : CostLoop) (at to turn next : Spot) (first now v1 v2 : Shares) → IsLoop s l → (turn ≡ record { place = l.head + 1; depth = min at.depth ((flow s).depth l.head) }) × (around s.code.now at.place ≡ l.head ∷ around s.code.now l.head) → IsWalkedBack s t 1 turn at now v1 → IsWalkedBackOut s t l turn next v1 v2 → IsOpenWalk (paths s) (flow s) at to first now × IsSpot s at × (length now.places.items ≡ length s.code.now) × AreParts now × (now.total + rest_in s t at ≡ first.total + rest_in s t to) → IsOpenWalk (paths s) (flow s) next to first v2 × IsSpot s next × (length v2.places.items ≡ length s.code.now) × AreParts v2 × (v2.total + rest_in s t next ≡ first.total + rest_in s t to)
+  out_of_loop l at to turn next first now v1 v2 is here back out so_far = (
+    open_out (paths s) (flow s) next turn to first v1 v2 (open_walked (paths s) (flow s) turn at to first now v1 so_far.0 back.walked) out.walked,
+    next_spot l at turn next v1 v2 is here.0 out,
+    out.walked.1.1.long ∙ back.walked.1.1.long ∙ so_far.2,
+    out.parts,
+    out_rest l at turn next now v1 v2 is here.1 (ap (λ (x : Spot). x.depth) here.0) back.total out ∙ so_far.4,
+  )

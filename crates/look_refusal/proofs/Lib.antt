@@ -22,4 +22,5 @@ pub mod Tables
 pub mod TellLemmas
 pub mod Walking
 pub mod WayLemmas
+pub mod Weighed
 pub mod WeightLemmas

@@ -12,9 +12,10 @@ use Rattle.sts_rules.specs.Flow.{Reaches, Leads, first, then, IsClear, HasCause,
 use Rattle.sts_rules.specs.Refusal.{IsTypeRefusal}
 use Rattle.sts_rules.specs.TypeState.{TypeState, entry}
 use Rattle.look_refusal.specs.declared.ways.Way.{Way}
+use Rattle.look_refusal.specs.declared.ways.WayOrigin.TheVariants.{Edge}
 use Rattle.look_refusal.specs.Ways.{HasWay, HaveWays, KeepsMore, AreWays, IsSpread, IsSpreadFrom, AreSpread, IsWayTo, LeadsAlike, NoneMeet, TurnsAlike, Meets}
 use Rattle.look_refusal.specs.declared.ways.Meeting.{Meeting}
-use Rattle.look_refusal.proofs.WayLemmas.{leads_at}
+use Rattle.look_refusal.proofs.WayLemmas.{leads_at, spread_keeps}
 use Rattle.look_refusal.proofs.ForwardLemmas.{forward, never_differs, turns_back}
 
 -- ---- what is kept
@@ -95,6 +96,16 @@ pub edge_past : (p : Program) (f from : ℕ) (before : TypeState) (out seen : Li
 edge_past p f from before out seen n e g same lt read =
     let at : slice_get out n ≡ Some e = sym (ap (λ (es : List (ℕ × TypeState)). slice_get es n) same) ∙ slice_get_read seen (length seen) n e refl lt read in
     forward p f from before out e.0 e.1 g (leads_at out n e at)
+
+-- one edge more, whose way was kept unless another was kept before
+pub spread_more : (p : Program) (f pc : ℕ) (before : TypeState) (out seen : List (ℕ × TypeState)) (n : ℕ) (e : ℕ × TypeState) (copy : TypeState) (begun table new : List (Option Way)) → Reaches (typing p f) pc before → edges p f pc before ≡ Ok out → seen ≡ out → n < length seen → e ≡ get_or seen n e → copy ≡ e.1 → new ≡ kept table e.0 (record { origin = Edge pc n; state = copy }) → AreWays p f table × KeepsMore pc begun table × HaveWays (take n seen) table → AreWays p f new × KeepsMore pc begun new × HaveWays (take (n + 1) seen) new
+spread_more p f pc before out seen n e copy begun table new reached g same lt read copied made h =
+    let way : Way = record { origin = Edge pc n; state = copy } in
+    let past = edge_past p f pc before out seen n e g same lt read in (
+      subst (λ (t : List (Option Way)). AreWays p f t) (sym made) (spread_keeps p f pc before out seen n e copy table reached g same lt read copied h.0),
+      keeps_on pc begun table new h.1 (subst (λ (t : List (Option Way)). KeepsMore pc table t) (sym made) (keep_more table e.0 way pc past)),
+      subst (λ (t : List (Option Way)). HaveWays (take (n + 1) seen) t) (sym made) (one_more seen n e lt read way table pc past h.2),
+    )
 
 -- all edges were read
 module _ (p : Program) (f from : ℕ) (s : TypeState) (es seen : List (ℕ × TypeState)) (n : ℕ) (is : edges p f from s ≡ Ok es) (same : seen ≡ es) (long : length seen ≤ n) where

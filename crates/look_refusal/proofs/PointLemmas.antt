@@ -16,7 +16,7 @@ use Rattle.sts_budget.specs.Change.{own_of, limit_of, depth_of}
 use Rattle.sts_budget.specs.Flowing.{flows}
 use Rattle.sts_budget.specs.Known.{KnowsNames, NamesRight}
 use Rattle.sts_budget.specs.Laws.{PointsLieOnPaths}
-use Rattle.sts_budget.specs.Layout.{EntryNames}
+use Rattle.sts_budget.specs.Layout.{EntryNames, IsDeepest}
 use Rattle.sts_budget.specs.Ready.{names_in, IsLaidFor}
 use Rattle.sts_budget.specs.Structured.{IsStructured}
 use Rattle.sts_budget.specs.Sums.{Sums}
@@ -31,6 +31,8 @@ use Rattle.look_refusal.proofs.Instrs.{path_ends}
 use Rattle.sts_budget.proofs.PathLemmas.{lie_on_paths}
 use Rattle.sts_budget.proofs.FourKindLemmas.{end_counts}
 use Rattle.sts_budget.proofs.PointLemmas.{stands, steps_come}
+use Rattle.sts_budget.proofs.ReadyLemmas.{names_right, is_typed_ready}
+use Rattle.sts_types.specs.Typing.{Typing, IsTyping}
 
 module _ (earlier : List Budgets) (code : List Instr) (round : ℕ → List ℕ) (good : IsStructured (skeleton earlier code) round) (names_at : ℕ → EntryNames) (known : KnowsNames code (skeleton earlier code) round names_at) where
   pub weighs : (k : Resource) (pc : ℕ) (loops : Loops) (sum : ℕ) → ends_for k (instr_at code pc) ≡ true → Sums (skeleton earlier code) (flows k earlier code names_at) (depth_of k (names_at pc)) pc loops sum → Weighs k earlier code pc (own_of k + sum)
@@ -74,6 +76,12 @@ pub on_paths : (p : Program) (f : ℕ) (earlier : List Budgets) (code : List Ins
 on_paths p f earlier code fine within typed is = subst (PointsLieOnPaths earlier) (sym is) (lie_on_paths p f earlier fine within typed)
 
 -- in the words of the function
-pub of_function : (s : Search) (p : Program) (f : ℕ) → IsReady s → length s.earlier.now ≡ f → AreBudgets p s.earlier.now → NamesRight p f (names_in s.layout.now) → s.code.now ≡ (routine p f).code → (o : Option Heavy) → MatchOption o (IsNotTold s) (IsHeaviest s) → MatchOption o (IsUntold p f s.resource) (IsHeavy p f s.resource)
+of_function : (s : Search) (p : Program) (f : ℕ) → IsReady s → length s.earlier.now ≡ f → AreBudgets p s.earlier.now → NamesRight p f (names_in s.layout.now) → s.code.now ≡ (routine p f).code → (o : Option Heavy) → MatchOption o (IsNotTold s) (IsHeaviest s) → MatchOption o (IsUntold p f s.resource) (IsHeavy p f s.resource)
 of_function s p f ready size right named is None why = untold p f s.resource s.earlier.now s.code.now size right is why
 of_function s p f ready size right named is (Some h) w = heavy p f s.resource s.earlier.now s.code.now s.layout.now h size right named ready is w.weighed w.most
+
+-- in the words of the function, if the layout has its typing
+pub of_typed : (s : Search) (p : Program) (f : ℕ) (t : Typing) → program_fault p.routines ≡ None → f < length p.routines → length s.earlier.now ≡ f → AreBudgets p s.earlier.now → s.code.now ≡ (routine p f).code → s.layout.now.typing.now ≡ t → IsTyping p f t → IsDeepest t s.layout.now.deepest → (o : Option Heavy) → MatchOption o (IsNotTold s) (IsHeaviest s) → MatchOption o (IsUntold p f s.resource) (IsHeavy p f s.resource)
+of_typed s p f t fine within size right is same typed deepest =
+    let ready = is_typed_ready p f s.earlier.now s.code.now s.layout.now t fine within size is same typed deepest in
+    of_function s p f ready size right (names_right p f s.layout.now fine within (subst (IsTyping p f) (sym same) typed)) is

@@ -10,7 +10,9 @@ ghost use Rattle.look_refusal.specs.Output as def;
 ghost use Rattle.look_refusal.specs.Stops.{Prints};
 
 use crate::differences::difference_lines;
-use crate::explanation::{ExplainError, Explanation, outline_of, program_of, write_explained};
+use crate::explanation::{
+    ExplainError, Explanation, Made, outline_of, program_of, write_explained,
+};
 use crate::heavy::heaviest;
 use crate::lines::refused_lines;
 use crate::remedy::remedy_for;
@@ -18,14 +20,13 @@ use crate::ways::find_meeting;
 use crate::weights::weight_lines;
 use look_accepted::{all_notes, note_lines};
 use look_text::{Said, say};
-use std::alloc::{AllocError, Global};
+use std::alloc::Global;
 use std::io::Write;
 use sts_asm::Outline;
 use sts_budget::Resource;
 use sts_code::Program;
-use sts_output::WriteFailed;
+use sts_output::{Refusal, WriteFailed, judge};
 use sts_rules::Cause;
-use sts_verify::{VerifyError, verify};
 
 /// A program, and the outline of the text that spells it.
 #[derive(Clone, Copy)]
@@ -92,33 +93,7 @@ impl Told<'_, '_> {
         }
     }
 
-    fn refused(
-        self,
-        alloc: Global,
-        function: u32,
-        pc: u32,
-        cause: Cause,
-    ) -> Result<Explanation, AllocError>
-        requires { IsRefusal self.program.now function pc cause }
-        ensures { IfOk result (λ o. def.IsRefused self.entry.program.now self.entry.outline.now o) }
-    {
-        let remedy = remedy_for(alloc, self.program, function, pc, cause)?;
-        let mut bytes = Vec::new(alloc);
-        let sentence = self.outline.sentence(function, pc);
-        refused_lines(
-            alloc,
-            &mut bytes,
-            self.program,
-            sentence,
-            function,
-            cause,
-            remedy,
-        )?;
-        self.say_detail(alloc, &mut bytes, function, pc, cause)?;
-        Ok(Explanation { bytes, status: 4 })
-    }
-
-    fn accepted(self, alloc: Global) -> Result<Explanation, AllocError>
+    fn accepted(self, alloc: Global) -> Made
         requires { IsAccepted self.program.now }
         ensures { IfOk result (λ o. def.IsVerdict self.entry.program.now self.entry.outline.now o) }
     {
@@ -136,32 +111,35 @@ impl Told<'_, '_> {
     }
 }
 
-fn verdict(
-    alloc: Global,
-    outline: &Outline<'_>,
-    program: Program,
-) -> Result<Explanation, AllocError>
+fn refused(alloc: Global, outline: &Outline<'_>, refusal: &Refusal) -> Made
+    requires { IsRefusal refusal.now.program refusal.now.function refusal.now.pc
+        refusal.now.cause }
+    ensures { IfOk result (λ o. def.IsRefused refusal.now.program outline.now o) }
+{
+    let program = &refusal.program;
+    let function = refusal.function;
+    let pc = refusal.pc;
+    let cause = refusal.cause;
+    let remedy = remedy_for(alloc, refusal)?;
+    let mut bytes = Vec::new(alloc);
+    let sentence = outline.sentence(function, pc);
+    refused_lines(
+        alloc, &mut bytes, program, sentence, function, cause, remedy,
+    )?;
+    Told { outline, program }.say_detail(alloc, &mut bytes, function, pc, cause)?;
+    Ok(Explanation { bytes, status: 4 })
+}
+
+fn verdict(alloc: Global, outline: &Outline<'_>, program: Program) -> Made
     ensures { IfOk result (λ o. def.IsVerdict program outline.now o) }
 {
-    match verify(alloc, program) {
+    match judge(alloc, program)? {
         Ok(verified) => Told {
             outline,
             program: verified.program(),
         }
         .accepted(alloc),
-        Err(VerifyError::Memory(_)) => Err(AllocError),
-        Err(
-            VerifyError::Refused {
-                program,
-                function,
-                pc,
-                cause,
-            },
-        ) => Told {
-            outline,
-            program: &program,
-        }
-        .refused(alloc, function, pc, cause),
+        Err(refusal) => refused(alloc, outline, &refusal),
     }
 }
 

@@ -33,6 +33,9 @@ impl Model for Explanation {
     ghost view = { λ o. record { bytes = o.bytes.items; status = o.status } };
 }
 
+/// An explanation, if memory was enough for it.
+pub type Made = Result<Explanation, AllocError>;
+
 /// Why an explanation goes no further.
 #[derive(Drop)]
 pub enum ExplainError {
@@ -54,7 +57,7 @@ impl From<AllocError> for ExplainError {
 }
 
 /// The output for a fault of a text. Running out of memory is no fault of it.
-fn text_fault(alloc: Global, error: AsmError, text: &[u8]) -> Result<Explanation, AllocError>
+fn text_fault(alloc: Global, error: AsmError, text: &[u8]) -> Made
     ensures { (read : Result AnyProgram AsmError) → FailsAt error error.kind read
         → IfOk result (λ o. (read ≡ Err error) × (o ≡ def.fault_output error text.now)) }
 {

@@ -33,6 +33,9 @@ pub struct Heavy {
     pub shares: Vec<u128>,
 }
 
+/// The heaviest point, if one is found, and if memory was enough.
+pub type FoundHeavy = Result<Option<Heavy>, AllocError>;
+
 /// The weight of the trail up to a place.
 fn weigh(
     alloc: Global,
@@ -84,12 +87,7 @@ fn weight_over(resource: Resource, most: u128) -> Option<u128>
 }
 
 /// The point of the greatest sum, if its weight is over the limit.
-fn weigh_top(
-    alloc: Global,
-    search: &Search<'_>,
-    trail: &Trail,
-    top: Top,
-) -> Result<Option<Heavy>, AllocError>
+fn weigh_top(alloc: Global, search: &Search<'_>, trail: &Trail, top: Top) -> FoundHeavy
     requires ready { def.IsReady search.now }
     requires trail { trails.IsTrail search.now trail.now }
     requires lie { PointsLieOnPaths search.now.earlier.now search.now.code.now }
@@ -102,25 +100,8 @@ fn weigh_top(
     }
 }
 
-/// The heaviest point by a trail.
-fn heaviest_by(
-    alloc: Global,
-    search: &Search<'_>,
-    trail: &Trail,
-) -> Result<Option<Heavy>, AllocError>
-    requires ready { def.IsReady search.now }
-    requires trail { trails.IsTrail search.now trail.now }
-    requires lie { PointsLieOnPaths search.now.earlier.now search.now.code.now }
-    ensures { IfOk result (λ o. MatchOption o (IsNotTold search.now) (IsHeaviest search.now)) }
-{
-    match find_top(alloc, search, trail)? {
-        Some(top) => weigh_top(alloc, search, trail, top),
-        None => Ok(None),
-    }
-}
-
 /// The heaviest point that a search finds.
-fn heaviest_found(alloc: Global, search: &Search<'_>) -> Result<Option<Heavy>, AllocError>
+fn heaviest_found(alloc: Global, search: &Search<'_>) -> FoundHeavy
     requires ready { def.IsReady search.now }
     requires lie { PointsLieOnPaths search.now.earlier.now search.now.code.now }
     ensures { IfOk result (λ o. MatchOption o (IsNotTold search.now) (IsHeaviest search.now)) }
@@ -129,7 +110,10 @@ fn heaviest_found(alloc: Global, search: &Search<'_>) -> Result<Option<Heavy>, A
         Some(trail) => trail,
         None => return Ok(None),
     };
-    heaviest_by(alloc, search, &trail)
+    match find_top(alloc, search, &trail)? {
+        Some(top) => weigh_top(alloc, search, &trail, top),
+        None => Ok(None),
+    }
 }
 
 /// The heaviest point of the function, by the budgets of the functions before it.
@@ -139,7 +123,7 @@ fn heaviest_after(
     function: u32,
     resource: Resource,
     earlier: &[Budgets],
-) -> Result<Option<Heavy>, AllocError>
+) -> FoundHeavy
     requires in_program { function < length program.now.routines }
     requires typed { IsWellTyped program.now function }
     requires long { length earlier.now ≡ function }
@@ -166,12 +150,7 @@ fn heaviest_after(
 /// # Errors
 ///
 /// Memory ran out.
-pub fn heaviest(
-    alloc: Global,
-    program: &Program,
-    function: u32,
-    resource: Resource,
-) -> Result<Option<Heavy>, AllocError>
+pub fn heaviest(alloc: Global, program: &Program, function: u32, resource: Resource) -> FoundHeavy
     requires in_program { function < length program.now.routines }
     requires typed { IsWellTyped program.now function }
     requires sound { (g : ℕ) → g < function → IsSound program.now g }

@@ -26,6 +26,6 @@ pub mod ways;
 mod weights;
 
 pub use explaining::explain;
-pub use explanation::{ExplainError, Explanation, outline_of, program_of, write_explained};
+pub use explanation::{ExplainError, Explanation, Made, outline_of, program_of, write_explained};
 pub use remedy::{Remedy, label_remedy};
 pub use sentences::remedy_sentence;

@@ -36,16 +36,6 @@ pub(crate) fn is_same_part(part: Part, one: &TypeState, other: &TypeState) -> bo
     }
 }
 
-fn known_word(known: Known) -> &'static str
-    ensures { result.now ≡ def.known_word known }
-{
-    match known {
-        Known::Unknown => "unknown",
-        Known::Success => "success",
-        Known::Failed => "failed",
-    }
-}
-
 fn write_kind(out: &mut String, kind: SlotKind) -> Said
     ensures words { OnOk result (string_bytes out.new
         ≡ string_bytes out.old ++ def.kind_words kind) }
@@ -56,7 +46,11 @@ fn write_kind(out: &mut String, kind: SlotKind) -> Said
         SlotKind::Own => write!(out, " a scope"),
         SlotKind::Lent => write!(out, " the scope it is in"),
         SlotKind::Sub(slot, known) => {
-            let word = known_word(known);
+            let word = match known {
+                Known::Unknown => "unknown",
+                Known::Success => "success",
+                Known::Failed => "failed",
+            };
             write!(out, " {word}, of s{slot}")
         }
     }

@@ -10,7 +10,8 @@ ghost use Rattle.look_refusal.specs.Remedies as def;
 
 use crate::ways::state_at;
 use std::alloc::{AllocError, Global};
-use sts_code::{Instr, MAX_INSTRUCTIONS, Profile, Program, can_fail, code_of};
+use sts_code::{Instr, MAX_INSTRUCTIONS, Profile, can_fail, code_of};
+use sts_output::Refusal;
 use sts_rules::{Cause, SlotKind, TypedEntry, TypedPhase, TypedScope};
 use sts_types::TypeState;
 use sts_types::loops::CodeLoops;
@@ -219,22 +220,16 @@ fn busy_remedy(instr: Instr, state: &TypeState) -> Remedy
 
 // ---- V12
 
-fn unread_in(phase: TypedPhase) -> Remedy
-    ensures { result ≡ def.unread_in phase }
-{
-    match phase {
-        TypedPhase::Attempted => Remedy::ReadAfterInterrupt,
-        TypedPhase::Late => Remedy::ReadAfterTimeout,
-        _ => Remedy::ReadBeforeJoin,
-    }
-}
-
 fn unread(scope: Option<TypedScope>) -> Remedy
     ensures { result ≡ def.unread scope }
 {
-    match scope {
-        None => Remedy::ReadBeforeJoin,
-        Some(scope) => unread_in(scope.phase),
+    let Some(scope) = scope else {
+        return Remedy::ReadBeforeJoin;
+    };
+    match scope.phase {
+        TypedPhase::Attempted => Remedy::ReadAfterInterrupt,
+        TypedPhase::Late => Remedy::ReadAfterTimeout,
+        _ => Remedy::ReadBeforeJoin,
     }
 }
 
@@ -416,41 +411,25 @@ fn instr_here(code: &[Instr], pc: u32) -> Instr
     code[pc as usize]
 }
 
-/// What to do about a cause in the typestate that reaches its place.
-fn reached_remedy(
-    alloc: Global,
-    program: &Program,
-    function: u32,
-    pc: u32,
-    cause: Cause,
-) -> Result<Remedy, AllocError>
-    requires refusal { IsRefusal program.now function pc cause }
-    requires typed { def.fixed_remedy cause ≡ None }
-    ensures { IfOk result (λ r. def.IsRemedy program.now function pc cause r) }
-{
-    let state = state_at(alloc, program, function, pc)?;
-    let code = code_of(program, function as usize);
-    let instr = instr_here(code, pc);
-    Ok(typed_remedy(program.profile(), code, pc, instr, &state, cause))
-}
-
-/// What to do about the cause of a refusal.
+/// What to do about the cause of a refusal. It may depend on the typestate that reaches its place.
 ///
 /// # Errors
 ///
 /// Memory ran out.
-pub(crate) fn remedy_for(
-    alloc: Global,
-    program: &Program,
-    function: u32,
-    pc: u32,
-    cause: Cause,
-) -> Result<Remedy, AllocError>
-    requires { IsRefusal program.now function pc cause }
-    ensures { IfOk result (λ r. def.IsRemedy program.now function pc cause r) }
+pub(crate) fn remedy_for(alloc: Global, refusal: &Refusal) -> Result<Remedy, AllocError>
+    requires { IsRefusal refusal.now.program refusal.now.function refusal.now.pc
+        refusal.now.cause }
+    ensures { IfOk result (λ r. def.IsRemedy refusal.now.program refusal.now.function
+        refusal.now.pc refusal.now.cause r) }
 {
-    match fixed_remedy(cause) {
-        Some(remedy) => Ok(remedy),
-        None => reached_remedy(alloc, program, function, pc, cause),
+    let cause = refusal.cause;
+    if let Some(remedy) = fixed_remedy(cause) {
+        return Ok(remedy);
     }
+    let program = &refusal.program;
+    let pc = refusal.pc;
+    let state = state_at(alloc, program, refusal.function, pc)?;
+    let code = code_of(program, refusal.function as usize);
+    let instr = instr_here(code, pc);
+    Ok(typed_remedy(program.profile(), code, pc, instr, &state, cause))
 }

@@ -43,77 +43,43 @@ fn one_if(so: bool) -> usize
     if so { 1 } else { 0 }
 }
 
-/// Is the place one of those that add most, and does it add anything?
-fn is_shown(shares: &[u128], last: Option<usize>, this: usize) -> bool
-    requires last { IsLastShown shares.now last }
-    requires this { this < length shares.now }
-    ensures { result ≡ def.is_shown shares.now this }
-{
-    0 < shares[this] && !comes_after(shares, last, this)
-}
-
-/// Does the place add something, without being shown?
-fn is_other(shares: &[u128], last: Option<usize>, this: usize) -> bool
-    requires last { IsLastShown shares.now last }
-    requires this { this < length shares.now }
-    ensures { result ≡ def.is_other shares.now this }
-{
-    0 < shares[this] && !is_shown(shares, last, this)
-}
-
-/// How many others add something.
-fn others(shares: &[u128], last: Option<usize>) -> usize
-    requires { IsLastShown shares.now last }
-    ensures { result ≡ def.others shares.now }
-{
-    let mut count = 0;
-    for one in 0..shares.len() {
-        count += one_if(is_other(shares, last, one));
-    }
-    count
-}
-
-/// The line of a place that is shown.
-fn say_share(
-    alloc: Global,
-    out: &mut Vec<u8>,
-    outline: &Outline<'_>,
-    function: u32,
-    shares: &[u128],
+/// What the places of a function add, and the last place whose rank lets it be shown.
+#[derive(Clone, Copy)]
+struct Ranked<'s> {
+    shares: &'s [u128],
     last: Option<usize>,
-    place: usize,
-) -> Said
-    requires last { IsLastShown shares.now last }
-    requires place { place < length shares.now }
-    requires short { length shares.now ≤ MAX_INSTRUCTIONS }
-    ensures { OnOk result (out.new.items
-        ≡ out.old.items ++ def.share_line outline.now function shares.now place) }
-{
-    if !is_shown(shares, last, place) {
-        return Ok(());
-    }
-    say_number(alloc, out, "adds ", shares[place])?;
-    say_place(alloc, out, outline.sentence(function, place as u32))?;
-    say(out, "\n")
 }
 
-fn say_shares(
-    alloc: Global,
-    out: &mut Vec<u8>,
-    outline: &Outline<'_>,
-    function: u32,
-    shares: &[u128],
-    last: Option<usize>,
-) -> Said
-    requires last { IsLastShown shares.now last }
-    requires short { length shares.now ≤ MAX_INSTRUCTIONS }
-    ensures { OnOk result (out.new.items
-        ≡ out.old.items ++ def.share_lines outline.now function shares.now) }
-{
-    for place in 0..shares.len() {
-        say_share(alloc, out, outline, function, shares, last, place)?;
+impl Ranked<'_> {
+    /// Is the place one of those that add most, and does it add anything?
+    fn is_shown(self, this: usize) -> bool
+        requires last { IsLastShown self.shares.now self.last }
+        requires this { this < length self.shares.now }
+        ensures { result ≡ def.is_shown self.entry.shares.now this }
+    {
+        0 < self.shares[this] && !comes_after(self.shares, self.last, this)
     }
-    Ok(())
+
+    /// Does the place add something, without being shown?
+    fn is_other(self, this: usize) -> bool
+        requires last { IsLastShown self.shares.now self.last }
+        requires this { this < length self.shares.now }
+        ensures { result ≡ def.is_other self.entry.shares.now this }
+    {
+        0 < self.shares[this] && !self.is_shown(this)
+    }
+
+    /// How many others add something.
+    fn others(self) -> usize
+        requires { IsLastShown self.shares.now self.last }
+        ensures { result ≡ def.others self.entry.shares.now }
+    {
+        let mut count = 0;
+        for one in 0..self.shares.len() {
+            count += one_if(self.is_other(one));
+        }
+        count
+    }
 }
 
 fn say_others(alloc: Global, out: &mut Vec<u8>, count: usize) -> Said
@@ -127,22 +93,56 @@ fn say_others(alloc: Global, out: &mut Vec<u8>, count: usize) -> Said
     say(out, "\n")
 }
 
-/// The line that says what is over the limit, and where.
-fn say_weight(
-    alloc: Global,
-    out: &mut Vec<u8>,
-    outline: &Outline<'_>,
+/// A function, and the outline of its text.
+#[derive(Clone, Copy)]
+struct Listing<'a, 't> {
+    outline: &'a Outline<'t>,
     function: u32,
-    resource: Resource,
-    heavy: &Heavy,
-) -> Said
-    ensures { OnOk result (out.new.items
-        ≡ out.old.items ++ def.weight_line outline.now function resource heavy.now) }
-{
-    say_number(alloc, out, "", heavy.weight)?;
-    say(out, count_words(resource))?;
-    say_place(alloc, out, outline.sentence(function, heavy.place))?;
-    say(out, "\n")
+}
+
+impl Listing<'_, '_> {
+    /// The line of a place that is shown.
+    fn say_share(self, alloc: Global, out: &mut Vec<u8>, ranked: Ranked<'_>, at: usize) -> Said
+        requires last { IsLastShown ranked.shares.now ranked.last }
+        requires at { at < length ranked.shares.now }
+        requires short { length ranked.shares.now ≤ MAX_INSTRUCTIONS }
+        ensures { OnOk result (out.new.items ≡ out.old.items ++ def.share_line
+            self.entry.outline.now self.entry.function ranked.entry.shares.now at) }
+    {
+        if !ranked.is_shown(at) {
+            return Ok(());
+        }
+        say_number(alloc, out, "adds ", ranked.shares[at])?;
+        say_place(alloc, out, self.outline.sentence(self.function, at as u32))?;
+        say(out, "\n")
+    }
+
+    fn say_shares(self, alloc: Global, out: &mut Vec<u8>, ranked: Ranked<'_>) -> Said
+        requires last { IsLastShown ranked.shares.now ranked.last }
+        requires short { length ranked.shares.now ≤ MAX_INSTRUCTIONS }
+        ensures { OnOk result (out.new.items ≡ out.old.items ++ def.share_lines
+            self.entry.outline.now self.entry.function ranked.entry.shares.now) }
+    {
+        for at in 0..ranked.shares.len() {
+            self.say_share(alloc, out, ranked, at)?;
+        }
+        Ok(())
+    }
+
+    /// The line that says what is over the limit, and where.
+    fn say_weight(self, alloc: Global, out: &mut Vec<u8>, kind: Resource, heavy: &Heavy) -> Said
+        ensures { OnOk result (out.new.items ≡ out.old.items ++ def.weight_line
+            self.entry.outline.now self.entry.function kind heavy.now) }
+    {
+        say_number(alloc, out, "", heavy.weight)?;
+        say(out, count_words(kind))?;
+        say_place(
+            alloc,
+            out,
+            self.outline.sentence(self.function, heavy.place),
+        )?;
+        say(out, "\n")
+    }
 }
 
 /// A line that says what is over the limit, and a line for each of the instructions that add most
@@ -163,10 +163,14 @@ pub(crate) fn weight_lines(
     ensures { OnOk result (out.new.items
         ≡ out.old.items ++ def.weight_lines outline.now function resource heavy.now) }
 {
-    say_weight(alloc, out, outline, function, resource, heavy)?;
+    let listing = Listing { outline, function };
     let shares = heavy.shares.as_slice();
-    let last = last_shown(shares);
-    say_shares(alloc, out, outline, function, shares, last)?;
-    say_others(alloc, out, others(shares, last))?;
+    let ranked = Ranked {
+        shares,
+        last: last_shown(shares),
+    };
+    listing.say_weight(alloc, out, resource, heavy)?;
+    listing.say_shares(alloc, out, ranked)?;
+    say_others(alloc, out, ranked.others())?;
     say(out, own_line(resource))
 }

@@ -7,7 +7,7 @@ use Rattle.std.proofs.lemmas.List.Splits.{join_with_byte-slice_split}
 use Rattle.std.specs.List.{join_with_byte}
 use Rattle.sts_text.specs.Words.{is_newline, lines}
 use Rattle.sts_text.proofs.WordLemmas.{has_part}
-use Rattle.sts_output.specs.Joined.{Halves, halves, is_mark, after_line}
+use Rattle.sts_output.specs.Joined.{Halves, halves, halves_of, is_mark, after_line}
 
 -- a line and the text after its newline make up the text
 pub line_and_rest : (text line after : List ℕ) → lines text ≡ line ∷ lines after → text ≡ line ++ 10 ∷ after
@@ -61,4 +61,17 @@ reads_line input rest line after n r e =
         whole = all ∙ ap (λ xs. front ++ xs) (sym (append_assoc line (10 ∷ []) after)) ∙ sym (append_assoc front (line ++ 10 ∷ []) after) ∙ ap (λ xs. xs ++ after) (sym taken);
       },
       taken,
+    )
+
+-- the halves of an input, once a line more was read that isn't the mark
+pub splits_on : (input rest line after : List ℕ) (n : ℕ) → lines rest ≡ line ∷ lines after → is_mark line ≡ false → IsRead input n rest → (halves_of input).text ≡ take n input ++ (halves (lines rest)).text → (halves_of input).trace ≡ (halves (lines rest)).trace → IsRead input (n + (length line + 1)) after × ((halves_of input).text ≡ take (n + (length line + 1)) input ++ (halves (lines after)).text) × ((halves_of input).trace ≡ (halves (lines after)).trace)
+splits_on input rest line after n cut unmarked read text trace =
+    let later = before_mark rest line after cut unmarked in
+    let more = reads_line input rest line after n read (line_and_rest rest line after cut) in
+    let others = (halves (lines after)).text in (
+      more.0,
+      text ∙ ap (λ (h : Halves). take n input ++ h.text) later
+          ∙ sym (append_assoc (take n input) (line ++ 10 ∷ []) others ∙ ap (λ xs. take n input ++ xs) (append_assoc line (10 ∷ []) others))
+          ∙ ap (λ xs. xs ++ others) (sym more.1),
+      trace ∙ ap (λ (h : Halves). h.trace) later,
     )

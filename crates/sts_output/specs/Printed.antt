@@ -1,5 +1,6 @@
 -- The lines that the program prints (this project's own).
-use Rattle.std.specs.Prelude.{ℕ, List, ◌∷◌, [], ◌++◌, Option, Some, None, codes, slice_get}
+use Rattle.std.specs.Prelude.{ℕ, List, ◌∷◌, [], ◌++◌, Option, Some, None, codes, slice_get, Bool}
+use Rattle.std.specs.Prelude.{if◌then◌else◌}
 use Rattle.std.specs.Fmt.{decimal, signed_decimal}
 use Rattle.sts_code.specs.Checks.{cause_number}
 use Rattle.sts_code.specs.Program.{Program, Routine, routine}
@@ -67,6 +68,12 @@ fault_word fault.WrongThread = codes "WrongThread"
 fault_word fault.Structure = codes "Structure"
 fault_word fault.Operand = codes "Operand"
 fault_word fault.Unbound = codes "Unbound"
+
+-- why a task can't step, or why it can't be interrupted
+abbrev pub rest_words : Bool → Bool → List ℕ
+rest_words lives has_started =
+    if lives then codes " waits"
+    else (if has_started then codes " has ended" else codes " never starts")
 
 abbrev pub end_line : End → List ℕ
 end_line (Success v) = ended (codes "success " ++ signed_decimal v)

@@ -33,7 +33,7 @@ pub use placeholders::placeholder;
 pub use printed::{state_line, steps_line};
 pub use process_words::{WordsError, words};
 pub use reasons::{Named, outside_reason, text_reason, trace_reason};
-pub use refusal::{accepted, verified_of};
+pub use refusal::{Refusal, accepted, judge, verified_of};
 pub use shown::{line_at, say_shown};
 pub use sinks::{Sinks, made, spared};
 pub use sources::{Host, Sources, file};

@@ -11,6 +11,7 @@ use std::alloc::{AllocError, Global};
 use std::fmt::Write;
 use sts_code::Program;
 use sts_model::Event;
+use sts_output::printed;
 use sts_plain::{Position, can_step};
 use sts_world::{Records, World};
 
@@ -18,13 +19,7 @@ use sts_world::{Records, World};
 fn rest_words(records: &Records, t: u32) -> &'static str
     ensures { result.now ≡ def.rest_words records.now t }
 {
-    if records.lives(t) {
-        " waits"
-    } else if records.has_started(t) {
-        " has ended"
-    } else {
-        " never starts"
-    }
+    printed::rest_words(records.lives(t), records.has_started(t))
 }
 
 fn has_task(records: &Records, t: u32) -> bool
@@ -51,17 +46,6 @@ fn say_task(out: &mut String, records: &Records, t: u32) -> Result<(), AllocErro
     }
 }
 
-fn say_scope(out: &mut String, records: &Records, s: u32) -> Result<(), AllocError>
-    ensures { OnOk result (string_bytes out.new
-        ≡ string_bytes out.old ++ def.scope_reason records.now s) }
-{
-    if has_scope(records, s) {
-        write!(out, "scope {s} can't expire then")
-    } else {
-        write!(out, "there is no scope {s} then")
-    }
-}
-
 /// Appends why an event does nothing.
 fn say_reason(out: &mut String, records: &Records, event: Event) -> Result<(), AllocError>
     ensures { OnOk result (string_bytes out.new
@@ -69,7 +53,8 @@ fn say_reason(out: &mut String, records: &Records, event: Event) -> Result<(), A
 {
     match event {
         Event::Step(t) | Event::Interrupt(t) => say_task(out, records, t),
-        Event::Expire(s) => say_scope(out, records, s),
+        Event::Expire(s) if has_scope(records, s) => write!(out, "scope {s} can't expire then"),
+        Event::Expire(s) => write!(out, "there is no scope {s} then"),
     }
 }
 

@@ -6,7 +6,7 @@ use Rattle.look_accepted.proofs.notes.all_rules.Goals as goal
 pub loop-number-init : goal.loop-number-init
 loop-number-init c =
     noted_first c.args.program.now c.args.function c.args.nodes.now c.in_ok-rules.rules.items
-    (c.in_ok-rules.ensures ∙ ap (λ (code : List Instr). replicate (length code) None) c.code_of.ensures.value)
+    (c.in_ok-rules.ensures {u = tt} ∙ ap (λ (code : List Instr). replicate (length code) None) c.code_of.ensures.value)
 
 pub loop-number-preserved : goal.loop-number-preserved
 loop-number-preserved c =

@@ -1,8 +1,6 @@
-use Rattle.std.proofs.Common.{sym, subst}
 use Rattle.std.proofs.lemmas.Result.{IfOk-weaker}
-use Rattle.sts_budget.proofs.ReadyLemmas.{names_right, is_typed_ready}
-use Rattle.sts_types.specs.Typing.{IsTyping}
-use Rattle.look_refusal.proofs.PointLemmas.{of_function, on_paths}
+use Rattle.sts_budget.proofs.ReadyLemmas.{is_typed_ready}
+use Rattle.look_refusal.proofs.PointLemmas.{of_typed, on_paths}
 use Rattle.look_refusal.proofs.heavy.heaviest_after.Goals as goal
 
 pub heaviest_found-requires-clause-ready : goal.heaviest_found-requires-clause-ready
@@ -16,10 +14,13 @@ heaviest_found-requires-clause-lie c = on_paths c.args.program.now c.args.functi
 
 pub returns : goal.returns
 returns c =
-    let p = c.args.program.now in
-    let f = c.args.function in
-    let k = c.args.resource in
-    let ready = is_typed_ready p f c.args.earlier.now c.code_of-code.result.now c.lay_out-layout.result c.in_ok-typing.typing c.code_of-code.ensures.checked c.requires.in_program c.requires.long c.code_of-code.ensures.value c.lay_out-layout.ensures.typing (c.in_ok-typing.ensures {u = tt}) c.lay_out-layout.ensures.deepest in
-    let named = names_right p f c.lay_out-layout.result c.code_of-code.ensures.checked c.requires.in_program (subst (IsTyping p f) (sym c.lay_out-layout.ensures.typing) (c.in_ok-typing.ensures {u = tt})) in
     IfOk-weaker c.heaviest_found.result _ _
-    (of_function (record { resource = k; earlier = c.args.earlier; code = c.code_of-code.result; layout = record { ref_ptr = _; now = c.lay_out-layout.result } }) p f ready c.requires.long c.requires.right named c.code_of-code.ensures.value) c.heaviest_found.ensures
+    (of_typed (record {
+      resource = c.args.resource;
+      earlier = c.args.earlier;
+      code = c.code_of-code.result;
+      layout = record { ref_ptr = _; now = c.lay_out-layout.result };
+    })
+    c.args.program.now c.args.function c.in_ok-typing.typing c.code_of-code.ensures.checked c.requires.in_program c.requires.long c.requires.right
+    c.code_of-code.ensures.value c.lay_out-layout.ensures.typing (c.in_ok-typing.ensures {u = tt}) c.lay_out-layout.ensures.deepest)
+    c.heaviest_found.ensures

@@ -1,10 +1,10 @@
-use Rattle.std.proofs.Common.{refl, ap, ◌∙◌, arith}
+use Rattle.std.proofs.Common.{refl, ap, arith}
 use Rattle.sts_rules.specs.Around.{around}
 use Rattle.look_refusal.specs.declared.search.Spot.{Spot}
 use Rattle.look_refusal.specs.Search.{paths, flow}
 use Rattle.look_refusal.specs.Trail.{greatest_number}
-use Rattle.look_refusal.proofs.Backwards.{turn_in, loop_opens, turn_of_loop, turn_of_none, turn_spot, out_fits, out_rest, next_spot, rest_outside}
-use Rattle.look_refusal.proofs.Walking.{open_none, open_walked, open_out, whole_walk}
+use Rattle.look_refusal.proofs.Backwards.{turn_in, loop_opens, turn_of_loop, turn_of_none, turn_spot, out_fits, out_of_loop, rest_outside}
+use Rattle.look_refusal.proofs.Walking.{open_none, open_walked, whole_walk}
 use Rattle.look_refusal.proofs.walk.back_to_beginning.Goals as goal
 
 pub loop-head-init : goal.loop-head-init
@@ -58,19 +58,11 @@ loop-head-smaller c =
 
 pub loop-head-preserved : goal.loop-head-preserved
 loop-head-preserved c =
-    let ti = turn_of_loop c.args.search.now c.requires.ready c.args.trail.now c.requires.trail c.loop_from.result c.loop-head.at c.back-turn.result c.in-Some.head _ _ c.loop_from.ensures.head c.back-turn.ensures.begin c.head.ensures c.in-Some.is in
-    let at = c.loop-head.at in
-    let now = c.loop-head.shares in
-    let turn = c.back-turn.result in
-    let b = c.back-turn.ensures in
-    let inv = c.loop-head.invariant in
-    let out = c.back_out-at.ensures in (
-      open_out (paths c.args.search.now) (flow c.args.search.now) c.back_out-at.result turn c.args.to c.args.shares.now c.back-turn.new.shares c.back_out-at.new.shares (open_walked (paths c.args.search.now) (flow c.args.search.now) turn at c.args.to c.args.shares.now now c.back-turn.new.shares inv.0 b.walked) out.walked,
-      next_spot c.args.search.now c.requires.ready c.args.trail.now c.requires.trail c.loop_from.result at turn c.back_out-at.result c.back-turn.new.shares c.back_out-at.new.shares c.loop_from.ensures.right ti.0 out,
-      out.walked.1.1.long ∙ b.walked.1.1.long ∙ inv.2,
-      out.parts,
-      out_rest c.args.search.now c.requires.ready c.args.trail.now c.requires.trail c.loop_from.result at turn c.back_out-at.result now c.back-turn.new.shares c.back_out-at.new.shares c.loop_from.ensures.right ti.1 (ap (λ (x : Spot). x.depth) ti.0) b.total out ∙ inv.4,
-    )
+    let ti = turn_of_loop c.args.search.now c.requires.ready c.args.trail.now c.requires.trail c.loop_from.result c.loop-head.at
+    c.back-turn.result c.in-Some.head _ _ c.loop_from.ensures.head c.back-turn.ensures.begin c.head.ensures c.in-Some.is in
+    out_of_loop c.args.search.now c.requires.ready c.args.trail.now c.requires.trail c.loop_from.result c.loop-head.at c.args.to c.back-turn.result
+    c.back_out-at.result c.args.shares.now c.loop-head.shares c.back-turn.new.shares c.back_out-at.new.shares
+    c.loop_from.ensures.right ti c.back-turn.ensures c.back_out-at.ensures c.loop-head.invariant
 
 pub returns-in-None-clause-walk : goal.returns-in-None-clause-walk
 returns-in-None-clause-walk c =

@@ -1,15 +1,14 @@
-use Rattle.std.proofs.Common.{◌≡◌, true, false, ◌++◌, ◌∷◌, [], take, ap, sym, append_assoc}
-use Rattle.std.proofs.Common.{append-nil, ◌∙◌}
-use Rattle.sts_text.specs.Words.{lines}
-use Rattle.sts_output.specs.Joined.{Halves, halves, is_mark}
-use Rattle.sts_output.proofs.Splits.{line_and_rest, at_mark, before_mark, reads_line}
+use Rattle.std.proofs.Common.{◌≡◌, true, false, ◌++◌, take, ap, sym, append-nil, ◌∙◌}
+use Rattle.sts_output.specs.Joined.{Halves, is_mark}
+use Rattle.sts_output.proofs.Splits.{at_mark, splits_on}
 use Rattle.sts_output.proofs.joined.split.Goals as goal
 
 pub returns-then-eq : goal.returns-then-eq
 returns-then-eq c =
-    let marked : is_mark c.in-Some.line.now ≡ true =
-    sym (c.eq.ensures ∙ ap (λ xs. lib.Pointwise.pointwise lib.Dec.eqb c.in-Some.line.now xs) c.as_slice.ensures) ∙ c.if-eq.true in
-    let here = at_mark c.loop-line.rest.now c.in-Some.line.now c.in-Some.after.now c.in-Some.ensures.lines marked in
+    let line = c.in-Some.line.now in
+    let is = c.eq.ensures ∙ ap (λ xs. lib.Pointwise.pointwise lib.Dec.eqb line xs) c.as_slice.ensures in
+    let marked : is_mark line ≡ true = sym is ∙ c.if-eq.true in
+    let here = at_mark c.loop-line.rest.now line c.in-Some.after.now c.in-Some.ensures.lines marked in
     record {
       text = sym (c.loop-line.invariant.text ∙ ap (λ (h : Halves). take c.loop-line.before c.args.input.now ++ h.text) here ∙ append-nil _);
       trace = sym (c.loop-line.invariant.trace ∙ ap (λ (h : Halves). h.trace) here);
@@ -17,16 +16,10 @@ returns-then-eq c =
 
 pub loop-line-preserved : goal.loop-line-preserved
 loop-line-preserved c =
-    let unmarked : is_mark c.in-Some.line.now ≡ false = sym (c.eq.ensures ∙ ap (λ xs. lib.Pointwise.pointwise lib.Dec.eqb c.in-Some.line.now xs) c.as_slice.ensures) ∙ c.if-eq.false in
-    let later = before_mark c.loop-line.rest.now c.in-Some.line.now c.in-Some.after.now c.in-Some.ensures.lines unmarked in
-    let one = line_and_rest c.loop-line.rest.now c.in-Some.line.now c.in-Some.after.now c.in-Some.ensures.lines in
-    let more = reads_line c.args.input.now c.loop-line.rest.now c.in-Some.line.now c.in-Some.after.now c.loop-line.before c.loop-line.invariant.read one in
-    let rest = (halves (lines c.in-Some.after.now)).text in
-    record {
-      read = more.0;
-      text =
-          c.loop-line.invariant.text ∙ ap (λ (h : Halves). take c.loop-line.before c.args.input.now ++ h.text) later
-          ∙ sym (append_assoc (take c.loop-line.before c.args.input.now) (c.in-Some.line.now ++ 10 ∷ []) rest ∙ ap (λ xs. take c.loop-line.before c.args.input.now ++ xs) (append_assoc c.in-Some.line.now (10 ∷ []) rest))
-          ∙ ap (λ xs. xs ++ rest) (sym more.1);
-      trace = c.loop-line.invariant.trace ∙ ap (λ (h : Halves). h.trace) later;
-    }
+    let so_far = c.loop-line.invariant in
+    let line = c.in-Some.line.now in
+    let is = c.eq.ensures ∙ ap (λ xs. lib.Pointwise.pointwise lib.Dec.eqb line xs) c.as_slice.ensures in
+    let unmarked : is_mark line ≡ false = sym is ∙ c.if-eq.false in
+    let on = splits_on c.args.input.now c.loop-line.rest.now line c.in-Some.after.now c.loop-line.before
+    c.in-Some.ensures.lines unmarked so_far.read so_far.text so_far.trace in
+    record { read = on.0; text = on.1; trace = on.2 }

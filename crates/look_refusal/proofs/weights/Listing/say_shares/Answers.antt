@@ -2,12 +2,12 @@ use Rattle.std.proofs.Common.{ℕ, List, ◌++◌, ◌∙◌, ap, sym, append_as
 use Rattle.std.specs.List.{flat_map, range_with_len}
 use Rattle.look_refusal.specs.Weights.{share_line}
 use Rattle.look_refusal.proofs.WeightLemmas.{one_more}
-use Rattle.look_refusal.proofs.weights.say_shares.Goals as goal
+use Rattle.look_refusal.proofs.weights.Listing.say_shares.Goals as goal
 
-pub loop-place-preserved : goal.loop-place-preserved
-loop-place-preserved c =
+pub loop-at-preserved : goal.loop-at-preserved
+loop-at-preserved c =
     let before : List ℕ = c.args.out.now.items in
-    let line : ℕ → List ℕ = share_line c.args.outline.now c.args.function c.args.shares.now in
-    let at = c.loop-place.place in
-    c.in_ok-say_share.ensures ∙ ap (λ (xs : List ℕ). xs ++ line at) c.loop-place.invariant
+    let line : ℕ → List ℕ = share_line c.args.self.outline.now c.args.self.function c.args.ranked.shares.now in
+    let at = c.loop-at.at in
+    c.in_ok-say_share.ensures ∙ ap (λ (xs : List ℕ). xs ++ line at) c.loop-at.invariant
     ∙ append_assoc before (flat_map line (range_with_len 0 at)) (line at) ∙ ap (λ (xs : List ℕ). before ++ xs) (sym (one_more line at))
