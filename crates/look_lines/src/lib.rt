@@ -12,7 +12,7 @@ mod views;
 mod watch;
 
 pub use form::{Form, Run};
-pub use naming::{Naming, Plain};
+pub use naming::{Naming, Plain, Said};
 pub use of_text::{shown, write_run};
 pub use others::{closed, resting};
 pub use scopes::{phase_word, scope_place};

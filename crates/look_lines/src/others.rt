@@ -5,8 +5,8 @@ ghost use Rattle.std.specs.String.{string_bytes};
 ghost use Rattle.sts_code.specs.declared.limits.TheConstants.{MAX_BIRTHS};
 ghost use Rattle.look_lines.specs.Lines as def;
 
+use crate::naming::Said;
 use look_options::ViewOptions;
-use std::alloc::AllocError;
 use std::fmt::Write;
 use sts_world::Records;
 
@@ -43,7 +43,7 @@ fn counted_word(n: usize, one: &'static str, several: &'static str) -> &'static 
     if n == 1 { one } else { several }
 }
 
-fn others_line(out: &mut String, tasks: usize, scopes: usize) -> Result<(), AllocError>
+fn others_line(out: &mut String, tasks: usize, scopes: usize) -> Said
     ensures { OnOk result (string_bytes out.new
         ≡ string_bytes out.old ++ def.others_line tasks scopes) }
 {
@@ -56,7 +56,7 @@ fn others_line(out: &mut String, tasks: usize, scopes: usize) -> Result<(), Allo
 }
 
 /// How many tasks don't live, and how many scopes are closed, if those have no line.
-pub fn others(out: &mut String, wanted: ViewOptions, records: &Records) -> Result<(), AllocError>
+pub fn others(out: &mut String, wanted: ViewOptions, records: &Records) -> Said
     ensures { OnOk result (string_bytes out.new
         ≡ string_bytes out.old ++ def.others wanted records.now) }
 {

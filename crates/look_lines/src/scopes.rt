@@ -5,17 +5,16 @@ ghost use Rattle.std.specs.String.{string_bytes};
 ghost use Rattle.sts_model.specs.World as model;
 ghost use Rattle.look_lines.specs.Lines as def;
 
-use crate::naming::Naming;
+use crate::naming::{Naming, Said};
 use crate::tasks::{end_words, ended_by};
 use look_options::ViewOptions;
-use std::alloc::AllocError;
 use std::fmt::Write;
 use sts_list::write_joiner;
 use sts_model::{Completion, Phase};
 use sts_world::Records;
 
 /// Writes a word if `holds` is true.
-fn only_if(out: &mut String, holds: bool, word: &str) -> Result<(), AllocError>
+fn only_if(out: &mut String, holds: bool, word: &str) -> Said
     ensures { OnOk result (string_bytes out.new
         ≡ string_bytes out.old ++ def.only_if holds word.now) }
 {
@@ -40,7 +39,7 @@ pub fn phase_word(phase: Phase) -> &'static str
 /// # Errors
 ///
 /// Memory ran out; `out` may then have a part of it.
-pub fn scope_place(out: &mut String, records: &Records, s: u32) -> Result<(), AllocError>
+pub fn scope_place(out: &mut String, records: &Records, s: u32) -> Said
     ensures { OnOk result (string_bytes out.new
         ≡ string_bytes out.old ++ def.scope_place s (model.scope_at records.now s)) }
 {
@@ -50,7 +49,7 @@ pub fn scope_place(out: &mut String, records: &Records, s: u32) -> Result<(), Al
 }
 
 /// The phase of a scope, and its marks.
-fn scope_marks(out: &mut String, records: &Records, s: u32) -> Result<(), AllocError>
+fn scope_marks(out: &mut String, records: &Records, s: u32) -> Said
     ensures { OnOk result (string_bytes out.new
         ≡ string_bytes out.old ++ def.scope_marks (model.scope_at records.now s)) }
 {
@@ -63,7 +62,7 @@ fn scope_marks(out: &mut String, records: &Records, s: u32) -> Result<(), AllocE
 }
 
 /// `told T success V` or `told T failed C`
-fn told_line<N: Naming>(out: &mut String, naming: &N, told: Completion) -> Result<(), AllocError>
+fn told_line<N: Naming>(out: &mut String, naming: &N, told: Completion) -> Said
     ensures { OnOk result (string_bytes out.new
         ≡ string_bytes out.old ++ def.told_line (N.names naming.now) told) }
 {
@@ -74,11 +73,7 @@ fn told_line<N: Naming>(out: &mut String, naming: &N, told: Completion) -> Resul
 }
 
 /// The ends that a joiner was told of.
-fn told_lines<N: Naming>(
-    out: &mut String,
-    naming: &N,
-    completions: &[Completion],
-) -> Result<(), AllocError>
+fn told_lines<N: Naming>(out: &mut String, naming: &N, completions: &[Completion]) -> Said
     ensures { OnOk result (string_bytes out.new
         ≡ string_bytes out.old ++ def.told_lines (N.names naming.now) completions.now) }
 {
@@ -95,7 +90,7 @@ fn scope_block<N: Naming>(
     wanted: ViewOptions,
     records: &Records,
     s: u32,
-) -> Result<(), AllocError>
+) -> Said
     ensures { OnOk result (string_bytes out.new ≡ string_bytes out.old ++ def.scope_block
         (N.names naming.now) wanted s (model.scope_at records.now s)) }
 {
@@ -120,7 +115,7 @@ pub fn scope_lines<N: Naming>(
     naming: &N,
     wanted: ViewOptions,
     records: &Records,
-) -> Result<(), AllocError>
+) -> Said
     ensures { OnOk result (string_bytes out.new ≡ string_bytes out.old ++ def.scope_lines
         (N.names naming.now) wanted records.now records.now.scopes 0) }
 {

@@ -7,17 +7,23 @@ ghost use Rattle.sts_model.specs.World as model;
 ghost use Rattle.sts_output.specs.Printed.{ended};
 ghost use Rattle.look_lines.specs.Lines as def;
 
-use crate::naming::{Naming, Plain};
+use crate::naming::{Naming, Plain, Said};
 use look_options::ViewOptions;
-use std::alloc::AllocError;
 use std::fmt::Write;
 use sts_code::Program;
 use sts_model::{End, Stand};
 use sts_plain::{can_step, stand_at};
 use sts_world::{Records, World};
 
+/// A world, and the program that it runs.
+#[derive(Clone, Copy)]
+struct Standing<'w> {
+    program: &'w Program,
+    world: &'w World,
+}
+
 /// Writes a word if `holds` is true, and the line's end.
-pub(crate) fn ended_by(out: &mut String, holds: bool, word: &str) -> Result<(), AllocError>
+pub(crate) fn ended_by(out: &mut String, holds: bool, word: &str) -> Said
     ensures { OnOk result (string_bytes out.new
         ≡ string_bytes out.old ++ ended (def.only_if holds word.now)) }
 {
@@ -29,11 +35,7 @@ pub(crate) fn ended_by(out: &mut String, holds: bool, word: &str) -> Result<(), 
 }
 
 /// How a task ended.
-pub(crate) fn end_words<N: Naming>(
-    out: &mut String,
-    naming: &N,
-    end: Option<End>,
-) -> Result<(), AllocError>
+pub(crate) fn end_words<N: Naming>(out: &mut String, naming: &N, end: Option<End>) -> Said
     ensures { OnOk result (string_bytes out.new
         ≡ string_bytes out.old ++ def.end_words (N.names naming.now) end) }
 {
@@ -51,7 +53,7 @@ pub(crate) fn end_words<N: Naming>(
 }
 
 /// What a task that can't step waits for.
-fn wait_words(out: &mut String, stand: Stand) -> Result<(), AllocError>
+fn wait_words(out: &mut String, stand: Stand) -> Said
     ensures { OnOk result (string_bytes out.new ≡ string_bytes out.old ++ def.wait_words stand) }
 {
     match stand {
@@ -72,12 +74,7 @@ pub fn is_heard(world: &World, t: u32) -> bool
 }
 
 /// How a task ended that was started.
-fn ended_words<N: Naming>(
-    out: &mut String,
-    naming: &N,
-    world: &World,
-    t: u32,
-) -> Result<(), AllocError>
+fn ended_words<N: Naming>(out: &mut String, naming: &N, world: &World, t: u32) -> Said
     ensures { OnOk result (string_bytes out.new
         ≡ string_bytes out.old ++ def.ended_words (N.names naming.now) world.now t) }
 {
@@ -88,12 +85,7 @@ fn ended_words<N: Naming>(
 }
 
 /// The state of a task that doesn't live.
-fn rest_words<N: Naming>(
-    out: &mut String,
-    naming: &N,
-    world: &World,
-    t: u32,
-) -> Result<(), AllocError>
+fn rest_words<N: Naming>(out: &mut String, naming: &N, world: &World, t: u32) -> Said
     ensures { OnOk result (string_bytes out.new
         ≡ string_bytes out.old ++ def.rest_words (N.names naming.now) world.now t) }
 {
@@ -105,24 +97,19 @@ fn rest_words<N: Naming>(
 }
 
 /// The state of a task: ready, what it waits for, or how it ended.
-fn state_words<N: Naming>(
-    out: &mut String,
-    naming: &N,
-    program: &Program,
-    world: &World,
-    t: u32,
-) -> Result<(), AllocError>
-    requires { t < length world.now.tasks }
+fn state_words<N: Naming>(out: &mut String, naming: &N, at: Standing<'_>, t: u32) -> Said
+    requires { t < length at.world.now.tasks }
     ensures { OnOk result (string_bytes out.new ≡ string_bytes out.old
-        ++ def.state_words (N.names naming.now) program.now world.now t) }
+        ++ def.state_words (N.names naming.now) at.entry.program.now at.entry.world.now t) }
 {
+    let world = at.world;
     if !world.records().lives(t) {
         return rest_words(out, naming, world, t);
     }
-    if can_step(world, program, t) {
+    if can_step(world, at.program, t) {
         return write!(out, " ready");
     }
-    wait_words(out, stand_at(world, program, t))
+    wait_words(out, stand_at(world, at.program, t))
 }
 
 /// Appends the state of a task without names of a text.
@@ -130,17 +117,12 @@ fn state_words<N: Naming>(
 /// # Errors
 ///
 /// Memory ran out; `out` may then have a part of it.
-pub fn stand_words(
-    out: &mut String,
-    program: &Program,
-    world: &World,
-    t: u32,
-) -> Result<(), AllocError>
+pub fn stand_words(out: &mut String, program: &Program, world: &World, t: u32) -> Said
     requires { t < length world.now.tasks }
     ensures { OnOk result (string_bytes out.new
         ≡ string_bytes out.old ++ def.stand_words program.now world.now t) }
 {
-    state_words(out, &Plain, program, world, t)
+    state_words(out, &Plain, Standing { program, world }, t)
 }
 
 /// The scope that a task is a subtask of, or `-` for the root.
@@ -148,7 +130,7 @@ pub fn stand_words(
 /// # Errors
 ///
 /// Memory ran out; `out` may then have a part of it.
-pub fn under_words(out: &mut String, scope: Option<u32>) -> Result<(), AllocError>
+pub fn under_words(out: &mut String, scope: Option<u32>) -> Said
     ensures { OnOk result (string_bytes out.new ≡ string_bytes out.old ++ def.under_words scope) }
 {
     match scope {
@@ -164,7 +146,7 @@ fn task_place<N: Naming>(
     program: &Program,
     records: &Records,
     t: u32,
-) -> Result<(), AllocError>
+) -> Said
     ensures { OnOk result (string_bytes out.new ≡ string_bytes out.old
         ++ def.task_place (N.names naming.now) program.now records.now t) }
 {
@@ -178,38 +160,26 @@ fn task_place<N: Naming>(
 }
 
 /// The state of a task, and whether an interrupt is pending.
-fn task_stand<N: Naming>(
-    out: &mut String,
-    naming: &N,
-    program: &Program,
-    world: &World,
-    t: u32,
-) -> Result<(), AllocError>
-    requires { t < length world.now.tasks }
+fn task_stand<N: Naming>(out: &mut String, naming: &N, at: Standing<'_>, t: u32) -> Said
+    requires { t < length at.world.now.tasks }
     ensures { OnOk result (string_bytes out.new ≡ string_bytes out.old
-        ++ def.task_stand (N.names naming.now) program.now world.now t) }
+        ++ def.task_stand (N.names naming.now) at.entry.program.now at.entry.world.now t) }
 {
-    state_words(out, naming, program, world, t)?;
-    ended_by(out, world.records().flag(t), " interrupted")
+    state_words(out, naming, at, t)?;
+    ended_by(out, at.world.records().flag(t), " interrupted")
 }
 
-fn task_line<N: Naming>(
-    out: &mut String,
-    naming: &N,
-    program: &Program,
-    world: &World,
-    t: u32,
-) -> Result<(), AllocError>
-    requires { t < length world.now.tasks }
+fn task_line<N: Naming>(out: &mut String, naming: &N, at: Standing<'_>, t: u32) -> Said
+    requires { t < length at.world.now.tasks }
     ensures { OnOk result (string_bytes out.new ≡ string_bytes out.old
-        ++ def.task_line (N.names naming.now) program.now world.now t) }
+        ++ def.task_line (N.names naming.now) at.entry.program.now at.entry.world.now t) }
 {
-    task_place(out, naming, program, world.records(), t)?;
-    task_stand(out, naming, program, world, t)
+    task_place(out, naming, at.program, at.world.records(), t)?;
+    task_stand(out, naming, at, t)
 }
 
 /// A value after a blank.
-fn operand_words<N: Naming>(out: &mut String, naming: &N, value: i64) -> Result<(), AllocError>
+fn operand_words<N: Naming>(out: &mut String, naming: &N, value: i64) -> Said
     ensures { OnOk result (string_bytes out.new
         ≡ string_bytes out.old ++ def.operand_words (N.names naming.now) value) }
 {
@@ -218,11 +188,7 @@ fn operand_words<N: Naming>(out: &mut String, naming: &N, value: i64) -> Result<
 }
 
 /// The operands, the top last.
-fn operands_line<N: Naming>(
-    out: &mut String,
-    naming: &N,
-    operands: &[i64],
-) -> Result<(), AllocError>
+fn operands_line<N: Naming>(out: &mut String, naming: &N, operands: &[i64]) -> Said
     ensures { OnOk result (string_bytes out.new ≡ string_bytes out.old
         ++ def.operands_line (N.names naming.now) (reverse operands.now)) }
 {
@@ -234,12 +200,7 @@ fn operands_line<N: Naming>(
 }
 
 /// ` N=V`
-fn pair_words<N: Naming>(
-    out: &mut String,
-    naming: &N,
-    n: usize,
-    value: i64,
-) -> Result<(), AllocError>
+fn pair_words<N: Naming>(out: &mut String, naming: &N, n: usize, value: i64) -> Said
     ensures { OnOk result (string_bytes out.new
         ≡ string_bytes out.old ++ def.pair_words (N.names naming.now) n value) }
 {
@@ -248,12 +209,7 @@ fn pair_words<N: Naming>(
 }
 
 /// The value of a local, unless it is 0.
-fn local_words<N: Naming>(
-    out: &mut String,
-    naming: &N,
-    x: usize,
-    value: i64,
-) -> Result<(), AllocError>
+fn local_words<N: Naming>(out: &mut String, naming: &N, x: usize, value: i64) -> Said
     ensures { OnOk result (string_bytes out.new
         ≡ string_bytes out.old ++ def.local_word (N.names naming.now) x value) }
 {
@@ -265,7 +221,7 @@ fn local_words<N: Naming>(
 }
 
 /// The locals that aren't 0.
-fn locals_line<N: Naming>(out: &mut String, naming: &N, locals: &[i64]) -> Result<(), AllocError>
+fn locals_line<N: Naming>(out: &mut String, naming: &N, locals: &[i64]) -> Said
     ensures { OnOk result (string_bytes out.new
         ≡ string_bytes out.old ++ def.locals_line (N.names naming.now) locals.now) }
 {
@@ -283,7 +239,7 @@ fn key_words<N: Naming>(
     records: &Records,
     t: u32,
     keys: &[u8],
-) -> Result<(), AllocError>
+) -> Said
     ensures { OnOk result (string_bytes out.new ≡ string_bytes out.old
         ++ def.key_words (N.names naming.now) records.now t keys.now) }
 {
@@ -296,12 +252,7 @@ fn key_words<N: Naming>(
 }
 
 /// The keys that are bound for a task, with the innermost values.
-fn bound_line<N: Naming>(
-    out: &mut String,
-    naming: &N,
-    records: &Records,
-    t: u32,
-) -> Result<(), AllocError>
+fn bound_line<N: Naming>(out: &mut String, naming: &N, records: &Records, t: u32) -> Said
     ensures { OnOk result (string_bytes out.new
         ≡ string_bytes out.old ++ def.bound_line (N.names naming.now) records.now t) }
 {
@@ -312,12 +263,7 @@ fn bound_line<N: Naming>(
 }
 
 /// The own state of a living task.
-fn frame_lines<N: Naming>(
-    out: &mut String,
-    naming: &N,
-    records: &Records,
-    t: u32,
-) -> Result<(), AllocError>
+fn frame_lines<N: Naming>(out: &mut String, naming: &N, records: &Records, t: u32) -> Said
     requires born { t < length records.now.tasks }
     requires lives { living.lives (model.task_at records.now t) ≡ true }
     ensures { OnOk result (string_bytes out.new
@@ -333,22 +279,22 @@ fn frame_lines<N: Naming>(
 fn task_block<N: Naming>(
     out: &mut String,
     naming: &N,
-    program: &Program,
+    at: Standing<'_>,
     wanted: ViewOptions,
-    world: &World,
     t: u32,
-) -> Result<(), AllocError>
-    requires { t < length world.now.tasks }
-    ensures { OnOk result (string_bytes out.new ≡ string_bytes out.old
-        ++ def.task_block (N.names naming.now) program.now wanted world.now t) }
+) -> Said
+    requires { t < length at.world.now.tasks }
+    ensures { OnOk result (string_bytes out.new ≡ string_bytes out.old ++ def.task_block
+        (N.names naming.now) at.entry.program.now wanted at.entry.world.now t) }
 {
-    let lives = world.records().lives(t);
+    let records = at.world.records();
+    let lives = records.lives(t);
     if wanted.living && !lives {
         return Ok(());
     }
-    task_line(out, naming, program, world, t)?;
+    task_line(out, naming, at, t)?;
     if wanted.full && lives {
-        frame_lines(out, naming, world.records(), t)?;
+        frame_lines(out, naming, records, t)?;
     }
     Ok(())
 }
@@ -364,12 +310,12 @@ pub fn task_lines<N: Naming>(
     program: &Program,
     wanted: ViewOptions,
     world: &World,
-) -> Result<(), AllocError>
+) -> Said
     ensures { OnOk result (string_bytes out.new ≡ string_bytes out.old ++ def.task_lines
         (N.names naming.now) program.now wanted world.now world.now.tasks 0) }
 {
     for t in 0..world.records().tasks_born() {
-        task_block(out, naming, program, wanted, world, t as u32)?;
+        task_block(out, naming, Standing { program, world }, wanted, t as u32)?;
     }
     Ok(())
 }

@@ -7,7 +7,7 @@ ghost use Rattle.look_lines.specs.Naming.{plain};
 ghost use Rattle.look_lines.specs.View as def;
 
 use crate::form::{Form, Run};
-use crate::naming::{Naming, Plain};
+use crate::naming::{Naming, Plain, Said};
 use crate::others::others;
 use crate::scopes::scope_lines;
 use crate::tasks::{ended_by, task_lines};
@@ -22,7 +22,7 @@ use sts_output::{Output, steps_line, text_fault, trace_fault};
 use sts_trace::TraceError;
 
 /// The state of the machine, and the steps that it took.
-fn run_lines<N: Naming>(out: &mut String, naming: &N, watch: &Watch<'_>) -> Result<(), AllocError>
+fn run_lines<N: Naming>(out: &mut String, naming: &N, watch: &Watch<'_>) -> Said
     ensures { OnOk result (string_bytes out.new
         ≡ string_bytes out.old ++ def.run_lines (N.names naming.now) watch.now) }
 {
@@ -30,51 +30,20 @@ fn run_lines<N: Naming>(out: &mut String, naming: &N, watch: &Watch<'_>) -> Resu
     steps_line(out, watch.steps())
 }
 
-/// The tasks and the scopes that are wanted, and how many others there are.
-fn stand_lines<N: Naming>(
-    out: &mut String,
-    naming: &N,
-    watch: &Watch<'_>,
-    wanted: ViewOptions,
-) -> Result<(), AllocError>
-    ensures { OnOk result (string_bytes out.new
-        ≡ string_bytes out.old ++ def.stand_lines (N.names naming.now) wanted watch.now) }
-{
-    let world = watch.world();
-    let records = world.records();
-    task_lines(out, naming, watch.program(), wanted, world)?;
-    scope_lines(out, naming, wanted, records)?;
-    others(out, wanted, records)
-}
-
-/// The state of the machine, the steps that it took, then the tasks and the scopes.
-fn state_lines<N: Naming>(
-    out: &mut String,
-    naming: &N,
-    watch: &Watch<'_>,
-    wanted: ViewOptions,
-) -> Result<(), AllocError>
-    ensures { OnOk result (string_bytes out.new
-        ≡ string_bytes out.old ++ def.state_lines (N.names naming.now) wanted watch.now) }
-{
-    run_lines(out, naming, watch)?;
-    stand_lines(out, naming, watch, wanted)
-}
-
 /// Appends the same without lines and names of a text.
 ///
 /// # Errors
 ///
 /// Memory ran out; `out` may then have a part of them.
-pub fn view_lines(
-    out: &mut String,
-    watch: &Watch<'_>,
-    wanted: ViewOptions,
-) -> Result<(), AllocError>
+pub fn view_lines(out: &mut String, watch: &Watch<'_>, wanted: ViewOptions) -> Said
     ensures { OnOk result (string_bytes out.new
         ≡ string_bytes out.old ++ def.view_lines wanted watch.now) }
 {
-    state_lines(out, &Plain, watch, wanted)
+    let lines = LinesView {
+        wanted,
+        naming: &Plain,
+    };
+    lines.state_lines(out, watch)
 }
 
 /// An event as a trace spells it.
@@ -82,7 +51,7 @@ pub fn view_lines(
 /// # Errors
 ///
 /// Memory ran out; `out` may then have a part of it.
-pub fn event_words(out: &mut String, event: Event) -> Result<(), AllocError>
+pub fn event_words(out: &mut String, event: Event) -> Said
     ensures { OnOk result (string_bytes out.new ≡ string_bytes out.old ++ event_text event) }
 {
     match event {
@@ -93,7 +62,7 @@ pub fn event_words(out: &mut String, event: Event) -> Result<(), AllocError>
 }
 
 /// `after N EVENT`, and `idle` if the event doesn't count.
-fn event_line(out: &mut String, applied: Applied) -> Result<(), AllocError>
+fn event_line(out: &mut String, applied: Applied) -> Said
     ensures { OnOk result (string_bytes out.new
         ≡ string_bytes out.old ++ def.event_line applied) }
 {
@@ -110,28 +79,39 @@ pub(crate) struct LinesView<'n, N> {
     pub naming: &'n N,
 }
 
+impl<'n, N: Naming> LinesView<'n, N> {
+    /// The tasks and the scopes that are wanted, and how many others there are.
+    fn stand_lines(&self, out: &mut String, watch: &Watch<'_>) -> Said
+        ensures { OnOk result (string_bytes out.new ≡ string_bytes out.old
+            ++ def.stand_lines (N.names self.now.naming.now) self.now.wanted watch.now) }
+    {
+        let world = watch.world();
+        let records = world.records();
+        task_lines(out, self.naming, watch.program(), self.wanted, world)?;
+        scope_lines(out, self.naming, self.wanted, records)?;
+        others(out, self.wanted, records)
+    }
+
+    /// The state of the machine, the steps that it took, then the tasks and the scopes.
+    fn state_lines(&self, out: &mut String, watch: &Watch<'_>) -> Said
+        ensures { OnOk result (string_bytes out.new ≡ string_bytes out.old
+            ++ def.state_lines (N.names self.now.naming.now) self.now.wanted watch.now) }
+    {
+        run_lines(out, self.naming, watch)?;
+        self.stand_lines(out, watch)
+    }
+}
+
 impl<'n, N: Naming> View for LinesView<'n, N> {
     ghost writes = { λ v. def.lines_view (N.names v.naming.now) v.wanted };
 
-    fn say_state(
-        &self,
-        _alloc: Global,
-        out: &mut String,
-        _number: usize,
-        watch: &Watch<'_>,
-    ) -> Result<(), AllocError> {
-        state_lines(out, self.naming, watch, self.wanted)
+    fn say_state(&self, out: &mut String, _number: usize, watch: &Watch<'_>) -> Said {
+        self.state_lines(out, watch)
     }
 
-    fn say_event(
-        &self,
-        _alloc: Global,
-        out: &mut String,
-        applied: Applied,
-        watch: &Watch<'_>,
-    ) -> Result<(), AllocError> {
+    fn say_event(&self, out: &mut String, applied: Applied, watch: &Watch<'_>) -> Said {
         event_line(out, applied)?;
-        state_lines(out, self.naming, watch, self.wanted)
+        self.state_lines(out, watch)
     }
 }
 

@@ -6,6 +6,7 @@ ghost use Rattle.look_lines.specs.Views as def;
 ghost use Rattle.look_lines.specs.Watched.{watched};
 
 use crate::form::Run;
+use crate::naming::Said;
 use crate::watch::{Applied, Watch};
 use std::alloc::{AllocError, Global};
 use sts_code::Program;
@@ -19,24 +20,12 @@ pub trait View {
     ghost writes: { Self → AnyView };
 
     /// Appends the state after this number of events.
-    fn say_state(
-        &self,
-        alloc: Global,
-        out: &mut String,
-        number: usize,
-        watch: &Watch<'_>,
-    ) -> Result<(), AllocError>
+    fn say_state(&self, out: &mut String, number: usize, watch: &Watch<'_>) -> Said
         ensures { OnOk result (string_bytes out.new
             ≡ string_bytes out.old ++ (writes self.now).state number watch.now) };
 
     /// Appends an event and the state after it.
-    fn say_event(
-        &self,
-        alloc: Global,
-        out: &mut String,
-        applied: Applied,
-        watch: &Watch<'_>,
-    ) -> Result<(), AllocError>
+    fn say_event(&self, out: &mut String, applied: Applied, watch: &Watch<'_>) -> Said
         ensures { OnOk result (string_bytes out.new
             ≡ string_bytes out.old ++ (writes self.now).event applied watch.now) };
 }
@@ -67,7 +56,7 @@ fn after_all<V: View>(alloc: Global, view: &V, run: Run<'_>) -> Result<Output, A
 {
     let watch = after(alloc, run.program, run.events)?;
     let mut text = String::new(alloc);
-    view.say_state(alloc, &mut text, run.events.len(), &watch)?;
+    view.say_state(&mut text, run.events.len(), &watch)?;
     Ok(Output {
         text,
         status: state_status(watch.state()),
@@ -81,7 +70,7 @@ fn say_events<V: View>(
     view: &V,
     watch: &mut Watch<'_>,
     events: &[Event],
-) -> Result<(), AllocError>
+) -> Said
     requires { watch.old ≡ watched watch.old.program [] }
     ensures stands { OnOk result (watch.new ≡ watched watch.old.program events.now) }
     ensures written { OnOk result (string_bytes out.new ≡ string_bytes out.old
@@ -89,7 +78,7 @@ fn say_events<V: View>(
 {
     for i in 0..events.len() {
         let applied = watch.apply_numbered(alloc, i + 1, events[i])?;
-        view.say_event(alloc, out, applied, watch)?;
+        view.say_event(out, applied, watch)?;
     }
     Ok(())
 }
@@ -101,7 +90,7 @@ fn after_each<V: View>(alloc: Global, view: &V, run: Run<'_>) -> Result<Output, 
 {
     let mut watch = Watch::start(alloc, run.program)?;
     let mut text = String::new(alloc);
-    view.say_state(alloc, &mut text, 0, &watch)?;
+    view.say_state(&mut text, 0, &watch)?;
     say_events(alloc, &mut text, view, &mut watch, run.events)?;
     Ok(Output {
         text,

@@ -7,6 +7,7 @@ ghost use Rattle.sts_model.specs.World as def;
 ghost use Rattle.sts_plain.specs.Seen.{is_fault, shown, state_of};
 ghost use Rattle.look_lines.specs.Watched.{after_event, watched};
 
+use crate::naming::Said;
 use std::alloc::{AllocError, Global};
 use std::marker::Model;
 use sts_code::Program;
@@ -154,7 +155,7 @@ impl<'p> Watch<'p> {
     /// # Errors
     ///
     /// Memory ran out; the machine is unchanged.
-    pub fn apply(&mut self, alloc: Global, event: Event) -> Result<(), AllocError>
+    pub fn apply(&mut self, alloc: Global, event: Event) -> Said
         ensures ok { OnOk result (self.new ≡ after_event self.old event) }
         ensures err { OnErr result (self.new ≡ self.old) }
     {

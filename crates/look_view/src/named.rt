@@ -6,9 +6,8 @@ ghost use Rattle.sts_model.specs.World as model;
 ghost use Rattle.look_names.specs.Words as words;
 ghost use Rattle.look_view.specs.Named as def;
 
-use look_lines::Naming;
+use look_lines::{Naming, Said};
 use look_names::Names;
-use std::alloc::AllocError;
 use std::fmt::Write;
 use sts_code::{Program, name_of};
 use sts_model::{End, Fault};
@@ -17,7 +16,7 @@ use sts_plain::PlainState;
 use sts_world::Records;
 
 /// Appends a line of the text: its name, or `line N`.
-fn say_line(out: &mut String, names: &Names<'_>, number: u32) -> Result<(), AllocError>
+fn say_line(out: &mut String, names: &Names<'_>, number: u32) -> Said
     ensures { OnOk result (string_bytes out.new
         ≡ string_bytes out.old ++ words.line_words names.now number) }
 {
@@ -28,7 +27,7 @@ fn say_line(out: &mut String, names: &Names<'_>, number: u32) -> Result<(), Allo
 }
 
 /// Appends the line of the instruction at a place, or `its end`.
-fn say_place(out: &mut String, names: &Names<'_>, function: u32, pc: u32) -> Result<(), AllocError>
+fn say_place(out: &mut String, names: &Names<'_>, function: u32, pc: u32) -> Said
     ensures { OnOk result (string_bytes out.new
         ≡ string_bytes out.old ++ words.place_words names.now function pc) }
 {
@@ -39,7 +38,7 @@ fn say_place(out: &mut String, names: &Names<'_>, function: u32, pc: u32) -> Res
 }
 
 /// Appends the line of the instruction at a place.
-fn at_line(out: &mut String, names: &Names<'_>, function: u32, pc: u32) -> Result<(), AllocError>
+fn at_line(out: &mut String, names: &Names<'_>, function: u32, pc: u32) -> Said
     ensures { OnOk result (string_bytes out.new ≡ string_bytes out.old
         ++ def.at_line names.now function pc) }
 {
@@ -48,7 +47,7 @@ fn at_line(out: &mut String, names: &Names<'_>, function: u32, pc: u32) -> Resul
 }
 
 /// Appends the line of the instruction before a place.
-fn after_line(out: &mut String, names: &Names<'_>, function: u32, pc: u32) -> Result<(), AllocError>
+fn after_line(out: &mut String, names: &Names<'_>, function: u32, pc: u32) -> Said
     ensures { OnOk result (string_bytes out.new ≡ string_bytes out.old
         ++ def.after_line names.now function pc) }
 {
@@ -63,7 +62,7 @@ fn has_ended(records: &Records, t: u32) -> bool
     records.has_started(t) && !records.lives(t)
 }
 
-fn end_line(out: &mut String, named: &Named<'_, '_>, end: End) -> Result<(), AllocError>
+fn end_line(out: &mut String, named: &Named<'_, '_>, end: End) -> Said
     ensures { OnOk result (string_bytes out.new
         ≡ string_bytes out.old ++ def.end_line named.now.names.now end) }
 {
@@ -89,7 +88,7 @@ fn fault_line(
     task: u32,
     function: u32,
     pc: u32,
-) -> Result<(), AllocError>
+) -> Said
     ensures { OnOk result (string_bytes out.new ≡ string_bytes out.old
         ++ def.fault_line named.now.names.now program.now kind task function pc) }
 {
@@ -110,26 +109,21 @@ pub struct Named<'n, 't> {
 impl<'n, 't> Naming for Named<'n, 't> {
     ghost names = { λ n. def.named n.names.now };
 
-    fn say_value(&self, out: &mut String, value: i64) -> Result<(), AllocError> {
+    fn say_value(&self, out: &mut String, value: i64) -> Said {
         match self.names.value(value) {
             Some(name) => write!(out, "{name}"),
             None => write!(out, "{value}"),
         }
     }
 
-    fn say_function(
-        &self,
-        out: &mut String,
-        program: &Program,
-        function: u32,
-    ) -> Result<(), AllocError> {
+    fn say_function(&self, out: &mut String, program: &Program, function: u32) -> Said {
         match self.names.function(function) {
             Some(name) => out.push_str(name),
             None => out.push_str(name_of(program, function)),
         }
     }
 
-    fn say_place(&self, out: &mut String, records: &Records, t: u32) -> Result<(), AllocError> {
+    fn say_place(&self, out: &mut String, records: &Records, t: u32) -> Said {
         let function = records.function(t);
         let pc = records.pc(t);
         if has_ended(records, t) {
@@ -139,12 +133,7 @@ impl<'n, 't> Naming for Named<'n, 't> {
         }
     }
 
-    fn say_state(
-        &self,
-        out: &mut String,
-        program: &Program,
-        state: PlainState,
-    ) -> Result<(), AllocError> {
+    fn say_state(&self, out: &mut String, program: &Program, state: PlainState) -> Said {
         match state {
             PlainState::Running => writeln!(out, "running"),
             PlainState::Ended(end) => end_line(out, self, end),

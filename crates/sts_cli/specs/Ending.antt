@@ -64,6 +64,12 @@ pub data IsOfRun (spares : Type 0) (file outside_file : Option (List ℕ)) (o : 
       → IsOfRun spares file outside_file o
   failed : (e : TakeError) → o ≡ failure_output e → IsOfRun spares file outside_file o
 
+-- the same, by the names of the three files
+abbrev pub IsOfFiles : Text → Option (Bor Text) → Option (Bor Text) → Files → SameFile → Output
+    → Type 0
+IsOfFiles file outside trace files same o =
+    IsOfRun (Spares same file outside trace) (files file) (events_of files outside) o
+
 -- what is printed for a line
 abbrev pub IsPlayed : Line → Files → SameFile → Option (List ℕ) → Output → Type 0
 IsPlayed line.Joined files same input o = IsOfInput input o
@@ -74,7 +80,13 @@ IsPlayed (line.Plain file trace) files same input o = IsOfTextAndTrace mode.Plai
 IsPlayed (line.Replay file trace) files same input o = IsOfTextAndTrace mode.Replay (files file.now)
     (files trace.now) o
 IsPlayed (line.Run file workers outside trace) files same input o =
-    IsOfRun (Spares same file.now outside trace) (files file.now) (events_of files outside) o
+    IsOfFiles file.now outside trace files same o
+
+-- the bytes of the two streams, before and after
+abbrev pub both_streams : Option (List ℕ) → Option (List ℕ) → Option (List ℕ) → Option (List ℕ)
+    → Streams
+both_streams out_old out_new err_old err_new =
+    record { out_old = out_old; out_new = out_new; err_old = err_old; err_new = err_new }
 
 -- The program writes what the line of the words asks for, and has its status. If the words ask for
 -- help, it writes a text with status 0. If they are mistaken, it writes a message with status 2.

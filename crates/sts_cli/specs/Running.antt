@@ -1,6 +1,6 @@
 -- The outcome of `run`: its output, and the journal that its trace spells (this project's own).
 use Rattle.std.specs.Prelude.{◌≡◌, ◌⊎◌, ℕ, List, [], ◌++◌, Result, Ok, Err}
-use Rattle.std.specs.Prelude.{Bool, true, count_by}
+use Rattle.std.specs.Prelude.{Bool, true, Option, count_by}
 use Rattle.sts_code.specs.Program.{Program}
 use Rattle.sts_model.specs.Run.{is_step, taken}
 use Rattle.sts_model.specs.declared.event.End.{End}
@@ -92,6 +92,16 @@ pub record IsReportOf (kept : Bool) (p : Program) (dues : List Due) (r : Report)
   pub held : kept ≡ true → r.journal.items ≡ journal
 
 -- ---- what is written
+
+-- the bytes of the trace and of the stream, before and after
+abbrev pub trace_and_output : Option (List ℕ) → Option (List ℕ) → Option (List ℕ) → Option (List ℕ)
+    → Written
+trace_and_output trace_old trace_new out_old out_new = record {
+  trace_old = trace_old;
+  trace_new = trace_new;
+  out_old = out_old;
+  out_new = out_new;
+}
 
 -- the journal is written to the trace, and the output to the stream
 abbrev pub RunWrites : Written → ℕ → Outcome → Type 0

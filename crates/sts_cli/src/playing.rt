@@ -6,7 +6,7 @@ ghost use Rattle.sts_trace.specs.Spelling.{trace_text};
 ghost use Rattle.sts_output.specs.Joined.{Halves, halves_of};
 ghost use Rattle.sts_output.specs.Output as def;
 ghost use Rattle.sts_output.specs.Stops.{Prints};
-ghost use Rattle.sts_cli.specs.Running.{IsOutcomeOf, Outcome, RunWrites};
+ghost use Rattle.sts_cli.specs.Running.{IsOutcomeOf, Outcome, RunWrites, trace_and_output};
 
 use crate::modes::run::{Manner, Ran};
 use crate::modes::{replay, run};
@@ -112,12 +112,8 @@ fn write_ran<T: Write, W: Write>(
     out: &mut W,
     aside: &mut Aside,
 ) -> Result<u8, WriteFailed>
-    ensures { IfOk result (λ s. RunWrites (record {
-      trace_old = T.contents trace.old;
-      trace_new = T.contents trace.new;
-      out_old = W.contents out.old;
-      out_new = W.contents out.new;
-    }) s ran.old) }
+    ensures { IfOk result (λ s. RunWrites (trace_and_output (T.contents trace.old) (T.contents trace.new)
+        (W.contents out.old) (W.contents out.new)) s ran.old) }
 {
     match traced(ran.journal.as_slice(), trace) {
         Ok(()) => print_ran(ran, out, aside),
@@ -128,6 +124,14 @@ fn write_ran<T: Write, W: Write>(
     }
 }
 
+/// A text that is run with an outside text, and the number of workers.
+#[derive(Clone, Copy)]
+pub(crate) struct Job<'a> {
+    pub(crate) text: &'a [u8],
+    pub(crate) outside: &'a [u8],
+    pub(crate) workers: u32,
+}
+
 /// Does what `play_run` does if no trace is asked for. No journal is kept.
 ///
 /// # Errors
@@ -136,21 +140,19 @@ fn write_ran<T: Write, W: Write>(
 pub(crate) fn play_untraced<R: Threads + Wait + Sync, W: Write>(
     rt: &R,
     alloc: Global,
-    text: &[u8],
-    workers: u32,
-    outside: &[u8],
+    job: Job<'_>,
     out: &mut W,
     aside: &mut Aside,
 ) -> Result<u8, WriteFailed>
-    requires { (1 ≤ workers) × (workers ≤ 16) }
-    ensures { IfOk result (λ s. (o : Outcome) × IsOutcomeOf text.now outside.now o
+    requires { (1 ≤ job.workers) × (job.workers ≤ 16) }
+    ensures { IfOk result (λ s. (o : Outcome) × IsOutcomeOf job.entry.text.now job.entry.outside.now o
         × def.Writes (W.contents out.old) (W.contents out.new) s o.output) }
 {
     let manner = Manner {
-        workers,
+        workers: job.workers,
         kept: false,
     };
-    match run::outcome(rt, alloc, text, manner, outside) {
+    match run::outcome(rt, alloc, job.text, manner, job.outside) {
         Ok(mut ran) => print_ran(&mut ran, out, aside),
         Err(_) => failed(TakeError::Memory, out),
     }
@@ -160,27 +162,21 @@ pub(crate) fn play_untraced<R: Threads + Wait + Sync, W: Write>(
 pub(crate) fn play_traced<R: Threads + Wait + Sync, T: Write, W: Write>(
     rt: &R,
     alloc: Global,
-    text: &[u8],
-    workers: u32,
-    outside: &[u8],
+    job: Job<'_>,
     trace: &mut T,
     out: &mut W,
     aside: &mut Aside,
 ) -> Result<u8, WriteFailed>
-    requires { (1 ≤ workers) × (workers ≤ 16) }
-    ensures { IfOk result (λ s. (o : Outcome) × IsOutcomeOf text.now outside.now o
-        × RunWrites (record {
-          trace_old = T.contents trace.old;
-          trace_new = T.contents trace.new;
-          out_old = W.contents out.old;
-          out_new = W.contents out.new;
-        }) s o) }
+    requires { (1 ≤ job.workers) × (job.workers ≤ 16) }
+    ensures { IfOk result (λ s. (o : Outcome) × IsOutcomeOf job.entry.text.now job.entry.outside.now o
+        × RunWrites (trace_and_output (T.contents trace.old) (T.contents trace.new)
+        (W.contents out.old) (W.contents out.new)) s o) }
 {
     let manner = Manner {
-        workers,
+        workers: job.workers,
         kept: true,
     };
-    match run::outcome(rt, alloc, text, manner, outside) {
+    match run::outcome(rt, alloc, job.text, manner, job.outside) {
         Ok(mut ran) => write_ran(&mut ran, trace, out, aside),
         Err(_) => failed(TakeError::Memory, out),
     }
@@ -206,21 +202,13 @@ pub fn play_run<R: Threads + Wait + Sync, T: Write, W: Write>(
 ) -> Result<u8, WriteFailed>
     requires { (1 ≤ workers) × (workers ≤ 16) }
     ensures { IfOk result (λ s. (o : Outcome) × IsOutcomeOf text.now outside.now o
-        × RunWrites (record {
-          trace_old = T.contents trace.old;
-          trace_new = T.contents trace.new;
-          out_old = W.contents out.old;
-          out_new = W.contents out.new;
-        }) s o) }
+        × RunWrites (trace_and_output (T.contents trace.old) (T.contents trace.new)
+        (W.contents out.old) (W.contents out.new)) s o) }
 {
-    play_traced(
-        rt,
-        alloc,
+    let job = Job {
         text,
-        workers,
         outside,
-        trace,
-        out,
-        &mut Aside::new(),
-    )
+        workers,
+    };
+    play_traced(rt, alloc, job, trace, out, &mut Aside::new())
 }

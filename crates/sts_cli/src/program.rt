@@ -9,9 +9,9 @@ ghost use Rattle.sts_args.specs.Refused.{Refuses};
 ghost use Rattle.sts_cli.specs.Ending as def;
 ghost use Rattle.sts_output.specs.Joined.{halves_of};
 ghost use Rattle.sts_output.specs.Output.{IsOutputOf, Output, Writes};
-ghost use Rattle.sts_output.specs.Streams.{Files as AnyFiles, SameFile, events_of, same_file};
+ghost use Rattle.sts_output.specs.Streams.{Files as AnyFiles, SameFile, same_file};
 
-use crate::playing::{Aside, play, play_traced, play_untraced};
+use crate::playing::{Aside, Job, play, play_traced, play_untraced};
 use crate::remarks::remark_outside;
 use std::alloc::{AllocError, Global};
 use std::io::{Input, Write};
@@ -172,8 +172,8 @@ fn on_texts<R: Threads + Wait + Sync, S: Sinks, W: Write>(
     rt: &R,
     alloc: Global,
     sinks: &mut S,
-    texts: &Texts,
     wanted: RunRequest<'_>,
+    texts: &Texts,
     out: &mut W,
     notes: &mut Notes,
     aside: &mut Aside,
@@ -187,13 +187,15 @@ fn on_texts<R: Threads + Wait + Sync, S: Sinks, W: Write>(
         × Writes (W.contents out.old) (W.contents out.new) s o) }
 {
     let (program, outside) = (texts.program.as_slice(), texts.events.as_slice());
-    let workers = wanted.workers;
+    let job = Job {
+        text: program,
+        outside,
+        workers: wanted.workers,
+    };
     match wanted.trace {
-        None => play_untraced(rt, alloc, program, workers, outside, out, aside),
+        None => play_untraced(rt, alloc, job, out, aside),
         Some(path) => match made(alloc, sinks, path, wanted.file, wanted.outside) {
-            Ok(mut trace) => play_traced(
-                rt, alloc, program, workers, outside, &mut trace, out, aside,
-            ),
+            Ok(mut trace) => play_traced(rt, alloc, job, &mut trace, out, aside),
             Err(error) => file_failed(error, out, notes),
         },
     }
@@ -218,31 +220,6 @@ fn remark(
     }
 }
 
-/// Does a run of texts that were read.
-fn run_texts<R: Threads + Wait + Sync, S: Sinks, W: Write>(
-    rt: &R,
-    sinks: &mut S,
-    texts: &Texts,
-    wanted: RunRequest<'_>,
-    out: &mut W,
-    remarks: &mut Remarks,
-) -> Result<u8, WriteFailed>
-    requires { (1 ≤ wanted.workers) × (wanted.workers ≤ 16) }
-    ensures { IfOk result (λ s. (o : Output)
-        × def.IsPrinted (def.Spares
-        (same_file (S.same sinks.old) (S.said_yes sinks.old) (S.said_yes sinks.new))
-        wanted.entry.file.now wanted.entry.outside wanted.entry.trace)
-        texts.now.program.items texts.now.events.items o
-        × Writes (W.contents out.old) (W.contents out.new) s o) }
-{
-    let mut aside = Aside::new();
-    let alloc = remarks.alloc;
-    let notes = &mut remarks.notes;
-    let status = on_texts(rt, alloc, sinks, texts, wanted, out, notes, &mut aside)?;
-    remark(wanted, texts, status, &mut aside, remarks);
-    Ok(status)
-}
-
 /// Does a run. The text is read before the outside text, and both before the file of the trace is
 /// made.
 fn on_run<R: Threads + Wait + Sync, S: Sources + Sinks, W: Write>(
@@ -254,15 +231,20 @@ fn on_run<R: Threads + Wait + Sync, S: Sources + Sinks, W: Write>(
 ) -> Result<u8, WriteFailed>
     requires { (1 ≤ wanted.workers) × (wanted.workers ≤ 16) }
     ensures { IfOk result (λ s. (o : Output)
-        × def.IsOfRun (def.Spares
-        (same_file (S.same sources.old) (S.said_yes sources.old) (S.said_yes sources.new))
-        wanted.entry.file.now wanted.entry.outside wanted.entry.trace)
-        (S.held sources.old wanted.entry.file.now)
-        (events_of (S.held sources.old) wanted.entry.outside) o
+        × def.IsOfFiles wanted.entry.file.now wanted.entry.outside wanted.entry.trace
+        (S.held sources.old)
+        (same_file (S.same sources.old) (S.said_yes sources.old) (S.said_yes sources.new)) o
         × Writes (W.contents out.old) (W.contents out.new) s o) }
 {
     match read_texts(remarks.alloc, &*sources, wanted.file, wanted.outside) {
-        Ok(texts) => run_texts(rt, sources, &texts, wanted, out, remarks),
+        Ok(texts) => {
+            let mut aside = Aside::new();
+            let alloc = remarks.alloc;
+            let notes = &mut remarks.notes;
+            let status = on_texts(rt, alloc, sources, wanted, &texts, out, notes, &mut aside)?;
+            remark(wanted, &texts, status, &mut aside, remarks);
+            Ok(status)
+        }
         Err(error) => file_failed(error, out, &mut remarks.notes),
     }
 }
@@ -322,12 +304,9 @@ fn on_error<W: Write, E: Write>(
     err: &mut E,
 ) -> Result<u8, WriteFailed>
     ensures { (words : List Text) (files : AnyFiles) (same : SameFile) (input : Option (List ℕ))
-        → Refuses words error → IfOk result (def.Ends words files same input (record {
-          out_old = W.contents out.old;
-          out_new = W.contents out.new;
-          err_old = E.contents err.old;
-          err_new = E.contents err.new;
-        })) }
+        → Refuses words error → IfOk result (def.Ends words files same input
+        (def.both_streams (W.contents out.old) (W.contents out.new)
+        (E.contents err.old) (E.contents err.new))) }
 {
     match error {
         LineError::Memory => failed(TakeError::Memory, out),
@@ -362,12 +341,8 @@ pub fn run<R: Threads + Wait + Sync, S: Sources + Sinks, W: Write, E: Write>(
     ensures { IfOk result (def.Ends (map (λ w. w.now) words.now) (S.held sources.old)
         (same_file (S.same sources.old) (S.said_yes sources.old) (S.said_yes sources.new))
         (S.offered sources.old)
-        (record {
-          out_old = W.contents out.old;
-          out_new = W.contents out.new;
-          err_old = E.contents err.old;
-          err_new = E.contents err.new;
-        })) }
+        (def.both_streams (W.contents out.old) (W.contents out.new)
+        (E.contents err.old) (E.contents err.new))) }
 {
     match line(alloc, words) {
         Ok(wanted) => on_line(rt, sources, wanted, out, remarks),
@@ -392,12 +367,8 @@ pub fn run_words<R: Threads + Wait + Sync, S: Sources + Sinks, W: Write, E: Writ
     ensures { IfOk result (def.EndsFrom words.now (S.held sources.old)
         (same_file (S.same sources.old) (S.said_yes sources.old) (S.said_yes sources.new))
         (S.offered sources.old)
-        (record {
-          out_old = W.contents out.old;
-          out_new = W.contents out.new;
-          err_old = E.contents err.old;
-          err_new = E.contents err.new;
-        })) }
+        (def.both_streams (W.contents out.old) (W.contents out.new)
+        (E.contents err.old) (E.contents err.new))) }
 {
     match words {
         Ok(words) => match borrowed(alloc, words.as_slice()) {

@@ -17,5 +17,6 @@ loop-argument-preserved c =
 
 pub returns-clause-app : goal.returns-clause-app
 returns-clause-app c =
-    sym (at_drop_all (with_arguments (app_of c.loop-argument.command)) c.args.subcommand.arguments.now c.loop-argument.argument-index c.loop-argument-test.false)
+    sym (at_drop_all (with_arguments (app_of c.loop-argument.command))
+    c.args.subcommand.arguments.now c.loop-argument.argument-index c.loop-argument-test.false)
     ∙ c.loop-argument.invariant.app

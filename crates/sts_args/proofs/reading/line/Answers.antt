@@ -1,15 +1,17 @@
-use Rattle.std.proofs.Common.{◌≡◌, ◌<◌, List, Some, None, map, length, ap, sym, subst, arith, ◌∙◌}
+use Rattle.std.proofs.Common.{◌≡◌, ◌<◌, List, Some, None, map, length, ap, subst, arith}
 use Rattle.std.specs.Prelude.{Option, Result, Ok, IfOk}
 use Rattle.std.proofs.lemmas.Result.{IfOk-weaker, IfErr-weaker}
 use Rattle.std.proofs.lemmas.List.{length-map}
 use Rattle.clap.specs.Words.{App, Row, Text, is_simple, is_simple_and_free, kind_of, HasKind, fault_of}
-use Rattle.clap.specs.Words.{subcommand_of, subcommand_rows_of}
+use Rattle.clap.specs.Words.{subcommand_rows_of}
 use Rattle.sts_args.specs.declared.asked.Line.{Line}
 use Rattle.sts_args.specs.declared.asked.Line.TheVariants as line
 use Rattle.sts_args.specs.declared.asked.LineError.{LineError}
 use Rattle.sts_args.specs.Asked.{IsLineOf, commanded, given}
 use Rattle.sts_args.specs.Refused.{BlamesUnless, is_whole}
 use Rattle.sts_args.proofs.Refusing.{refuses_blamed, refuses_told}
+use Rattle.sts_args.specs.Command.{program}
+use Rattle.sts_args.proofs.FoundLemmas.{found_in}
 use Rattle.sts_args.proofs.reading.line.Goals as goal
 
 -- a line of a command is not the joined form
@@ -27,17 +29,17 @@ returns-in-Ok-clause-joined c =
 pub returns-in-Ok-clause-asked : goal.returns-in-Ok-clause-asked
 returns-in-Ok-clause-asked c =
     let more : 1 < length (map (λ w. w.now) c.args.words.now) = simp length-map (omega arith) in
-    let found = (c.in-Ok.ensures.matches (ap is_simple c.in_ok-command.ensures)).1 ∙ ap (λ a. subcommand_of a (map (λ w. w.now) c.args.words.now)) c.in_ok-command.ensures in
-    let none = ap (λ (a : App). fault_of a (map (λ w. w.now) c.args.words.now)) (sym c.in_ok-command.ensures) ∙ c.in-Ok.ensures.kinds (ap is_simple_and_free c.in_ok-command.ensures) in
-    IfOk-weaker c.chosen.result _ _ (λ l h. commanded more none (subst (λ s. IsLineOf s l) found h)) c.chosen.ensures.asked
+    let program_is = c.in_ok-command.ensures in
+    let found = found_in program _ _ _ program_is (c.in-Ok.ensures.matches (ap is_simple program_is)).1 (c.in-Ok.ensures.kinds (ap is_simple_and_free program_is)) in
+    IfOk-weaker c.chosen.result _ _ (λ l h. commanded more found.1 (subst (λ s. IsLineOf s l) found.0 h)) c.chosen.ensures.asked
 
 pub returns-in-Ok-clause-refused : goal.returns-in-Ok-clause-refused
 returns-in-Ok-clause-refused c =
     let more : 1 < length (map (λ w. w.now) c.args.words.now) = simp length-map (omega arith) in
-    let found = (c.in-Ok.ensures.matches (ap is_simple c.in_ok-command.ensures)).1 ∙ ap (λ a. subcommand_of a (map (λ w. w.now) c.args.words.now)) c.in_ok-command.ensures in
-    let none = ap (λ (a : App). fault_of a (map (λ w. w.now) c.args.words.now)) (sym c.in_ok-command.ensures) ∙ c.in-Ok.ensures.kinds (ap is_simple_and_free c.in_ok-command.ensures) in
+    let program_is = c.in_ok-command.ensures in
+    let found = found_in program _ _ _ program_is (c.in-Ok.ensures.matches (ap is_simple program_is)).1 (c.in-Ok.ensures.kinds (ap is_simple_and_free program_is)) in
     IfErr-weaker c.chosen.result _ _
-    (λ e h. refuses_blamed (map (λ w. w.now) c.args.words.now) e more none (subst (λ s. BlamesUnless (is_whole s) e) found h))
+    (λ e h. refuses_blamed (map (λ w. w.now) c.args.words.now) e more found.1 (subst (λ s. BlamesUnless (is_whole s) e) found.0 h))
     c.chosen.ensures.lacks
 
 pub returns-in-Err-clause-refused : goal.returns-in-Err-clause-refused
