@@ -157,25 +157,6 @@ fn push_ways(
     Ok(())
 }
 
-/// Adds what a part may add to the counts.
-fn push_choices(
-    joiner: Joiner,
-    needs: Needs,
-    part: Part,
-    ways: &[Way],
-    found: &mut Vec<Sum>,
-) -> Result<(), AllocError> {
-    if part.is_open {
-        found.push(Sum {
-            count: contribution(joiner, needs, None),
-            cost: 0,
-            before: 0,
-            way: None,
-        })?;
-    }
-    push_ways(joiner, needs, part, ways, found)
-}
-
 /// Adds the sums with this choice of one part more, in the same order.
 fn push_shifted(
     bounds: &Bounds,
@@ -374,8 +355,16 @@ fn choices_of(
     run: &Run,
 ) -> Result<Vec<Sum>, AllocError> {
     let mut found = Vec::new(alloc);
+    if run.part.is_open {
+        found.push(Sum {
+            count: contribution(facts.joiner, needs, None),
+            cost: 0,
+            before: 0,
+            way: None,
+        })?;
+    }
     let ways = table.ways_of(run.part);
-    push_choices(facts.joiner, needs, run.part, ways, &mut found)?;
+    push_ways(facts.joiner, needs, run.part, ways, &mut found)?;
     Ok(found)
 }
 
@@ -385,15 +374,14 @@ fn extend_by_all(
     alloc: Global,
     table: &Table,
     scope: &Seen,
-    left: u32,
+    bounds: &Bounds,
     needs: Needs,
     most: usize,
     sums: &mut Vec<Sum>,
 ) -> Result<bool, AllocError> {
-    let bounds = bounds_of(&scope.facts, left);
     for run in scope.runs.as_slice() {
         let choices = choices_of(alloc, table, &scope.facts, needs, run)?;
-        if !extend(alloc, &bounds, sums, choices.as_slice(), run.count, most)? {
+        if !extend(alloc, bounds, sums, choices.as_slice(), run.count, most)? {
             return Ok(false);
         }
     }
@@ -424,8 +412,9 @@ pub fn fitting_within(
     needs: Needs,
     most: usize,
 ) -> Result<Option<Vec<Sum>>, AllocError> {
+    let bounds = bounds_of(&scope.facts, left);
     let mut sums = no_parts(alloc)?;
-    let is_whole = extend_by_all(alloc, table, scope, left, needs, most, &mut sums)?;
+    let is_whole = extend_by_all(alloc, table, scope, &bounds, needs, most, &mut sums)?;
     let mut found = Vec::new(alloc);
     if is_whole {
         push_those_that_fit(&scope.facts, sums.as_slice(), &mut found)?;

@@ -266,14 +266,13 @@ impl Found {
         alloc: Global,
         seen: &Seen,
         before: &[Outcome],
-        part: &Part,
+        is_open: bool,
     ) -> Result<(), Failure>
-        ensures { OnOk result ((o : Outcome) → Among before.now o
-            → May part.now Option.None
+        ensures { OnOk result ((o : Outcome) → Among before.now o → is_open ≡ true
             → def.is_within seen.now (def.after seen.now o Option.None) ≡ true
             → Among self.new.outcomes.items (def.after seen.now o Option.None)) }
     {
-        if !part.is_open {
+        if !is_open {
             return Ok(());
         }
         self.add_all(alloc, seen, before, None)?;
@@ -294,7 +293,7 @@ fn extended(
         → Among found.items (def.after seen.now o state)) }
 {
     let mut found = Found::new(alloc)?;
-    found.add_open(alloc, seen, before, part)?;
+    found.add_open(alloc, seen, before, part.is_open)?;
     found.add_ways(alloc, seen, before, part)?;
     Ok(found.outcomes)
 }

@@ -1,6 +1,6 @@
 -- Lists of the events that pass a test.
 use Rattle.std.proofs.Common.{◌≡◌, ℕ, ◌+◌, ◌<◌, ◌≤◌, ◌⊎◌, List, [], ◌∷◌, ◌++◌, length, refl, arith, inl, inr}
-use Rattle.std.proofs.Common.{Bool, true, false}
+use Rattle.std.proofs.Common.{Bool, true, false, subst, sym}
 use Rattle.std.specs.List.{Contains}
 use Rattle.std.proofs.Math.Dec.{ltb}
 use Rattle.std.proofs.lemmas.Bool.{ltb-true, ltb-false, and_right, and_left}
@@ -10,14 +10,24 @@ use Rattle.std.proofs.lemmas.List.Elements.{Contains-push}
 use Rattle.laws_words.proofs.ListLemmas.{sole}
 use Rattle.sts_model.specs.declared.event.Event.{Event}
 use Rattle.sts_model.specs.declared.event.Event.TheVariants as event
-use Rattle.sts_code.specs.Program.{Program}
 pub use Rattle.laws_words.proofs.NumberLemmas.{split}
 use Rattle.sts_model.specs.World.{World, task_at, scope_at, no_task, no_scope, State, Running}
 use Rattle.sts_model.specs.Living.{lives}
 use Rattle.sts_model.specs.Waiting.{can_step, can_go, stand_at}
 use Rattle.sts_model.specs.Outside.{can_expire}
 use Rattle.ends_plain.specs.declared.config.Setting.{Setting}
+use Rattle.ends_plain.specs.declared.events.Listing.{Listing}
+use Rattle.ends_plain.specs.declared.events.Listing.TheVariants.{Steps, Interrupts, Expiries}
+use Rattle.ends_plain.specs.Listings.{born_of, event_of, is_listed}
 use Rattle.ends_plain.specs.Configs.{AreThose, steps_now, interrupts_now, expires_now, can_come}
+
+-- what holds of each element, and of one more
+pub each_push : {X : Type 0} (Holds : X → Type 0) (xs : List X) (x : X) → ((y : X) → Contains xs y → Holds y) → Holds x → (y : X) → Contains (xs ++ x ∷ []) y → Holds y
+each_push Holds xs x all here y there = by (Contains-append_cases xs (x ∷ []) y there)
+  where
+    by : Contains xs y ⊎ Contains (x ∷ []) y → Holds y
+    by (inl h) = all y h
+    by (inr h) = rw (sole x y h.0 h.1 h.2) here
 
 -- those of the first n numbers that pass
 pub record Below (mk : ℕ → Event) (test : Event → Bool) (n : ℕ) (es : List Event) : Type 0 where
@@ -28,15 +38,11 @@ pub below_none : (mk : ℕ → Event) (test : Event → Bool) → Below mk test 
 below_none mk test = record { all = λ k less. absurd (omega arith); only = λ e h. let less : h.0 < 0 = h.1 in absurd (omega arith) }
 
 pub below_push : (mk : ℕ → Event) (test : Event → Bool) (n : ℕ) (es : List Event) → test (mk n) ≡ true → Below mk test n es → Below mk test (n + 1) (es ++ mk n ∷ [])
-below_push mk test n es pass h = record { all = λ k less e. more k e (split k n less); only = λ e c. by e (Contains-append_cases es (mk n ∷ []) e c) }
+below_push mk test n es pass h = record { all = λ k less e. more k e (split k n less); only = each_push (λ e. test e ≡ true) es (mk n) h.only pass }
   where
     more : (k : ℕ) → test (mk k) ≡ true → (k < n) ⊎ (k ≡ n) → Contains (es ++ mk n ∷ []) (mk k)
     more k e (inl less) = Contains-append_left es (mk n ∷ []) (mk k) (h.all k less e)
     more k e (inr same) = rw same (Contains-push es (mk n))
-
-    by : (e : Event) → Contains es e ⊎ Contains (mk n ∷ []) e → test e ≡ true
-    by e (inl c) = h.only e c
-    by e (inr c) = rw (sole (mk n) e c.0 c.1 c.2) pass
 
 pub below_skip : (mk : ℕ → Event) (test : Event → Bool) (n : ℕ) (es : List Event) → test (mk n) ≡ false → Below mk test n es → Below mk test (n + 1) es
 below_skip mk test n es pass h = record { all = λ k less e. more k e (split k n less); only = h.only }
@@ -60,29 +66,23 @@ born k n b e past = by (ltb k n) refl
     by true h = ltb-true k n h
     by false h = let f : b ≡ false = past (ltb-false k n h) in cc
 
-pub all_steps : (p : Program) (w : World) (n : ℕ) (es : List Event) → n ≡ length w.tasks → Below event.Step (steps_now p w) n es → AreThose (steps_now p w) es
-all_steps p w n es born_all h = record { all = λ e t. by e t; only = h.only }
+-- those of the numbers of all births are all that can come
+pub all_those : (l : Listing) (w : World) (es : List Event) → Below (event_of l) (is_listed l w) (born_of l w) es → AreThose (is_listed l w) es
+all_those l w es h = record { all = λ e pass. by e (number l e pass) pass; only = h.only }
   where
-    by : (e : Event) → steps_now p w e ≡ true → Contains es e
-    by (event.Step t) pass = h.all t (born t n (can_step p w t) pass (λ past. and_left (lives (task_at w t)) (can_go w (task_at w t) (stand_at p w t)) (unborn_task w t (omega arith)))) pass
-    by (event.Interrupt t) pass = cc
-    by (event.Expire s) pass = cc
+    number : (l : Listing) (e : Event) → is_listed l w e ≡ true → (k : ℕ) × (k < born_of l w) × (e ≡ event_of l k)
+    number (Steps p) (event.Step t) pass = (t, born t (length w.tasks) (can_step p.now w t) pass (λ past. and_left (lives (task_at w t)) (can_go w (task_at w t) (stand_at p.now w t)) (unborn_task w t past)), refl)
+    number (Interrupts left) (event.Interrupt t) pass = (t, born t (length w.tasks) (interrupts_now left w (event.Interrupt t)) pass (λ past. and_right (ltb 0 left) (lives (task_at w t)) (unborn_task w t past)), refl)
+    number (Expiries may) (event.Expire s) pass = (s, born s (length w.scopes) (expires_now may w (event.Expire s)) pass (λ past. and_right may (can_expire (scope_at w s)) (unborn_scope w s past)), refl)
+    number (Steps p) (event.Interrupt t) pass = cc
+    number (Steps p) (event.Expire s) pass = cc
+    number (Interrupts left) (event.Step t) pass = cc
+    number (Interrupts left) (event.Expire s) pass = cc
+    number (Expiries may) (event.Step t) pass = cc
+    number (Expiries may) (event.Interrupt t) pass = cc
 
-pub all_interrupts : (left : ℕ) (w : World) (n : ℕ) (es : List Event) → n ≡ length w.tasks → Below event.Interrupt (interrupts_now left w) n es → AreThose (interrupts_now left w) es
-all_interrupts left w n es born_all h = record { all = λ e t. by e t; only = h.only }
-  where
-    by : (e : Event) → interrupts_now left w e ≡ true → Contains es e
-    by (event.Step t) pass = cc
-    by (event.Interrupt t) pass = h.all t (born t n (interrupts_now left w (event.Interrupt t)) pass (λ past. and_right (ltb 0 left) (lives (task_at w t)) (unborn_task w t (omega arith)))) pass
-    by (event.Expire s) pass = cc
-
-pub all_expiries : (may : Bool) (w : World) (n : ℕ) (es : List Event) → n ≡ length w.scopes → Below event.Expire (expires_now may w) n es → AreThose (expires_now may w) es
-all_expiries may w n es born_all h = record { all = λ e t. by e t; only = h.only }
-  where
-    by : (e : Event) → expires_now may w e ≡ true → Contains es e
-    by (event.Step t) pass = cc
-    by (event.Interrupt t) pass = cc
-    by (event.Expire s) pass = h.all s (born s n (expires_now may w (event.Expire s)) pass (λ past. and_right may (can_expire (scope_at w s)) (unborn_scope w s (omega arith)))) pass
+    by : (e : Event) → (k : ℕ) × (k < born_of l w) × (e ≡ event_of l k) → is_listed l w e ≡ true → Contains es e
+    by e k pass = subst (λ x. Contains es x) (sym k.2) (h.all k.0 k.1 (subst (λ x. is_listed l w x ≡ true) k.2 pass))
 
 -- ---- all three together
 

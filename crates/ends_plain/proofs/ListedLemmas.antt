@@ -5,8 +5,7 @@ use Rattle.std.specs.List.{Contains, list_any}
 use Rattle.std.specs.Prelude.{Option}
 use Rattle.std.proofs.lemmas.Bool.{or_parts}
 use Rattle.std.proofs.lemmas.List.{get_or_default, map-append}
-use Rattle.std.proofs.lemmas.List.Elements.{Contains-append_left, Contains-append_right, Contains-append_cases}
-use Rattle.laws_words.proofs.ListLemmas.{sole}
+use Rattle.std.proofs.lemmas.List.Elements.{Contains-append_left, Contains-append_right}
 use Rattle.sts_model.specs.Run.{after}
 use Rattle.sts_plain.specs.declared.misstep.PlainState.{PlainState}
 use Rattle.sts_model.specs.World.{State, Running, Faulted}
@@ -23,18 +22,14 @@ use Rattle.ends_plain.specs.Explored.{IsExplored}
 use Rattle.ends_plain.specs.Ends.{is_end, AreAll}
 use Rattle.ends_plain.specs.Listed.{is_fault_end, is_faulty}
 use Rattle.ends_plain.specs.Listed.{ends_of, AreShown, AreEnds, HasShown, IsEndOf, IsShownBy}
-use Rattle.ends_plain.proofs.EventLemmas.{split}
+use Rattle.ends_plain.proofs.EventLemmas.{split, each_push}
 use Rattle.ends_plain.proofs.WayLemmas.{position_after, allowed}
 use Rattle.ends_plain.proofs.OwnLemmas.{IsRun}
 use Rattle.ends_plain.proofs.SettleLemmas.{run_kept}
 use Rattle.ends_plain.proofs.ReachLemmas.{IsOver, shows_all}
 
 pub shown_more : (g : Setting) (first : Config) (found : List Found) (f : Found) → AreShown g first found → IsShownBy g first f → AreShown g first (found ++ f ∷ [])
-shown_more g first found f all here e c = by (Contains-append_cases found (f ∷ []) e c)
-  where
-    by : Contains found e ⊎ Contains (f ∷ []) e → IsShownBy g first e
-    by (inl h) = all e h
-    by (inr h) = rw (sole f e h.0 h.1 h.2) here
+shown_more g first found f all here = each_push (IsShownBy g first) found f all here
 
 -- the state at k, whatever is read past the end
 at_same : (states : List Config) (k : ℕ) (x d : Config) → k < length states → x ≡ slice_index_or states k x → slice_index_or states k d ≡ x
@@ -91,11 +86,7 @@ pub no_ends : (g : Setting) → AreEnds g []
 no_ends g f c = let less : c.0 < 0 = c.1 in absurd (omega arith)
 
 pub ends_more : (g : Setting) (found : List Found) (f : Found) → AreEnds g found → IsEndOf g f → AreEnds g (found ++ f ∷ [])
-ends_more g found f all here e c = by (Contains-append_cases found (f ∷ []) e c)
-  where
-    by : Contains found e ⊎ Contains (f ∷ []) e → IsEndOf g e
-    by (inl h) = all e h
-    by (inr h) = rw (sole f e h.0 h.1 h.2) here
+ends_more g found f all here = each_push (IsEndOf g) found f all here
 
 -- ---- the two clauses
 

@@ -40,56 +40,33 @@ use Rattle.ends_plain.proofs.OthersLemmas.{Beside, event_beside}
 
 -- ---- an own instruction
 
-own_effect : (p : Program) (w : World) (t : ℕ) (f : Frame) (i : Instr) → is_own f i ≡ true → effect p w t f i ≡ with_frame w t (after_own (environment_of (task_at w t) w) (code p f) i f)
-own_effect p w t f (instr.Open s timed joiner) e = cc
-own_effect p w t f (instr.Fork x g h) e = cc
-own_effect p w t f (instr.Join x failed timeout to_i) e = cc
-own_effect p w t f (instr.Close x) e = cc
-own_effect p w t f (instr.Cancelled x) e = cc
-own_effect p w t f (instr.Case h success failed) e = cc
-own_effect p w t f (instr.Get h) e = cc
-own_effect p w t f (instr.Except h) e = cc
-own_effect p w t f (instr.Tally x kind) e = cc
-own_effect p w t f (instr.Total x) e = cc
-own_effect p w t f instr.Interrupted e = cc
-own_effect p w t f instr.Ret e = cc
-own_effect p w t f instr.Fail e = cc
-own_effect p w t f i e = refl
+-- What it does: it changes its task's frame alone. With the same scoped values it is a misuse in both states or in neither. Its task doesn't wait
+record Owns (p : Program) (w : World) (t : ℕ) (f : Frame) (i : Instr) : Type 0 where
+  pub moves : effect p w t f i ≡ with_frame w t (after_own (environment_of (task_at w t) w) (code p f) i f)
+  pub fails : (v : World) → environment_of (task_at v t) v ≡ environment_of (task_at w t) w → fault_of p v t f i ≡ fault_of p w t f i
+  pub is_free : can_go w (task_at w t) (stand_at_instr p w t (Some i)) ≡ true
 
--- with the same scoped values it is a misuse in both states or in neither
-own_fault : (p : Program) (w v : World) (t : ℕ) (f : Frame) (i : Instr) → is_own f i ≡ true → environment_of (task_at v t) v ≡ environment_of (task_at w t) w → fault_of p v t f i ≡ fault_of p w t f i
-own_fault p w v t f (instr.Open s timed joiner) e same = cc
-own_fault p w v t f (instr.Fork x g h) e same = cc
-own_fault p w v t f (instr.Join x failed timeout to_i) e same = cc
-own_fault p w v t f (instr.Close x) e same = cc
-own_fault p w v t f (instr.Cancelled x) e same = cc
-own_fault p w v t f (instr.Case h success failed) e same = cc
-own_fault p w v t f (instr.Get h) e same = cc
-own_fault p w v t f (instr.Except h) e same = cc
-own_fault p w v t f (instr.Tally x kind) e same = cc
-own_fault p w v t f (instr.Total x) e same = cc
-own_fault p w v t f instr.Interrupted e same = cc
-own_fault p w v t f instr.Ret e same = cc
-own_fault p w v t f instr.Fail e same = cc
-own_fault p w v t f (instr.Read k) e same = ap (λ (bs : List Bound). cond (misuses_operand p w f (instr.Read k)) (Some Operand) (cond (is_none (read bs k)) (Some Unbound) None)) same
-own_fault p w v t f i e same = refl
-
--- its task doesn't wait
-own_free : (p : Program) (w : World) (t : ℕ) (f : Frame) (i : Instr) → is_own f i ≡ true → can_go w (task_at w t) (stand_at_instr p w t (Some i)) ≡ true
-own_free p w t f (instr.Open s timed joiner) e = cc
-own_free p w t f (instr.Fork x g h) e = cc
-own_free p w t f (instr.Join x failed timeout to_i) e = cc
-own_free p w t f (instr.Close x) e = cc
-own_free p w t f (instr.Cancelled x) e = cc
-own_free p w t f (instr.Case h success failed) e = cc
-own_free p w t f (instr.Get h) e = cc
-own_free p w t f (instr.Except h) e = cc
-own_free p w t f (instr.Tally x kind) e = cc
-own_free p w t f (instr.Total x) e = cc
-own_free p w t f instr.Interrupted e = cc
-own_free p w t f instr.Ret e = cc
-own_free p w t f instr.Fail e = cc
-own_free p w t f i e = refl
+owns : (p : Program) (w : World) (t : ℕ) (f : Frame) (i : Instr) → is_own f i ≡ true → Owns p w t f i
+owns p w t f (instr.Open s timed joiner) e = cc
+owns p w t f (instr.Fork x g h) e = cc
+owns p w t f (instr.Join x failed timeout to_i) e = cc
+owns p w t f (instr.Close x) e = cc
+owns p w t f (instr.Cancelled x) e = cc
+owns p w t f (instr.Case h success failed) e = cc
+owns p w t f (instr.Get h) e = cc
+owns p w t f (instr.Except h) e = cc
+owns p w t f (instr.Tally x kind) e = cc
+owns p w t f (instr.Total x) e = cc
+owns p w t f instr.Interrupted e = cc
+owns p w t f instr.Ret e = cc
+owns p w t f instr.Fail e = cc
+owns p w t f (instr.Read k) e =
+    record {
+      moves = refl;
+      fails = λ v same. ap (λ (bs : List Bound). cond (misuses_operand p w f (instr.Read k)) (Some Operand) (cond (is_none (read bs k)) (Some Unbound) None)) same;
+      is_free = refl;
+    }
+owns p w t f i e = record { moves = refl; fails = λ v same. refl; is_free = refl }
 
 -- its task stays in its function
 turns_function : (f : Frame) (ls : List Loop) → (turns f ls).function ≡ f.function
@@ -160,7 +137,7 @@ own_at p w t (Some i) at alive own fine =
     let bs = environment_of (task_at w t) w in
     let frame : goes_on p w t ≡ after_own bs (code p f) i f = ap (λ (o : Option Instr). after_next bs (code p f) o f) at in
     let no_fault : fault_of p w t f i ≡ None = sym (ap (λ (o : Option Instr). fault_at p w t f o) at) ∙ fine in
-    let free : can_go w (task_at w t) (stand_at p w t) ≡ true = ap (λ (o : Option Instr). can_go w (task_at w t) (stand_at_instr p w t o)) at ∙ own_free p w t f i own in
+    let free : can_go w (task_at w t) (stand_at p w t) ≡ true = ap (λ (o : Option Instr). can_go w (task_at w t) (stand_at_instr p w t o)) at ∙ (owns p w t f i own).is_free in
     let can : can_step p w t ≡ true = ap (λ (b : Bool). b && can_go w (task_at w t) (stand_at p w t)) alive ∙ free in
     record {
       alive = alive;
@@ -169,7 +146,7 @@ own_at p w t (Some i) at alive own fine =
           ap (λ (b : Bool). cond b (stepped (misuse p w t) p w t f) (Running w)) can
           ∙ ap (λ (m : Option Fault). stepped m p w t f) fine
           ∙ ap (λ (o : Option Instr). Running (perform p w t f o)) at
-          ∙ ap Running (own_effect p w t f i own ∙ ap (λ (g : Frame). with_frame w t g) (sym frame));
+          ∙ ap Running ((owns p w t f i own).moves ∙ ap (λ (g : Frame). with_frame w t g) (sym frame));
       less = subst (λ (g : Frame). frame_fuel (code p f) g < frame_fuel (code p f) f) (sym frame) (own_less p bs f i own at (no_loop_fault p w t f i no_fault));
       function = ap (λ (g : Frame). g.function) frame ∙ own_function bs (code p f) f i;
     }
@@ -184,7 +161,7 @@ own_step p w t e =
 
 own_misuse : (p : Program) (w v : World) (t : ℕ) (f : Frame) (o : Option Instr) → is_own_at f o ≡ true → environment_of (task_at v t) v ≡ environment_of (task_at w t) w → fault_at p v t f o ≡ fault_at p w t f o
 own_misuse p w v t f None e same = cc
-own_misuse p w v t f (Some i) e same = own_fault p w v t f i e same
+own_misuse p w v t f (Some i) e same = (owns p w t f i e).fails v same
 
 still_own : (p : Program) (w v : World) (t : ℕ) → has_own_step p w t ≡ true → lives (task_at v t) ≡ true → (task_at v t).frame ≡ (task_at w t).frame → environment_of (task_at v t) v ≡ environment_of (task_at w t) w → has_own_step p v t ≡ true
 still_own p w v t e alive frame same =

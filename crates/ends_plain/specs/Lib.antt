@@ -2,6 +2,8 @@ pub mod Configs
 pub mod Ends
 pub mod Explored
 pub mod Listed
+pub mod Listings
 pub mod Named
 pub mod Own
 pub mod Traces
+pub mod Ways

@@ -2,8 +2,8 @@
 
 ghost use Rattle.std.specs.Prelude.{◌≡◌, ◌<◌, ◌+◌, true, false, IfOk, OnOk, length};
 ghost use Rattle.std.specs.List.{Contains, list_any};
-ghost use Rattle.ends_search.specs.Search.{IsSpace, IsWay, state_at, states_of};
-ghost use Rattle.ends_plain.specs.Configs.{next, can, next_kept, tries, is_last, IsLike};
+ghost use Rattle.ends_search.specs.Search.{IsSpace, state_at, states_of};
+ghost use Rattle.ends_plain.specs.Configs.{next_kept, tries, is_last, IsLike};
 ghost use Rattle.ends_plain.specs.Ends.{is_end};
 ghost use Rattle.sts_plain.specs.Seen.{shown};
 ghost use Rattle.ends_plain.specs.Listed.{ends_of, AreShown, HasShown, is_fault_end, is_faulty};
@@ -11,13 +11,12 @@ ghost use Rattle.ends_plain.specs.Listed.{ends_of, AreShown, HasShown, is_fault_
 use crate::config::{Asked, Config, Found};
 use crate::full_trace::with_own_steps;
 use crate::shorter::shortened;
-use crate::trace::Trace;
 use ends_search::search::{Space, restored, trace};
 use std::alloc::{AllocError, Global};
 use sts_plain::PlainState;
 
 /// Is the end among these?
-fn is_found(found: &[Found], end: PlainState) -> bool
+pub fn is_found(found: &[Found], end: PlainState) -> bool
     ensures { result ≡ true → Contains (ends_of found.now) end }
 {
     for one in found {
@@ -75,25 +74,6 @@ pub fn shown_at(
     Ok(config.position.state())
 }
 
-/// A trace that leads to the state at this place.
-fn trace_to(
-    alloc: Global,
-    asked: &Asked,
-    space: &Space<Config>,
-    place: usize,
-) -> Result<Trace, AllocError>
-    requires within { place < length space.now.origins.items }
-    requires space { IsSpace (next_kept asked.now) (tries asked.now.setting) (IsLike asked.now)
-        is_last space.now.first space.now.origins.items space.now.closed space.now.kept.items
-        space.now.marks.items }
-    ensures { IfOk result (λ t. IsWay (next asked.now.setting) (can asked.now.setting)
-        space.now.first t
-        (state_at (next_kept asked.now) space.now.first space.now.origins.items place)) }
-{
-    let events = trace(alloc, asked, space, place)?;
-    with_own_steps(alloc, asked, &space.first, events.as_slice())
-}
-
 /// Adds the end that the state at this place shows, if it shows one that is not there yet, with a
 /// way to it.
 fn list_end(
@@ -124,7 +104,8 @@ fn list_end(
     if !is_new(found.as_slice(), end) {
         return Ok(());
     }
-    let trace = trace_to(alloc, asked, space, place)?;
+    let events = trace(alloc, asked, space, place)?;
+    let trace = with_own_steps(alloc, asked, &space.first, events.as_slice())?;
     let one = shortened(alloc, &asked.setting, &space.first, Found { end, trace })?;
     found.push(one)?;
     Ok(())

@@ -1,10 +1,9 @@
 //! Random schedules: some of the ends, and how often each came. It says nothing of other ends.
 
 ghost use Rattle.std.specs.Prelude.{◌≡◌, ◌<◌, ◌++◌, ◌∷◌, [], true, IfOk, IfSome, OnOk, length};
-ghost use Rattle.ends_search.specs.Search.{IsWay};
-ghost use Rattle.ends_plain.specs.Configs.{next, can};
-ghost use Rattle.ends_plain.specs.declared.config.Config.{Config};
+ghost use Rattle.ends_plain.specs.Configs.{can};
 ghost use Rattle.ends_plain.specs.Listed.{AreEnds, IsEndOf};
+ghost use Rattle.ends_plain.specs.Ways.{GoesOn};
 
 use crate::config::{Config, Found, Setting};
 use crate::ends::is_end_at;
@@ -72,10 +71,7 @@ fn reach(
     longest: usize,
     way: &mut Way,
 ) -> Result<bool, AllocError>
-    ensures { (first : Config)
-        → IsWay (next setting.now) (can setting.now) first way.old.trace way.old.config
-        → OnOk result
-        (IsWay (next setting.now) (can setting.now) first way.new.trace way.new.config) }
+    ensures { OnOk result (GoesOn setting.now way.old way.new) }
 {
     for moment in 0..longest.saturating_add(1) {
         if is_end_at(way.config.position.state()) {

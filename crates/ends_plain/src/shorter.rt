@@ -1,10 +1,9 @@
 //! Traces without the own steps that no later step needs.
 
-ghost use Rattle.std.specs.Prelude.{◌≡◌, true, IfOk, IfSome, OnOk};
-ghost use Rattle.ends_search.specs.Search.{IsWay};
-ghost use Rattle.ends_plain.specs.Configs.{next, can};
-ghost use Rattle.ends_plain.specs.declared.config.Config.{Config};
+ghost use Rattle.std.specs.Prelude.{◌≡◌, IfOk, IfSome, OnOk};
+ghost use Rattle.ends_plain.specs.Configs.{can};
 ghost use Rattle.ends_plain.specs.Listed.{IsEndOf, IsShownBy};
+ghost use Rattle.ends_plain.specs.Ways.{GoesOn};
 
 use crate::config::{Config, Found, Setting};
 use crate::events::{may_expire, may_interrupt};
@@ -30,17 +29,6 @@ pub fn can_come(config: &Config, setting: &Setting, event: Event) -> bool
     }
 }
 
-/// The event, if it can come.
-fn coming(config: &Config, setting: &Setting, event: Event) -> Option<Event>
-    ensures { IfSome result (λ e. can setting.now config.now e ≡ true) }
-{
-    if can_come(config, setting, event) {
-        Some(event)
-    } else {
-        None
-    }
-}
-
 /// Goes on by the events, as far as they can come. Can each of them?
 fn follow(
     alloc: Global,
@@ -48,16 +36,13 @@ fn follow(
     events: &[Event],
     way: &mut Way,
 ) -> Result<bool, AllocError>
-    ensures { (first : Config)
-        → IsWay (next setting.now) (can setting.now) first way.old.trace way.old.config
-        → OnOk result
-        (IsWay (next setting.now) (can setting.now) first way.new.trace way.new.config) }
+    ensures { OnOk result (GoesOn setting.now way.old way.new) }
 {
-    for next in events {
-        let Some(event) = coming(&way.config, setting, *next) else {
+    for event in events {
+        if !can_come(&way.config, setting, *event) {
             return Ok(false);
-        };
-        way.go(alloc, setting, event)?;
+        }
+        way.go(alloc, setting, *event)?;
     }
     Ok(true)
 }

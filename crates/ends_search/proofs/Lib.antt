@@ -1,2 +1,3 @@
+pub mod ExpandLemmas
 pub mod SearchLemmas
 pub mod StateLemmas

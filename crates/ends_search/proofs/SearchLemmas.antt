@@ -8,7 +8,7 @@ use Rattle.std.specs.List.{Contains}
 use Rattle.std.proofs.lemmas.List.{reverse-append}
 use Rattle.std.proofs.Math.ListN.{get_or-append}
 use Rattle.std.proofs.Math.Seq.{get_or-append_seam}
-use Rattle.std.proofs.lemmas.List.Elements.{Contains-append_left, Contains-push}
+use Rattle.std.proofs.lemmas.List.Elements.{Contains-append_left}
 use Rattle.sts_model.specs.declared.event.Event.{Event}
 use Rattle.ends_search.specs.declared.origin.Origin.{Origin}
 use Rattle.ends_search.specs.Search.{IsTraced, IsSearched, ComesFrom, IsAmong, Grows, LeadsInto, Begins, Follows, IsClosed, origin_at, no_origin, CanAt, CanAll, IsWay}
@@ -103,9 +103,6 @@ way_back next can states back o at place from d h =
 
 -- ---- one event
 
-pub made_of : {S : Type 0} (next : S → Event → S) (old : List S) (k : ℕ) (x s : S) (e : Event) → k < length old → x ≡ slice_index_or old k x → s ≡ next x e → (d : S) → s ≡ next (slice_index_or old k d) e
-made_of next old k x s e within is made d = made ∙ ap (λ y. next y e) (is ∙ get_or_default old k x d within)
-
 pub grows_none : {S : Type 0} (xs : List S) → Grows xs xs
 grows_none xs = record { more = []; same = sym (append-nil xs) }
 
@@ -124,26 +121,6 @@ at_older old mid new next alike k e grows within h d =
     rw same at (h d)
 
 -- ---- one event after another
-
--- an event that is listed for the older state at k can come at it among more states
-pub can_at : {S : Type 0} (can : S → Event → Bool) (old mid : List S) (k : ℕ) (x : S) (events : List Event) (n : ℕ) (e0 : Event) → k < length old → x ≡ slice_index_or old k x
-    → ((e : Event) → Contains events e → can x e ≡ true) → Grows old mid → n < length events → CanAt can mid k (slice_index_or events n e0)
-can_at can old mid k x events n e0 within is only grows less d =
-    let e = slice_index_or events n e0 in
-    let listed : Contains events e = (n, less, get_or_default events n e e0 less) in
-    let same : slice_index_or mid k d ≡ x = ap (λ xs. slice_index_or xs k d) grows.same ∙ get_or-append old grows.more d k within ∙ get_or_default old k d x within ∙ sym is in
-    rw same (only e listed)
-
--- all listed events but the last one
-pub only_front : {S : Type 0} (can : S → Event → Bool) (x : S) (events front : List Event) (last : Event) → events ≡ front ++ last ∷ [] → ((e : Event) → Contains events e → can x e ≡ true) → (e : Event) → Contains front e → can x e ≡ true
-only_front can x events front last are only e listed = only e (subst (λ es. Contains es e) (sym are) (Contains-append_left front (last ∷ []) e listed))
-
--- the last one
-pub can_last : {S : Type 0} (can : S → Event → Bool) (old mid : List S) (k : ℕ) (x : S) (events front : List Event) (last : Event) → k < length old → x ≡ slice_index_or old k x
-    → events ≡ front ++ last ∷ [] → ((e : Event) → Contains events e → can x e ≡ true) → Grows old mid → CanAt can mid k last
-can_last can old mid k x events front last within is are only grows d =
-    let same : slice_index_or mid k d ≡ x = ap (λ xs. slice_index_or xs k d) grows.same ∙ get_or-append old grows.more d k within ∙ get_or_default old k d x within ∙ sym is in
-    rw same (only last (subst (λ es. Contains es last) (sym are) (Contains-push front last)))
 
 -- the first n of these events lead from the state at k to states that are there
 pub record Spreads {S : Type 0} (next : S → Event → S) (alike : S → S → Type 0) (old : List S) (k : ℕ) (events : List Event) (n : ℕ) (new : List S) : Type 0 where

@@ -10,7 +10,7 @@ use Rattle.std.specs.Prelude.{slice_index_or, Option, None, drop}
 use Rattle.std.proofs.lemmas.List.Elements.{Contains-push}
 use Rattle.sts_model.specs.declared.event.Event.{Event}
 use Rattle.ends_search.specs.declared.origin.Origin.{Origin}
-use Rattle.ends_search.specs.Search.{Grows, Begins, Follows, LeadsInto, IsKept, AreKept, IsAmong, IsSpace, CanAt, mark_at, state_at, states_of, with_next}
+use Rattle.ends_search.specs.Search.{Grows, Begins, Follows, LeadsInto, IsKept, AreKept, IsAmong, IsSpace, CanAt, ComesFrom, mark_at, no_origin, origin_at, state_at, states_of, with_next}
 use Rattle.ends_search.proofs.SearchLemmas.{traced_more, searched_on, searched_more}
 use Rattle.laws_words.proofs.NumberLemmas.{split}
 
@@ -33,10 +33,6 @@ states_more next first origins o some =
 
 pub begins_so : {S : Type 0} (next : S → Event → S) (first : S) (origins : List Origin) → 0 < length (states_of next first origins) → Begins first (states_of next first origins)
 begins_so next first origins some = record { some = some; first = λ d. starts next first origins d }
-
--- a state, whatever is read past the end
-pub state_is : {S : Type 0} (states : List S) (k : ℕ) (first d : S) → k < length states → slice_index_or states k d ≡ slice_index_or states k first
-state_is states k first d less = get_or_default states k d first less
 
 -- ---- one state more
 
@@ -109,3 +105,28 @@ space_closed next can alike last first os origins closed kept older marks earlie
   searched = searched_more next can alike last (states_of next first os) (states_of next first origins) os origins closed old.searched (omega (arith, less, old.searched.traced.as_many)) grows new.searched.traced leads;
   whole_ones = new.whole_ones;
 }
+
+-- the search after it, if any event led from it to a state that is there
+pub space_expanded : {S : Type 0} {next : S → Event → S} {can : S → Event → Bool} {alike : S → S → Type 0} {last : S → Bool} {first start : S} {os origins : List Origin} {closed count : ℕ} {kept older : List S} {marks earlier : List (Option ℕ)} → IsSpace next can alike last first os closed older earlier
+    → IsSpace next can alike last start origins count kept marks → start ≡ first → count ≡ closed → closed < length os → Grows (states_of next first os) (states_of next start origins) → LeadsInto next can alike (states_of next first os) closed (states_of next start origins)
+    → IsSpace next can alike last start origins (closed + 1) kept marks
+space_expanded {S} {next} {can} {alike} {last} {first} {start} {os} {origins} {closed} {count} {kept} {older} {marks} {earlier} old new begun same less grows leads =
+    rw begun (space_closed next can alike last first os origins closed kept older marks earlier old (rw (begun, same) at new) less (rw begun at grows) (rw begun at leads))
+
+-- ---- one state
+
+-- a state after the first one comes from an older one by its origin
+pub came_from : {S : Type 0} {next : S → Event → S} {can : S → Event → Bool} {alike : S → S → Type 0} {last : S → Bool} {first : S} {origins : List Origin} {closed : ℕ} {kept : List S} {marks : List (Option ℕ)} → IsSpace next can alike last first origins closed kept marks
+    → (k : ℕ) (o : Origin) → 0 < k → k < length origins → o ≡ slice_index_or origins k o → ComesFrom next can (states_of next first origins) o k
+came_from {S} {next} {can} {alike} {last} {first} {origins} space k o some less is =
+    let traced = space.searched.traced in
+    let same : o ≡ origin_at origins k = is ∙ get_or_default origins k o no_origin less in
+    subst (λ x. ComesFrom next can (states_of next first origins) x k) (sym same) (traced.later k some (omega (arith, less, traced.as_many)))
+
+-- a state is kept whole at its mark
+pub kept_at : {S : Type 0} {next : S → Event → S} {can : S → Event → Bool} {alike : S → S → Type 0} {last : S → Bool} {first : S} {origins : List Origin} {closed : ℕ} {kept : List S} {marks : List (Option ℕ)} → IsSpace next can alike last first origins closed kept marks
+    → (k : ℕ) → k < length origins → (mark : Option ℕ) → mark ≡ slice_index_or marks k mark → IsKept kept mark (state_at next first origins k)
+kept_at {S} {next} {can} {alike} {last} {first} {origins} {closed} {kept} {marks} space k less mark is =
+    let within : k < length (states_of next first origins) = omega (arith, less, space.searched.traced.as_many) in
+    let same : mark ≡ mark_at marks k = is ∙ get_or_default marks k mark None (omega (arith, within, space.whole_ones.as_many)) in
+    subst (λ m. IsKept kept m (state_at next first origins k)) (sym same) (space.whole_ones.each k within first)

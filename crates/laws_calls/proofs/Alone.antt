@@ -24,7 +24,7 @@ use Rattle.sts_model.specs.declared.record.Slot.TheVariants as slots
 use Rattle.sts_model.specs.World.{World, task_at, scope_at, with_frame, instr_at, code}
 use Rattle.sts_model.specs.Local as locals
 use Rattle.sts_model.specs.Local.{is_local, goes, steps, truth, operand}
-use Rattle.sts_model.specs.Living.{lives, completion_of, scope_of, parent, sub_state, ends}
+use Rattle.sts_model.specs.Living.{lives, completion_of, scope_of, parent, sub_state}
 use Rattle.sts_model.specs.Misuse.{slot, is_sub, is_scope, innermost, is_binding, has_succeeded, has_failed, at_sub, is_readable, is_illegal, is_joined, at_own}
 use Rattle.sts_model.specs.Environment.{environment_of, bound_of, read}
 use Rattle.sts_model.specs.Effect.{named, case_target, value_or_zero, tally, total, moved, effect}
@@ -37,7 +37,7 @@ use Rattle.laws_runs.proofs.StayLemmas.{ended_is_dead}
 use Rattle.laws_runs.proofs.FrameLemmas.{at_own-is, Leaves, leaves-local, own_slot}
 use Rattle.laws_runs.specs.Tallies.{is_kind}
 use Rattle.laws_calls.specs.Outside.{Outside}
-use Rattle.laws_calls.specs.Fitting.{Answers, heard_in, most, MayCount}
+use Rattle.laws_calls.specs.Fitting.{Answers, heard_in, most}
 use Rattle.laws_calls.specs.Held as held
 use Rattle.laws_calls.specs.Tasks.{AllTwo, at_place, HasWay, Part, Seen, Own, bare, births_in, held_at}
 use Rattle.laws_calls.specs.Tasks.{Knowledge, Unseen, ByJoiner, Heard, bindings, May, Asked, Late}
@@ -48,7 +48,7 @@ use Rattle.laws_calls.specs.Steps.{missed_step, get_step, except_step, tally_ste
 use Rattle.laws_calls.specs.Covers.{PartFits, SeenFits, HeldFits, FrameFits, TaskFits, IsRight, IsTimely, InOrder, subs}
 use Rattle.laws_calls.specs.Covers.{FlagMayBe, IsCovered, Covers, alive_in}
 use Rattle.laws_calls.proofs.Lists.{all_set, Apart, kept_way, no, at_among}
-use Rattle.laws_calls.proofs.Turns.{Facts, FlagsHaveCause, apart_births, free_around, births_has}
+use Rattle.laws_calls.proofs.Turns.{Facts, FlagsHaveCause, apart_births, free_around, births_has, known_as, parts_as}
 use Rattle.laws_calls.proofs.Moves.{Turned, goes_by, covers_turned, turned_frame, turned_flag, fits_later, subs_same}
 use Rattle.laws_calls.proofs.Moves.{OwnScope, own_scope, OwnSub, own_sub, held_lent, held_slot, put_seen, put_part}
 use Rattle.laws_calls.proofs.Births.{step_left}
@@ -56,7 +56,7 @@ use Rattle.laws_calls.proofs.Counts.{states_in, tally_states}
 use Rattle.laws_calls.proofs.Totals.{total_states, count_states}
 use Rattle.laws_calls.proofs.Early.{order_saw, order_put, order_missed}
 use Rattle.laws_calls.proofs.Possible.{decided_on_time, are_possible, counts_cancelled, pick_fits, unknown, unheard, few_free, settled_fits, counts_most, undecided}
-use Rattle.laws_calls.specs.Triggers.{is_trigger, triggers}
+use Rattle.laws_calls.specs.Triggers.{is_trigger}
 use Rattle.laws_calls.proofs.Frames.{bare_local, blank_bounds, blank_drop}
 
 -- does the instruction change no more than the frame and the flag of its task?
@@ -270,16 +270,12 @@ module _ (p : Program) (outside : Outside) (t : Table) (root : Row) (is : IsTabl
                   (ap (λ (z : Frame). steps z 0 (truth true ∷ [])) k.fits.frame) o.at new;
             }
 
-        known_as : (s : ℕ) (y : Seen) (q : Knowledge) → SeenFits rows w s y → IsRight q (scope_at w s) → (q ≡ ByJoiner → is_joined y.phase ≡ true → (scope_at w s).expired ≡ false) → MayCount q y.phase y.joiner (triggers y.joiner (ends (scope_at w s))) → SeenFits rows w s (record y { knowledge = q })
-        known_as s y q k2 right timely counts =
-            record { joiner = k2.joiner; timed = k2.timed; environment = k2.environment; phase = k2.phase; known = right; on_time = timely; parts = k2.parts; counts = counts; asked = k2.asked; order = k2.order }
-
         by_joiner : (s : ℕ) (o : OwnScope rows w f own x s) → (scope_at w s).cancelled ≡ true → may_decide o.seen.knowledge ≡ true → StepsTo p outside t rows w u own (Cancelled x) (steps f 0 (truth true ∷ []))
-        by_joiner s o e may = pushed s o (after_cancel o.seen) (known_as s o.seen ByJoiner o.fits e (λ is joined. decided_on_time rows w s o.seen o.fits may joined) (counts_cancelled o.seen.knowledge o.seen.phase o.seen.joiner _ may o.fits.counts)) (cancelled_step o.place o.seen o.owns may)
+        by_joiner s o e may = pushed s o (after_cancel o.seen) (known_as o.seen o.fits ByJoiner e (λ is joined. decided_on_time rows w s o.seen o.fits may joined) (counts_cancelled o.seen.knowledge o.seen.phase o.seen.joiner _ may o.fits.counts)) (cancelled_step o.place o.seen o.owns may)
 
         by_expiry : (s : ℕ) (o : OwnScope rows w f own x s) → (scope_at w s).cancelled ≡ true → (scope_at w s).expired ≡ true → may_be_late o.seen.knowledge ≡ true → StepsTo p outside t rows w u own (Cancelled x) (steps f 0 (truth true ∷ []))
         by_expiry s o e late may =
-            pushed s o (after_expiry o.seen) (known_as s o.seen Late o.fits (e, late) (λ is joined. cc) (counts_most o.seen.knowledge o.seen.phase o.seen.joiner _ o.fits.counts))
+            pushed s o (after_expiry o.seen) (known_as o.seen o.fits Late (e, late) (λ is joined. cc) (counts_most o.seen.knowledge o.seen.phase o.seen.joiner _ o.fits.counts))
             (expired_step o.place o.seen o.owns may (o.fits.timed ∙ timely s late))
 
         -- what was known of a scope that has expired
@@ -408,18 +404,7 @@ module _ (p : Program) (outside : Outside) (t : Table) (root : Row) (is : IsTabl
 
           saw_fits : (v : _) → state ≡ Some (Failed v) → SeenFits rows w o.scope (saw_failure o.seen)
           saw_fits v e =
-              record {
-                joiner = o.fits.joiner;
-                timed = o.fits.timed;
-                environment = o.fits.environment;
-                phase = o.fits.phase;
-                known = o.fits.known;
-                on_time = o.fits.on_time;
-                parts = o.fits.parts;
-                counts = o.fits.counts;
-                asked = o.fits.asked;
-                order = λ q. order_saw w h.right o.scope (PartFits rows (alive_in w) (scope_at w o.scope)) o.seen.parts o.fits.parts o.seen.has_failure (o.fits.order q) c v e;
-              }
+              parts_as o.seen o.fits o.seen.parts o.seen.asked true o.fits.parts (λ q. order_saw w h.right o.scope (PartFits rows (alive_in w) (scope_at w o.scope)) o.seen.parts o.fits.parts o.seen.has_failure (o.fits.order q) c v e) o.fits.asked
 
           by : (q : Option End) → state ≡ q → StepsTo p outside t rows w u own (Case x success failed) (goes f (case_target q success failed (f.pc + 1)) 0 [])
           by None e =
@@ -430,47 +415,41 @@ module _ (p : Program) (outside : Outside) (t : Table) (root : Row) (is : IsTabl
           by (Some (Failed v)) e =
               to_told failed is_failure (Failed v) (saw_failure o.seen) (saw_fits v e) o.knows.known e refl (failure_step o.place o.seen o.i o.part (is_trigger o.seen.joiner (Failed v)) o.knows)
 
-      to_get : has_succeeded state ≡ true → StepsTo p outside t rows w u own (Get x) (steps f 0 (value_or_zero state ∷ []))
-      to_get = by state refl
+      -- an instruction that reads an end which passes a test pushes its value
+      to_value : (i : Instr) (test : Option End → Bool) → test None ≡ false
+          → ((e : End) → state ≡ Some e → test (Some e) ≡ true → Steps p outside (rows u).call own i (pushes (with_part own o.place o.seen o.i (only e o.part)) 0 (value_or_zero (Some e))))
+          → test state ≡ true → StepsTo p outside t rows w u own i (steps f 0 (value_or_zero state ∷ []))
+      to_value i test none step = by state refl
         where
-          by : (q : Option End) → state ≡ q → has_succeeded q ≡ true → StepsTo p outside t rows w u own (Get x) (steps f 0 (value_or_zero q ∷ []))
-          by None e legal = cc
-          by (Some (Failed v)) e legal = cc
-          by (Some (Success v)) e legal =
-              to_part alive (Get x) x o (only (Success v) o.part) (steps f 0 (v ∷ [])) (steps own.frame 0 (v ∷ [])) (keeps_order o.seen (only (Success v) o.part) o.fits o.knows.known refl) (leaves_refl f (f.pc + 1) 0 (v ∷ []))
-              (ap (λ (z : Frame). steps z 0 (v ∷ [])) k.fits.frame)
-              (ended_part (only (Success v) o.part) (Success v) e (inl refl))
-              (get_step o.place o.seen o.i o.part v o.knows (way_of (Success v) e))
+          by : (q : Option End) → state ≡ q → test q ≡ true → StepsTo p outside t rows w u own i (steps f 0 (value_or_zero q ∷ []))
+          by None e legal = absurd (no (sym legal ∙ none))
+          by (Some end) e legal =
+              let value = value_or_zero (Some end) in
+              to_part alive i x o (only end o.part) (steps f 0 (value ∷ [])) (steps own.frame 0 (value ∷ [])) (keeps_order o.seen (only end o.part) o.fits o.knows.known refl) (leaves_refl f (f.pc + 1) 0 (value ∷ []))
+              (ap (λ (z : Frame). steps z 0 (value ∷ [])) k.fits.frame)
+              (ended_part (only end o.part) end e (inl refl))
+              (step end e legal)
+
+      -- the value of a success, or of a failure
+      reads_success : (e : End) → state ≡ Some e → has_succeeded (Some e) ≡ true → Steps p outside (rows u).call own (Get x) (pushes (with_part own o.place o.seen o.i (only e o.part)) 0 (value_or_zero (Some e)))
+      reads_success (Success v) e legal = get_step o.place o.seen o.i o.part v o.knows (way_of (Success v) e)
+      reads_success (Failed v) e legal = cc
+
+      reads_failure : (e : End) → state ≡ Some e → has_failed (Some e) ≡ true → Steps p outside (rows u).call own (Except x) (pushes (with_part own o.place o.seen o.i (only e o.part)) 0 (value_or_zero (Some e)))
+      reads_failure (Failed v) e legal = except_step o.place o.seen o.i o.part v o.knows (way_of (Failed v) e)
+      reads_failure (Success v) e legal = cc
+
+      to_get : has_succeeded state ≡ true → StepsTo p outside t rows w u own (Get x) (steps f 0 (value_or_zero state ∷ []))
+      to_get = to_value (Get x) has_succeeded refl reads_success
 
       to_except : has_failed state ≡ true → StepsTo p outside t rows w u own (Except x) (steps f 0 (value_or_zero state ∷ []))
-      to_except = by state refl
-        where
-          by : (q : Option End) → state ≡ q → has_failed q ≡ true → StepsTo p outside t rows w u own (Except x) (steps f 0 (value_or_zero q ∷ []))
-          by None e legal = cc
-          by (Some (Success v)) e legal = cc
-          by (Some (Failed v)) e legal =
-              to_part alive (Except x) x o (only (Failed v) o.part) (steps f 0 (v ∷ [])) (steps own.frame 0 (v ∷ [])) (keeps_order o.seen (only (Failed v) o.part) o.fits o.knows.known refl) (leaves_refl f (f.pc + 1) 0 (v ∷ []))
-              (ap (λ (z : Frame). steps z 0 (v ∷ [])) k.fits.frame)
-              (ended_part (only (Failed v) o.part) (Failed v) e (inl refl))
-              (except_step o.place o.seen o.i o.part v o.knows (way_of (Failed v) e))
+      to_except = to_value (Except x) has_failed refl reads_failure
 
     -- ---- counts
 
     -- the owner got an answer
     seen_asked : (s : ℕ) (x : Seen) (asked : Asked) → SeenFits rows w s x → is_joined (scope_at w s).phase ≡ true → Answers asked (states_in w s) → SeenFits rows w s (record x { asked = asked })
-    seen_asked s x asked k2 joined answers =
-        record {
-          joiner = k2.joiner;
-          timed = k2.timed;
-          environment = k2.environment;
-          phase = k2.phase;
-          known = k2.known;
-          on_time = k2.on_time;
-          parts = k2.parts;
-          counts = k2.counts;
-          asked = inr (now k2.phase, answers);
-          order = k2.order;
-        }
+    seen_asked s x asked k2 joined answers = parts_as x k2 x.parts asked x.has_failure k2.parts k2.order (inr (now k2.phase, answers))
       where
         now : ((scope_at w s).phase ≡ x.phase) ⊎ ((scope_at w s).phase ≡ Closing) → is_joined x.phase ≡ true
         now (inl same) = sym (ap is_joined same) ∙ joined
@@ -532,6 +511,15 @@ module _ (p : Program) (outside : Outside) (t : Table) (root : Row) (is : IsTabl
     named_sub : (i : Instr) (x : ℕ) (b : Bool) → (not (is_sub (slot frame x)) || b) ≡ false → slot frame x ≡ slots.Sub (named (slot frame x))
     named_sub i x b e = sub_slot (slot frame x) (first_no _ b e)
 
+    -- an instruction that reads the end of a subtask which passes a test
+    reads_end : (i : Instr) (x : ℕ) (test : Option End → Bool) → slot frame x ≡ slots.Sub (named (slot frame x)) → test (sub_state w (named (slot frame x))) ≡ true
+        → ((own : Own) (k : TaskFits outside c.rows w u own) (o : OwnSub c.rows w frame own x (named (slot frame x))) → test (completion_of (scope_at w o.scope).completions (named (slot frame x))) ≡ true → StepsTo p outside t c.rows w u own i (steps frame 0 (value_or_zero (completion_of (scope_at w o.scope).completions (named (slot frame x))) ∷ [])))
+        → IsCovered outside w u → (own : Own) → TaskFits outside c.rows w u own → StepsTo p outside t c.rows w u own i (steps frame 0 (value_or_zero (sub_state w (named (slot frame x))) ∷ []))
+    reads_end i x test mine legal reads owed own k =
+        let o = own_sub c.rows w frame own x (named (slot frame x)) k.fits mine in
+        let e = state_of c.rows u own k x o in
+        subst (λ q. StepsTo p outside t c.rows w u own i (steps frame 0 (value_or_zero q ∷ []))) (sym e) (reads own k o (subst (λ q. test q ≡ true) e legal))
+
     give_local : (i : Instr) → is_local i ≡ true → (locals.local (code p frame) i frame ≡ moved p w u frame i) → effect p w u frame i ≡ with_frame w u (moved p w u frame i) → Gives i
     give_local i local same is2 n flags d =
         let e : effect p w u frame i ≡ with_frame w u (locals.local (code p frame) i frame) = is2 ∙ ap (λ (g : Frame). with_frame w u g) (sym same) in
@@ -549,20 +537,10 @@ module _ (p : Program) (outside : Outside) (t : Table) (root : Row) (is : IsTabl
         subst (λ q. StepsTo p outside t c.rows w u own (Case x success failed) (goes frame (case_target q success failed (frame.pc + 1)) 0 [])) (sym (state_of c.rows u own k x o)) (to_case c.rows u own k d.alive x o success failed))
     give (Get x) a n flags d =
         let mine = named_sub (Get x) x false d.fine.slots in
-        let legal = readable_success p w frame x mine d.fine.legal in
-        with_next (Get x) (moved p w u frame (Get x)) n flags d
-        (λ owed own k.
-        let o = own_sub c.rows w frame own x (named (slot frame x)) k.fits mine in
-        let e = state_of c.rows u own k x o in
-        subst (λ q. StepsTo p outside t c.rows w u own (Get x) (steps frame 0 (value_or_zero q ∷ []))) (sym e) (to_get c.rows u own k d.alive x o (subst (λ q. has_succeeded q ≡ true) e legal)))
+        with_next (Get x) (moved p w u frame (Get x)) n flags d (reads_end (Get x) x has_succeeded mine (readable_success p w frame x mine d.fine.legal) (λ own k o. to_get c.rows u own k d.alive x o))
     give (Except x) a n flags d =
         let mine = named_sub (Except x) x false d.fine.slots in
-        let legal = readable_failure p w frame x mine d.fine.legal in
-        with_next (Except x) (moved p w u frame (Except x)) n flags d
-        (λ owed own k.
-        let o = own_sub c.rows w frame own x (named (slot frame x)) k.fits mine in
-        let e = state_of c.rows u own k x o in
-        subst (λ q. StepsTo p outside t c.rows w u own (Except x) (steps frame 0 (value_or_zero q ∷ []))) (sym e) (to_except c.rows u own k d.alive x o (subst (λ q. has_failed q ≡ true) e legal)))
+        with_next (Except x) (moved p w u frame (Except x)) n flags d (reads_end (Except x) x has_failed mine (readable_failure p w frame x mine d.fine.legal) (λ own k o. to_except c.rows u own k d.alive x o))
     give (Tally x kind) a n flags d =
         let mine : slot frame x ≡ slots.Own (named (slot frame x)) = own_slot (slot frame x) (first_no _ _ (first_no _ _ d.fine.slots)) d.fine.own in
         with_next (Tally x kind) (moved p w u frame (Tally x kind)) n flags d (λ owed own k. to_tally c.rows u own k d.alive x kind (named (slot frame x)) mine (joined_scope p w frame x mine d.fine.legal))

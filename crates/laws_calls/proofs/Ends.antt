@@ -34,10 +34,9 @@ use Rattle.laws_calls.specs.Tasks.{HasWay, May, Part, Seen, Knowledge, Unseen, B
 use Rattle.laws_calls.specs.Steps.{Row, Table, IsTable, end_by}
 use Rattle.laws_calls.specs.Covers.{subs, PartFits, ScopeFits, SeenFits, IsRight}
 use Rattle.laws_calls.specs.Covers.{IsTimely, IsCovered, Watched, watched_root, watched_sub, Covers, HasState, alive_in}
-use Rattle.laws_calls.proofs.Births.{same_births}
 use Rattle.laws_calls.proofs.Lists.{all_map, no}
 use Rattle.laws_calls.proofs.Turns.{Facts, FlagsHaveCause, alive_later, covered_before, seen_same, task_same, sub_born}
-use Rattle.laws_calls.proofs.Moves.{subs_same}
+use Rattle.laws_calls.proofs.Moves.{covers_on, subs_same}
 use Rattle.laws_calls.proofs.Phases.{at_cancelled}
 use Rattle.laws_calls.specs.Triggers.{triggers}
 use Rattle.laws_calls.specs.Fitting.{most, MayCount, Answers}
@@ -301,17 +300,7 @@ module _ (p : Program) (outside : Outside) (t : Table) (root : Row) (is : IsTabl
     root_ended e is2 false q = let other : 0 ≡ u → ⊥ = grind (arith, nat_tests) in c.ended e (sym (o.outcome 0 other) ∙ is2)
 
     pub covers_ended : Covers p outside t root v
-    covers_ended =
-        record {
-          rows = c.rows;
-          listed = c.listed;
-          first = c.first;
-          left = c.left;
-          births = λ wide. same_births c.left root w v o.count o.opened (c.births wide);
-          timely = λ s. o.timely s (c.timely s);
-          tasks = covered;
-          ended = λ e is2. root_ended e is2 (nat_eq 0 u) refl;
-        }
+    covers_ended = covers_on c v o.count o.opened (λ s. o.timely s (c.timely s)) covered (λ e is2. root_ended e is2 (nat_eq 0 u) refl)
 
 pub end_covered : (p : Program) (outside : Outside) (t : Table) (root : Row) → IsTable p outside t root → (w : World) (h : Facts w) (u : ℕ) (i : Instr) (end : End) → Does p w u i → end_by i (bare (task_at w u).frame) ≡ Some end → Covers p outside t root w
     → Next w (end_task w u (task_at w u).frame end) → FlagsHaveCause outside w (end_task w u (task_at w u).frame end) → Covers p outside t root (end_task w u (task_at w u).frame end)

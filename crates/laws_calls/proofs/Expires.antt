@@ -23,11 +23,10 @@ use Rattle.laws_calls.specs.Outside.{Outside}
 use Rattle.laws_calls.specs.Tasks.{Seen, Knowledge, Unseen, ByJoiner, Late, Heard}
 use Rattle.laws_calls.specs.Steps.{Row, Table}
 use Rattle.laws_calls.specs.Covers.{subs, PartFits, ScopeFits, SeenFits, IsRight, IsTimely, IsCovered, Covers, HasState, alive_in}
-use Rattle.laws_calls.proofs.Births.{same_births}
 use Rattle.laws_calls.proofs.Lists.{all_map, no}
 use Rattle.laws_calls.proofs.Possible.{joined_on}
 use Rattle.laws_calls.proofs.Turns.{Facts, FlagsHaveCause, alive_later, covered_before, seen_same, task_same}
-use Rattle.laws_calls.proofs.Moves.{subs_same}
+use Rattle.laws_calls.proofs.Moves.{covers_on, subs_same}
 use Rattle.laws_calls.proofs.Early.{order_same}
 use Rattle.laws_calls.proofs.Phases.{cancel_here}
 
@@ -96,16 +95,7 @@ module _ (p : Program) (outside : Outside) (t : Table) (root : Row) (w : World) 
 
     covers_expired : Covers p outside t root w → Covers p outside t root v
     covers_expired c =
-        record {
-          rows = c.rows;
-          listed = c.listed;
-          first = c.first;
-          left = c.left;
-          births = λ wide. same_births c.left root w v still.kept.tasks still.kept.scopes (c.births wide);
-          timely = λ r. timely r (nat_eq r s) refl;
-          tasks = covered;
-          ended = λ e is. c.ended e (sym (still.outcome 0) ∙ is);
-        }
+        covers_on c v still.kept.tasks still.kept.scopes (λ r. timely r (nat_eq r s) refl) covered (λ e is. c.ended e (sym (still.outcome 0) ∙ is))
       where
         timely : (r : ℕ) (b : Bool) → nat_eq r s ≡ b → IsTimely (scope_at v r)
         timely r true e = let same : r ≡ s = grind (arith, nat_tests) in subst (λ i. IsTimely (scope_at v i)) (sym same) (subst (λ (z : Scope). IsTimely z) (sym here) (λ late. timed))

@@ -40,7 +40,7 @@ use Rattle.laws_calls.specs.Covers.{IsCovered, Covers, HasState, alive_in, IsRig
 use Rattle.laws_calls.proofs.Lists.{all_map, all_set, all_length, all_append, all_put_place, Apart, filter_agree, range_last}
 use Rattle.laws_calls.proofs.Lists.{range_among, get_front, get_last, no}
 use Rattle.laws_calls.proofs.Turns.{Facts, FlagsHaveCause, alive_later, covered_before, flag_stays, environment_stays}
-use Rattle.laws_calls.proofs.Turns.{part_same, seen_same, held_same, task_same, apart_births, sub_born, owner_covered, covered_or_not}
+use Rattle.laws_calls.proofs.Turns.{part_same, seen_same, held_same, task_same, apart_births, sub_born, owner_covered, covered_or_not, parts_as}
 use Rattle.laws_calls.proofs.Births.{cut, cut_here, cut_other, sum_cut, sum_agrees}
 use Rattle.laws_calls.proofs.Moves.{GoesOn, goes_by, OwnScope, own_scope}
 use Rattle.laws_calls.proofs.Early.{order_more}
@@ -207,21 +207,12 @@ module _ (p : Program) (w : World) (h : Facts w) (u x g : ℕ) (q : Option ℕ) 
     seen_fits =
         subst (λ (z : Scope). ScopeFits later (alive_in after) z (subs after s) seen) (sym (scope_same s))
         (subst (λ us. ScopeFits later (alive_in after) (scope_at w s) us seen) (sym (subs_here born))
-        (record {
-          joiner = k.scope.fits.joiner;
-          timed = k.scope.fits.timed;
-          environment = k.scope.fits.environment;
-          phase = k.scope.fits.phase;
-          known = k.scope.fits.known;
-          on_time = k.scope.fits.on_time;
-          counts = k.scope.fits.counts;
-          asked = inl k.unasked;
-          order = λ e. order_more k.scope.seen.has_failure (scope_at w s) (subs w s) k.scope.seen.parts n part refl (k.scope.fits.order e);
-          parts = all_append (PartFits later (alive_in after) (scope_at w s)) (subs w s) k.scope.seen.parts (n ∷ []) (part ∷ [])
-              (all_map (PartFits rows (alive_in w) (scope_at w s)) (PartFits later (alive_in after) (scope_at w s)) (subs w s) k.scope.seen.parts
-              (λ i y at e. part_same w after h nx rows later (scope_at w s) i y (sub_born w s i at) (agree i (sub_born w s i at)) e) k.scope.fits.parts)
-              (part_fits, tt);
-        }))
+        (parts_as k.scope.seen k.scope.fits (k.scope.seen.parts ++ part ∷ []) k.scope.seen.asked k.scope.seen.has_failure
+        (all_append (PartFits later (alive_in after) (scope_at w s)) (subs w s) k.scope.seen.parts (n ∷ []) (part ∷ [])
+        (all_map (PartFits rows (alive_in w) (scope_at w s)) (PartFits later (alive_in after) (scope_at w s)) (subs w s) k.scope.seen.parts
+        (λ i y at e. part_same w after h nx rows later (scope_at w s) i y (sub_born w s i at) (agree i (sub_born w s i at)) e) k.scope.fits.parts)
+        (part_fits, tt))
+        (λ e. order_more k.scope.seen.has_failure (scope_at w s) (subs w s) k.scope.seen.parts n part refl (k.scope.fits.order e)) (inl k.unasked)))
 
     -- a subtask keeps its place
     place_stays : (r i c : ℕ) → slice_get (subs w r) i ≡ Some c → slice_get (subs after r) i ≡ Some c

@@ -7,6 +7,7 @@ use Rattle.std.specs.Prelude.{slice_get}
 use Rattle.std.specs.List.{filter, range_with_len}
 use Rattle.std.proofs.lemmas.Bool.Decides.{nat_tests}
 use Rattle.sts_code.specs.Program.{Program}
+use Rattle.sts_model.specs.declared.event.End.{End}
 use Rattle.sts_model.specs.declared.record.Frame.{Frame}
 use Rattle.sts_model.specs.declared.record.Slot.TheVariants as slots
 use Rattle.sts_model.specs.declared.record.Task.{Task}
@@ -20,16 +21,16 @@ use Rattle.laws_runs.proofs.BirthLemmas.{born_alive}
 use Rattle.laws_calls.specs.Outside.{Outside}
 use Rattle.laws_calls.specs.Held.{Held}
 use Rattle.laws_calls.specs.Held as held
-use Rattle.laws_calls.specs.Tasks.{Among, AllTwo, at_place, put_place, Part, Seen, Own, births_in, held_at}
+use Rattle.laws_calls.specs.Tasks.{Among, AllTwo, HasWay, at_place, put_place, Part, Seen, Own, births_in, held_at}
 use Rattle.laws_calls.specs.Fitting.{ArePossible}
 use Rattle.laws_calls.specs.Steps.{Row, Table, Owns, Knows, LeadsBy}
 use Rattle.laws_calls.specs.Covers.{subs, PartFits, SeenFits, HeldFits, FrameFits, TaskFits, IsTimely, InOrder}
 use Rattle.laws_calls.specs.Covers.{IsCovered, Covers, HasState, alive_in, sum_to}
-use Rattle.laws_calls.proofs.Births.{cut, cut_here, cut_other, sum_cut}
+use Rattle.laws_calls.proofs.Births.{cut, cut_here, cut_other, same_births, sum_cut}
 use Rattle.laws_calls.proofs.Lists.{all_map, all_get, all_at, all_put, all_place, all_put_place}
 use Rattle.laws_calls.proofs.Lists.{filter_same, Apart, get_among}
 use Rattle.laws_calls.proofs.Turns.{Facts, FlagsHaveCause, alive_later, covered_before, flag_stays}
-use Rattle.laws_calls.proofs.Turns.{environment_stays, seen_same, held_same, task_same, listed_inside}
+use Rattle.laws_calls.proofs.Turns.{environment_stays, seen_same, held_same, task_same, listed_inside, parts_as}
 
 -- the task t has the frame g, and this number of scopes was born
 pub record Turned (w v : World) (t : ℕ) (g : Frame) (born : ℕ) : Type 0 where
@@ -250,15 +251,21 @@ put_seen rows w opened scopes place s x k apart at new = all_put_place (SeenFits
 
 pub put_part : (rows : ℕ → Row) (w : World) (s : ℕ) (x : Seen) (i u : ℕ) (part : Part) → (is_joined x.phase ≡ false → InOrder x.has_failure (scope_at w s) (subs w s) (set x.parts i part)) → SeenFits rows w s x → slice_get (subs w s) i ≡ Some u → PartFits rows (alive_in w) (scope_at w s) u part → SeenFits rows w s (record x { parts = set x.parts i part })
 put_part rows w s x i u part order f at new =
+    parts_as x f (set x.parts i part) x.asked x.has_failure (all_put (PartFits rows (alive_in w) (scope_at w s)) (subs w s) x.parts i u part f.parts at new) order f.asked
+
+-- ---- no more is born
+
+-- a table covers a later state if its tasks are in states of their rows
+pub covers_on : {p : Program} {outside : Outside} {t : Table} {root : Row} {w : World} (c : Covers p outside t root w) (v : World) → length v.tasks ≡ length w.tasks → length v.scopes ≡ length w.scopes → ((s : ℕ) → IsTimely (scope_at v s))
+    → ((u : ℕ) → lives (task_at v u) ≡ true → IsCovered outside v u → HasState outside c.rows c.left v u) → ((e : End) → (task_at v 0).outcome ≡ Some e → HasWay root.ways e) → Covers p outside t root v
+covers_on {p} {outside} {t} {root} {w} c v count opened timely covered ended =
     record {
-      joiner = f.joiner;
-      timed = f.timed;
-      environment = f.environment;
-      phase = f.phase;
-      known = f.known;
-      on_time = f.on_time;
-      counts = f.counts;
-      asked = f.asked;
-      order = order;
-      parts = all_put (PartFits rows (alive_in w) (scope_at w s)) (subs w s) x.parts i u part f.parts at new;
+      rows = c.rows;
+      listed = c.listed;
+      first = c.first;
+      left = c.left;
+      births = λ wide. same_births c.left root w v count opened (c.births wide);
+      timely = timely;
+      tasks = covered;
+      ended = ended;
     }

@@ -3,7 +3,7 @@ use Rattle.std.proofs.Common.{◌≡◌, ◌⊎◌, inl, inr, Option, ℕ, ◌<�
 use Rattle.std.proofs.Common.{map, arith, cond, sum_by}
 use Rattle.std.proofs.lemmas.Bool.{leb-true, and_parts}
 use Rattle.std.specs.Prelude.{nat_le, count_by}
-use Rattle.laws_calls.proofs.Turns.{Facts}
+use Rattle.laws_calls.proofs.Turns.{Facts, known_as}
 use Rattle.laws_calls.proofs.Lists.{no}
 use Rattle.std.proofs.lemmas.List.Sums.{sum_by-cons}
 use Rattle.sts_code.specs.declared.instr.Joiner.{Joiner}
@@ -172,18 +172,8 @@ settled_fits rows w h s born x k = by (is_unseen x.knowledge && nat_le (most x.j
     by true e =
         let both = and_parts (is_unseen x.knowledge) _ e in
         let cancelled : (scope_at w s).cancelled ≡ true = gone (leb-true (most x.joiner) (count_by (is_sure x.joiner) x.parts) both.1) (scope_at w s).cancelled refl in
-        record {
-          joiner = k.joiner;
-          timed = k.timed;
-          environment = k.environment;
-          phase = k.phase;
-          known = cancelled;
-          on_time = λ is joined. decided_on_time rows w s x k (unseen_decides x.knowledge both.0) joined;
-          parts = k.parts;
-          counts = counts_cancelled x.knowledge x.phase x.joiner _ (unseen_decides x.knowledge both.0) k.counts;
-          asked = k.asked;
-          order = k.order;
-        }
+        known_as x k ByJoiner cancelled (λ is joined. decided_on_time rows w s x k (unseen_decides x.knowledge both.0) joined)
+        (counts_cancelled x.knowledge x.phase x.joiner _ (unseen_decides x.knowledge both.0) k.counts)
 
 pub are_possible : (rows : ℕ → Row) (w : World) → Right w → (opened : List ℕ) (scopes : List Seen) → AllTwo (SeenFits rows w) opened scopes → ArePossible scopes
 are_possible rows w o [] [] k = tt

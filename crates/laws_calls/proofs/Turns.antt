@@ -2,7 +2,7 @@
 use Rattle.std.proofs.Common.{◌≡◌, ℕ, zero, suc, ◌+◌, ◌<◌, ◌≤◌, ◌⊎◌, inl, inr, List, [], ◌∷◌}
 use Rattle.std.proofs.Common.{Bool, true, false, Option, Some, None, refl, sym, ◌∙◌, ap, subst, length}
 use Rattle.std.proofs.Common.{arith, cond, nat_eq, ◌||◌}
-use Rattle.std.specs.Prelude.{◌==◌, slice_get, count_by, nat_lt}
+use Rattle.std.specs.Prelude.{◌==◌, slice_get, count_by, nat_lt, map}
 use Rattle.std.specs.List.{list_any}
 use Rattle.std.proofs.lemmas.Bool.Decides.{nat_tests}
 use Rattle.std.proofs.lemmas.Bool.{or_right}
@@ -15,7 +15,7 @@ use Rattle.sts_model.specs.declared.record.Slot.{Slot}
 use Rattle.sts_model.specs.declared.record.Slot.TheVariants as slots
 use Rattle.sts_model.specs.declared.record.Task.{Task}
 use Rattle.sts_model.specs.World.{World, task_at, scope_at, no_task}
-use Rattle.sts_model.specs.Living.{lives, is_in, is_subtask, parent, scope_of, sub_state}
+use Rattle.sts_model.specs.Living.{lives, is_in, is_subtask, parent, scope_of, sub_state, completion_of, ends}
 use Rattle.sts_model.specs.Misuse.{is_entry_of}
 use Rattle.laws_runs.specs.Flags.{IsCancelled}
 use Rattle.laws_runs.specs.Later.{LaterTask}
@@ -31,10 +31,12 @@ use Rattle.sts_model.specs.Misuse.{is_joined}
 use Rattle.laws_calls.specs.Outside.{Outside, may_flag}
 use Rattle.laws_calls.specs.Held.{Held}
 use Rattle.laws_calls.specs.Held as held
-use Rattle.laws_calls.specs.Tasks.{AllTwo, Among, HasWay, Part, Seen, Own, births_in}
+use Rattle.laws_calls.specs.Tasks.{AllTwo, Among, HasWay, Part, Seen, Own, births_in, Asked, Knowledge, ByJoiner}
+use Rattle.laws_calls.specs.Fitting.{MayCount}
+use Rattle.laws_calls.specs.Triggers.{triggers}
 use Rattle.laws_calls.specs.Steps.{Row}
 use Rattle.laws_calls.specs.Covers.{subs, PartFits, ScopeFits, SeenFits, HeldFits, FrameFits, TaskFits}
-use Rattle.laws_calls.specs.Covers.{FlagMayBe, IsCovered, Watched, watched_root, watched_sub, alive_in}
+use Rattle.laws_calls.specs.Covers.{FlagMayBe, IsCovered, Watched, watched_root, watched_sub, alive_in, IsRight, IsAsked, InOrder}
 use Rattle.laws_calls.proofs.Lists.{all_map, among_filter, filter_among, among_range, range_among, Apart, at_among, no}
 use Rattle.laws_calls.proofs.WatchedLemmas.{watched_before, never}
 
@@ -193,21 +195,27 @@ module _ (outside : Outside) (w : World) (o : Right w) where
 
 -- ---- one step, from w to v
 
+-- A scope fits after its owner has learned something, if what it then knows is right. The scope itself stays
+learned : {rows later : ℕ → Row} {a b : ℕ → Bool} {scope : Scope} {us vs : List ℕ} (x : Seen) → ScopeFits rows a scope us x → (q : Knowledge) (parts : List Part) (asked : Asked) (has_failure : Bool)
+    → IsRight q scope → (q ≡ ByJoiner → is_joined x.phase ≡ true → scope.expired ≡ false) → MayCount q x.phase x.joiner (triggers x.joiner (ends scope))
+    → AllTwo (PartFits later b scope) vs parts → (is_joined x.phase ≡ false → InOrder has_failure scope vs parts) → IsAsked (record x { asked = asked }) (map (completion_of scope.completions) vs)
+    → ScopeFits later b scope vs (record x { knowledge = q; parts = parts; asked = asked; has_failure = has_failure })
+learned x k q parts asked has_failure right timely few fit order answers =
+    record { joiner = k.joiner; timed = k.timed; environment = k.environment; phase = k.phase; known = right; on_time = timely; parts = fit; counts = few; order = order; asked = answers }
+
+-- what it knows of a cancel changes
+pub known_as : {rows : ℕ → Row} {a : ℕ → Bool} {scope : Scope} {us : List ℕ} (x : Seen) → ScopeFits rows a scope us x → (q : Knowledge) → IsRight q scope → (q ≡ ByJoiner → is_joined x.phase ≡ true → scope.expired ≡ false) → MayCount q x.phase x.joiner (triggers x.joiner (ends scope)) → ScopeFits rows a scope us (record x { knowledge = q })
+known_as x k q right timely few = learned x k q x.parts x.asked x.has_failure right timely few k.parts k.order k.asked
+
+-- what it knows of its subtasks changes
+pub parts_as : {rows later : ℕ → Row} {a b : ℕ → Bool} {scope : Scope} {us vs : List ℕ} (x : Seen) → ScopeFits rows a scope us x → (parts : List Part) (asked : Asked) (has_failure : Bool)
+    → AllTwo (PartFits later b scope) vs parts → (is_joined x.phase ≡ false → InOrder has_failure scope vs parts) → IsAsked (record x { asked = asked }) (map (completion_of scope.completions) vs)
+    → ScopeFits later b scope vs (record x { parts = parts; asked = asked; has_failure = has_failure })
+parts_as x k parts asked has_failure fit order answers = learned x k x.knowledge parts asked has_failure k.known k.on_time k.counts fit order answers
+
 -- a scope fits with other rows if its parts do
 pub refitted : (rows later : ℕ → Row) (a b : ℕ → Bool) (scope : Scope) (us : List ℕ) (x : Seen) → ScopeFits rows a scope us x → AllTwo (PartFits later b scope) us x.parts → ScopeFits later b scope us x
-refitted rows later a b scope us x k parts =
-    record {
-      joiner = k.joiner;
-      timed = k.timed;
-      environment = k.environment;
-      phase = k.phase;
-      known = k.known;
-      on_time = k.on_time;
-      counts = k.counts;
-      asked = k.asked;
-      order = k.order;
-      parts = parts;
-    }
+refitted rows later a b scope us x k parts = parts_as x k x.parts x.asked x.has_failure parts k.order k.asked
 
 pub alive_later : (x y : Task) → LaterTask x y → lives y ≡ true → lives x ≡ true
 alive_later x y later e = by (lives x) refl

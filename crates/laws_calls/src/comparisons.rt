@@ -57,36 +57,14 @@ fn same_looks(a: &Seen, b: &Seen) -> bool
     a.knowledge == b.knowledge && a.has_failure == b.has_failure
 }
 
-/// Are the counts the same?
-fn same_count(a: Option<u32>, b: Option<u32>) -> bool
-    ensures { result ≡ true → a ≡ b }
-{
-    match (a, b) {
-        (None, None) => true,
-        (Some(one), Some(other)) => one == other,
-        _ => false,
-    }
-}
-
-/// Are the sums the same?
-fn same_total(a: Option<i64>, b: Option<i64>) -> bool
-    ensures { result ≡ true → a ≡ b }
-{
-    match (a, b) {
-        (None, None) => true,
-        (Some(one), Some(other)) => one == other,
-        _ => false,
-    }
-}
-
 /// Are the answers the same?
 fn same_asked(a: Asked, b: Asked) -> bool
     ensures { result ≡ true → a ≡ b }
 {
-    same_count(a.successes, b.successes)
-        && same_count(a.failures, b.failures)
-        && same_count(a.unavailable, b.unavailable)
-        && same_total(a.total, b.total)
+    a.successes == b.successes
+        && a.failures == b.failures
+        && a.unavailable == b.unavailable
+        && a.total == b.total
 }
 
 impl Same for Seen {

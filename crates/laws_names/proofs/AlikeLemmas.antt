@@ -17,7 +17,7 @@ use Rattle.sts_model.specs.declared.record.Task.{Task}
 use Rattle.sts_model.specs.World.{World, task_at, scope_at, no_task, no_scope, with_task, with_scope, with_frame}
 use Rattle.sts_model.specs.Living.{lives, is_in, is_subtask, is_living_subtask}
 use Rattle.sts_model.specs.Cancelling.{raise, raised, marked, cancel}
-use Rattle.laws_names.specs.Names.{Names, IsAlike, IsOneToOne, live_part, plain_part, named_frame, named_task, named_scope, IsSameTask, IsSameScope}
+use Rattle.laws_names.specs.Names.{Names, AreNamed, IsAlike, IsOneToOne, live_part, plain_part, named_frame, named_task, named_scope, IsSameTask, IsSameScope}
 use Rattle.laws_names.proofs.NameLemmas.{in_named, name_below, map_length, sum_map, sum_same}
 
 -- ---- the part of a task that can be read
@@ -84,20 +84,25 @@ module _ {A : Type 0} (xs ys : List A) (name : ℕ → ℕ) (one : IsOneToOne na
           omega (arith, a, b, old, here, new)
       by false e = rw (set_past xs s x (past e), set_past ys (name s) y (past_too e)) old
 
+-- the names stay those of two states in which no fewer are born
+named_on : (n : Names) (w v more also : World) → AreNamed n w v → length also.tasks ≡ length more.tasks → length also.scopes ≡ length more.scopes → length w.tasks ≤ length more.tasks → length w.scopes ≤ length more.scopes → AreNamed n more also
+named_on n w v more also a tasks scopes no_fewer_tasks no_fewer_scopes =
+    record {
+      tasks_born = tasks;
+      scopes_born = scopes;
+      task_names = a.task_names;
+      scope_names = a.scope_names;
+      later_tasks = λ t past. a.later_tasks t (omega (arith, no_fewer_tasks, past));
+      later_scopes = λ s past. a.later_scopes s (omega (arith, no_fewer_scopes, past));
+      root = a.root;
+    }
+
 -- ---- a task of both is changed
 
 pub alike_task : (n : Names) (w v : World) → IsAlike n w v → (t : ℕ) (x y : Task) → IsSameTask n x y → IsAlike n (with_task w t x) (with_task v (n.tasks t) y)
 alike_task n w v a t x y h =
     record {
-      named = record {
-        tasks_born = length-set v.tasks (n.tasks t) y ∙ a.named.tasks_born ∙ sym (length-set w.tasks t x);
-        scopes_born = a.named.scopes_born;
-        task_names = a.named.task_names;
-        scope_names = a.named.scope_names;
-        later_tasks = λ u past. a.named.later_tasks u (rw (length-set w.tasks t x) at past);
-        later_scopes = a.named.later_scopes;
-        root = a.named.root;
-      };
+      named = (let l = length-set w.tasks t x in named_on n w v (with_task w t x) (with_task v (n.tasks t) y) a.named (length-set v.tasks (n.tasks t) y ∙ a.named.tasks_born ∙ sym l) a.named.scopes_born (omega (arith, l)) (omega arith));
       task = set_both w.tasks v.tasks n.tasks a.named.task_names a.named.tasks_born a.named.later_tasks no_task t x y (IsSameTask n) h a.task;
       scope = a.scope;
       task_sums = λ q. set_sums w.tasks v.tasks n.tasks a.named.task_names a.named.tasks_born a.named.later_tasks no_task t x y (λ z. q (named_task n (live_part z))) (λ z. q (live_part z)) (a.task_sums q) (ap q (a.task t)) (ap q h);
@@ -117,15 +122,7 @@ alike_frame n w v a t f g alive same =
 pub alike_scope : (n : Names) (w v : World) → IsAlike n w v → (s : ℕ) (x y : Scope) → IsSameScope n x y → IsAlike n (with_scope w s x) (with_scope v (n.scopes s) y)
 alike_scope n w v a s x y h =
     record {
-      named = record {
-        tasks_born = a.named.tasks_born;
-        scopes_born = length-set v.scopes (n.scopes s) y ∙ a.named.scopes_born ∙ sym (length-set w.scopes s x);
-        task_names = a.named.task_names;
-        scope_names = a.named.scope_names;
-        later_tasks = a.named.later_tasks;
-        later_scopes = λ u past. a.named.later_scopes u (rw (length-set w.scopes s x) at past);
-        root = a.named.root;
-      };
+      named = (let l = length-set w.scopes s x in named_on n w v (with_scope w s x) (with_scope v (n.scopes s) y) a.named a.named.tasks_born (length-set v.scopes (n.scopes s) y ∙ a.named.scopes_born ∙ sym l) (omega arith) (omega (arith, l)));
       task = a.task;
       scope = set_both w.scopes v.scopes n.scopes a.named.scope_names a.named.scopes_born a.named.later_scopes no_scope s x y (IsSameScope n) h a.scope;
       task_sums = a.task_sums;
@@ -157,15 +154,7 @@ more {X} Rel f xs ys x y d born one later default new old k = by (ltb k (length 
 
 pub alike_more_tasks : (n : Names) (w v : World) → IsAlike n w v → (x y : Task) → IsSameTask n x y → IsAlike n (record w { tasks = w.tasks ++ x ∷ [] }) (record v { tasks = v.tasks ++ y ∷ [] })
 alike_more_tasks n w v a x y h = record {
-  named = record {
-    tasks_born = length-append v.tasks (y ∷ []) ∙ ap (λ m. m + 1) a.named.tasks_born ∙ sym (length-append w.tasks (x ∷ []));
-    scopes_born = a.named.scopes_born;
-    task_names = a.named.task_names;
-    scope_names = a.named.scope_names;
-    later_tasks = λ t past. a.named.later_tasks t (let l = length-append w.tasks (x ∷ []) in omega (arith, l, past));
-    later_scopes = a.named.later_scopes;
-    root = a.named.root;
-  };
+  named = (let l = length-append w.tasks (x ∷ []) in named_on n w v (record w { tasks = w.tasks ++ x ∷ [] }) (record v { tasks = v.tasks ++ y ∷ [] }) a.named (length-append v.tasks (y ∷ []) ∙ ap (λ m. m + 1) a.named.tasks_born ∙ sym l) a.named.scopes_born (omega (arith, l)) (omega arith));
   task = λ t. more (IsSameTask n) n.tasks w.tasks v.tasks x y no_task a.named.tasks_born a.named.task_names a.named.later_tasks refl h a.task t;
   scope = a.scope;
   task_sums = λ q. sum_by_push (λ z. q (live_part z)) v.tasks y ∙ ap (λ m. m + q (live_part y)) (a.task_sums q) ∙ ap (λ z. sum_by (λ u. q (named_task n (live_part u))) w.tasks + q z) h ∙ sym (sum_by_push (λ z. q (named_task n (live_part z))) w.tasks x);
@@ -174,15 +163,7 @@ alike_more_tasks n w v a x y h = record {
 
 pub alike_more_scopes : (n : Names) (w v : World) → IsAlike n w v → (x y : Scope) → IsSameScope n x y → IsAlike n (record w { scopes = w.scopes ++ x ∷ [] }) (record v { scopes = v.scopes ++ y ∷ [] })
 alike_more_scopes n w v a x y h = record {
-  named = record {
-    tasks_born = a.named.tasks_born;
-    scopes_born = length-append v.scopes (y ∷ []) ∙ ap (λ m. m + 1) a.named.scopes_born ∙ sym (length-append w.scopes (x ∷ []));
-    task_names = a.named.task_names;
-    scope_names = a.named.scope_names;
-    later_tasks = a.named.later_tasks;
-    later_scopes = λ s past. a.named.later_scopes s (let l = length-append w.scopes (x ∷ []) in omega (arith, l, past));
-    root = a.named.root;
-  };
+  named = (let l = length-append w.scopes (x ∷ []) in named_on n w v (record w { scopes = w.scopes ++ x ∷ [] }) (record v { scopes = v.scopes ++ y ∷ [] }) a.named a.named.tasks_born (length-append v.scopes (y ∷ []) ∙ ap (λ m. m + 1) a.named.scopes_born ∙ sym l) (omega arith) (omega (arith, l)));
   task = a.task;
   scope = λ s. more (IsSameScope n) n.scopes w.scopes v.scopes x y no_scope a.named.scopes_born a.named.scope_names a.named.later_scopes (ap (λ m. plain_part (record no_scope { owner = m })) (sym a.named.root)) h a.scope s;
   task_sums = a.task_sums;
@@ -212,15 +193,7 @@ raise_same n one s x y h = raise_part (n.scopes s) y ∙ ap (raise (n.scopes s))
 pub alike_raised : (n : Names) (w v : World) → IsAlike n w v → (s : ℕ) → IsAlike n (record w { tasks = raised s w.tasks }) (record v { tasks = raised (n.scopes s) v.tasks })
 alike_raised n w v a s =
     record {
-      named = record {
-        tasks_born = map_length (raise (n.scopes s)) v.tasks ∙ a.named.tasks_born ∙ sym (map_length (raise s) w.tasks);
-        scopes_born = a.named.scopes_born;
-        task_names = a.named.task_names;
-        scope_names = a.named.scope_names;
-        later_tasks = λ t past. a.named.later_tasks t (rw (map_length (raise s) w.tasks) at past);
-        later_scopes = a.named.later_scopes;
-        root = a.named.root;
-      };
+      named = (let l = map_length (raise s) w.tasks in named_on n w v (record w { tasks = raised s w.tasks }) (record v { tasks = raised (n.scopes s) v.tasks }) a.named (map_length (raise (n.scopes s)) v.tasks ∙ a.named.tasks_born ∙ sym l) a.named.scopes_born (omega (arith, l)) (omega arith));
       task = λ t. rw (get_or-map (raise s) w.tasks t no_task, get_or-map (raise (n.scopes s)) v.tasks (n.tasks t) no_task) (raise_same n a.named.scope_names s (task_at w t) (task_at v (n.tasks t)) (a.task t));
       scope = a.scope;
       task_sums = sums;

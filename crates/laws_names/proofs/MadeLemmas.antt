@@ -72,32 +72,27 @@ pub record AreSame (n : Names) (w v : World) : Type 0 where
   pub task : (t : ℕ) → t < length w.tasks → IsSameTask n (task_at w t) (task_at v (n.tasks t))
   pub scope : (s : ℕ) → s < length w.scopes → IsSameScope n (scope_at w s) (scope_at v (n.scopes s))
 
+-- what is the same up to the end of two lists is the same everywhere
+at_both : {X : Type 0} (Same : X → X → Type 0) (xs ys : List X) (name : ℕ → ℕ) (d : X) → length ys ≡ length xs → ((k : ℕ) → length xs ≤ k → name k ≡ k) → Same d d
+    → ((k : ℕ) → k < length xs → Same (get_or xs k d) (get_or ys (name k) d)) → (k : ℕ) → Same (get_or xs k d) (get_or ys (name k) d)
+at_both Same xs ys name d born later none all k = by (ltb k (length xs)) refl
+  where
+    by : (b : Bool) → ltb k (length xs) ≡ b → Same (get_or xs k d) (get_or ys (name k) d)
+    by true e = all k (ltb-true k (length xs) e)
+    by false e =
+        let past : length xs ≤ k = grind (arith, nat_tests) in
+        let same = later k past in
+        let past_too : length ys ≤ name k = omega (arith, past, same, born) in
+        rw (get_or_past xs k d past, get_or_past ys (name k) d past_too) none
+
 pub alike_made : (n : Names) (w v : World) → AreSame n w v → IsAlike n w v
 alike_made n w v h =
     record {
       named = h.named;
-      task = λ t. at_task t (ltb t (length w.tasks)) refl;
-      scope = λ s. at_scope s (ltb s (length w.scopes)) refl;
+      task = at_both (IsSameTask n) w.tasks v.tasks n.tasks no_task h.named.tasks_born h.named.later_tasks refl h.task;
+      scope = at_both (IsSameScope n) w.scopes v.scopes n.scopes no_scope h.named.scopes_born h.named.later_scopes (ap (λ m. plain_part (record no_scope { owner = m })) (sym h.named.root)) h.scope;
       task_sums = λ q. named_sum (λ x. q (live_part x)) (λ x. q (named_task n (live_part x))) no_task w.tasks v.tasks n.tasks h.named.task_names h.named.tasks_born
           (λ t less. let e = name_below n.tasks h.named.task_names (length w.tasks) h.named.later_tasks t less in let b = h.named.tasks_born in omega (arith, e, b)) (λ t less. ap q (h.task t less));
       scope_sums = λ q. named_sum (λ x. q (plain_part x)) (λ x. q (named_scope n (plain_part x))) no_scope w.scopes v.scopes n.scopes h.named.scope_names h.named.scopes_born
           (λ s less. let e = name_below n.scopes h.named.scope_names (length w.scopes) h.named.later_scopes s less in let b = h.named.scopes_born in omega (arith, e, b)) (λ s less. ap q (h.scope s less));
     }
-  where
-    at_task : (t : ℕ) (b : Bool) → ltb t (length w.tasks) ≡ b → IsSameTask n (task_at w t) (task_at v (n.tasks t))
-    at_task t true e = h.task t (ltb-true t (length w.tasks) e)
-    at_task t false e =
-        let past : length w.tasks ≤ t = grind (arith, nat_tests) in
-        let same = h.named.later_tasks t past in
-        let born = h.named.tasks_born in
-        let past_too : length v.tasks ≤ n.tasks t = omega (arith, past, same, born) in
-        rw (get_or_past w.tasks t no_task past, get_or_past v.tasks (n.tasks t) no_task past_too) refl
-
-    at_scope : (s : ℕ) (b : Bool) → ltb s (length w.scopes) ≡ b → IsSameScope n (scope_at w s) (scope_at v (n.scopes s))
-    at_scope s true e = h.scope s (ltb-true s (length w.scopes) e)
-    at_scope s false e =
-        let past : length w.scopes ≤ s = grind (arith, nat_tests) in
-        let same = h.named.later_scopes s past in
-        let born = h.named.scopes_born in
-        let past_too : length v.scopes ≤ n.scopes s = omega (arith, past, same, born) in
-        rw (get_or_past w.scopes s no_scope past, get_or_past v.scopes (n.scopes s) no_scope past_too) (ap (λ m. plain_part (record no_scope { owner = m })) (sym h.named.root))

@@ -122,29 +122,18 @@ at_slot_named : (n : Names) (f : Frame) (o : Option ℕ) (test : Slot → Bool) 
 at_slot_named n f None test same = refl
 at_slot_named n f (Some x) test same = ap test (slot_named n f x) ∙ same (slot f x)
 
-named_is_scope : (n : Names) (x : Slot) → is_scope (named_slot n x) ≡ is_scope x
-named_is_scope n Empty = refl
-named_is_scope n (Own s) = refl
-named_is_scope n (Lent s) = refl
-named_is_scope n (Sub t) = refl
+-- the slots pass the same tests
+record TestedAlike (x y : Slot) : Type 0 where
+  pub scope : is_scope x ≡ is_scope y
+  pub sub : is_sub x ≡ is_sub y
+  pub empty : is_empty x ≡ is_empty y
+  pub lent : is_lent x ≡ is_lent y
 
-named_is_sub : (n : Names) (x : Slot) → is_sub (named_slot n x) ≡ is_sub x
-named_is_sub n Empty = refl
-named_is_sub n (Own s) = refl
-named_is_sub n (Lent s) = refl
-named_is_sub n (Sub t) = refl
-
-named_is_empty : (n : Names) (x : Slot) → is_empty (named_slot n x) ≡ is_empty x
-named_is_empty n Empty = refl
-named_is_empty n (Own s) = refl
-named_is_empty n (Lent s) = refl
-named_is_empty n (Sub t) = refl
-
-named_is_lent : (n : Names) (x : Slot) → is_lent (named_slot n x) ≡ is_lent x
-named_is_lent n Empty = refl
-named_is_lent n (Own s) = refl
-named_is_lent n (Lent s) = refl
-named_is_lent n (Sub t) = refl
+tested_alike : (n : Names) (x : Slot) → TestedAlike (named_slot n x) x
+tested_alike n Empty = record { scope = refl; sub = refl; empty = refl; lent = refl }
+tested_alike n (Own s) = record { scope = refl; sub = refl; empty = refl; lent = refl }
+tested_alike n (Lent s) = record { scope = refl; sub = refl; empty = refl; lent = refl }
+tested_alike n (Sub t) = record { scope = refl; sub = refl; empty = refl; lent = refl }
 
 -- the slots that an instruction needs, of another kind than they are
 abbrev slots_wrong : Frame → Option ℕ → Option ℕ → Option ℕ → Bool
@@ -152,14 +141,14 @@ slots_wrong f own sub filled = at_slot f own (λ x. not (is_scope x)) || at_slot
 
 slots_wrong_named : (n : Names) (f : Frame) (own sub filled : Option ℕ) → slots_wrong (named_frame n f) own sub filled ≡ slots_wrong f own sub filled
 slots_wrong_named n f own sub filled =
-    rw (at_slot_named n f own (λ x. not (is_scope x)) (λ x. ap not (named_is_scope n x)), at_slot_named n f sub (λ x. not (is_sub x)) (λ x. ap not (named_is_sub n x)), at_slot_named n f filled (λ x. not (is_empty x)) (λ x. ap not (named_is_empty n x))) refl
+    rw (at_slot_named n f own (λ x. not (is_scope x)) (λ x. ap not (tested_alike n x).scope), at_slot_named n f sub (λ x. not (is_sub x)) (λ x. ap not (tested_alike n x).sub), at_slot_named n f filled (λ x. not (is_empty x)) (λ x. ap not (tested_alike n x).empty)) refl
 
 wrong_slot_same : (n : Names) (f : Frame) (i : Instr) → has_wrong_slot (named_frame n f) i ≡ has_wrong_slot f i
-wrong_slot_same n f (instr.Cancelled s) = ap not (ap is_scope (slot_named n f s) ∙ named_is_scope n (slot f s))
+wrong_slot_same n f (instr.Cancelled s) = ap not (ap is_scope (slot_named n f s) ∙ (tested_alike n (slot f s)).scope)
 wrong_slot_same n f i = slots_wrong_named n f (owners_slot i) (subtask_slot i) (filled_slot i)
 
 strangers_same : (n : Names) (f : Frame) (i : Instr) → is_strangers (named_frame n f) i ≡ is_strangers f i
-strangers_same n f i = at_slot_named n f (owners_slot i) is_lent (named_is_lent n)
+strangers_same n f i = at_slot_named n f (owners_slot i) is_lent (λ x. (tested_alike n x).lent)
 
 own_same : (n : Names) (w v : World) (f : Frame) (x : ℕ) (here there : ℕ → Scope → Bool) → ((s : ℕ) → there (n.scopes s) (scope_at v (n.scopes s)) ≡ here s (scope_at w s)) → at_own v (slot (named_frame n f) x) there ≡ at_own w (slot f x) here
 own_same n w v f x here there same = ap (λ (z : Slot). at_own v z there) (slot_named n f x) ∙ by (slot f x)

@@ -41,9 +41,10 @@ returns-clause-shown c =
     let states = states_of (next_kept c.args.asked.now) s.first s.origins.items in
     let x = slice_index_or states c.args.place s.first in
     let f : Found = record { end = c.in_ok-end.end; trace = c.in_ok-trace.trace } in
+    let way = c.in_ok-trace.ensures x (rw c.as_slice-2.ensures.value c.in_ok-events.ensures) in
     rw c.in_ok-push.ensures.items (
     shown_more g s.first c.args.found.now.items c.in_ok-one.one c.requires.shown (c.in_ok-one.ensures.shown
-    (shown_here g s.first x x f c.in_ok-trace.ensures refl c.in_ok-end.ensures (c.is_new.ensures.yes c.if-not-is_new.false)))
+    (shown_here g s.first x x f way refl c.in_ok-end.ensures (c.is_new.ensures.yes c.if-not-is_new.false)))
     )
 
 pub returns-clause-all : goal.returns-clause-all

@@ -22,13 +22,12 @@ loop-left-preserved c =
     let g = c.args.setting.now in
     let x = c.loop-left.way.config in
     let left = c.loop-left.left in
-    let t = c.in-Some.t in
     let some = sym c.own_step.ensures ∙ c.in-Some.is in
-    let rest = own_events (left - 1) g (next g x (event.Step t)) in
+    let rest = own_events (left - 1) g (next g x (event.Step c.in-Some.t)) in
     rw (c.in_ok-go.ensures.trace, c.in_ok-go.ensures.config) (
-      settled_some left (left - 1) g x t (omega arith) some ∙ c.loop-left.invariant.0,
-      append_assoc c.loop-left.way.trace (event.Step t ∷ []) rest
-          ∙ ap (λ (es : List Event). c.loop-left.way.trace ++ es) (sym (own_some left (left - 1) g x t (omega arith) some))
+      settled_some left (left - 1) g x c.in-Some.t (omega arith) some ∙ c.loop-left.invariant.0,
+      append_assoc c.loop-left.way.trace (event.Step c.in-Some.t ∷ []) rest
+          ∙ ap (λ (es : List Event). c.loop-left.way.trace ++ es) (sym (own_some left (left - 1) g x c.in-Some.t (omega arith) some))
           ∙ c.loop-left.invariant.1,
     )
 

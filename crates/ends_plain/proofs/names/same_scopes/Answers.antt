@@ -12,11 +12,8 @@ returns c e =
     let x : Scope = scope_at c.args.ours.now c.args.s in
     let y : Scope = scope_at c.args.theirs.now c.name-r.result in
     let at : c.name-r.result ≡ name_in c.args.names.now.scopes.items c.args.s = rw c.as_slice.ensures.value at c.name-r.ensures in
-    let owner : n.tasks x.owner ≡ y.owner = rw (c.as_slice-2.ensures.value, c.owner.ensures) at (sym c.name.ensures) ∙ c.if-name-owner.false ∙ c.owner-2.ensures in
-    let joiner : x.joiner ≡ y.joiner = search rules in
-    let phase : x.phase ≡ y.phase = search rules in
-    let timed : x.timed ≡ y.timed = search rules in
-    let cancelled : x.cancelled ≡ y.cancelled = search rules in
-    let expired : x.expired ≡ y.expired = search rules in
-    let completions : y.completions ≡ map (named_completion n) x.completions = rw (c.completions.ensures, c.completions-2.ensures) at (c.same_completions.ensures e) in
-    rw (← at) (same_scope n x y owner joiner timed phase cancelled expired completions)
+    let owner : n.tasks x.owner ≡ y.owner =
+    rw (c.as_slice-2.ensures.value, c.owner.ensures) at (sym c.name.ensures) ∙ c.if-name-owner.false ∙ c.owner-2.ensures in
+    let completions : y.completions ≡ map (named_completion n) x.completions =
+    rw (c.completions.ensures, c.completions-2.ensures) at (c.same_completions.ensures e) in
+    rw (← at) (same_scope n x y owner (search rules) (search rules) (search rules) (search rules) (search rules) completions)

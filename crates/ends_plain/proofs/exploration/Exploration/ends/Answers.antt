@@ -16,13 +16,13 @@ returns-clause-sound c =
 pub returns-clause-complete : goal.returns-clause-complete
 returns-clause-complete c whole =
     let x = c.self.inside in
-    let s = x.space in
     let found = c.in_ok-found.found.items in
-    let all = λ (over : s.closed ≡ length s.origins.items) (calm : x.asked.exact ≡ false → list_any is_faulty found ≡ false).
-    all_listed x.asked s.first s.origins.items s.closed s.kept.items s.marks.items found c.self.invariant over c.in_ok-found.ensures.all calm in
+    let all = λ (over : x.space.closed ≡ length x.space.origins.items) (calm : x.asked.exact ≡ false → list_any is_faulty found ≡ false).
+    all_listed x.asked _ _ _ _ _ found c.self.invariant over c.in_ok-found.ensures.all calm in
     rw (← c.self.view_is)
     (elim c.if-is_closed.branch [
       | then-is_closed+then-self w ↦ all (grind arith) (λ loose. cc)
-      | then-is_closed+else-self w ↦ all (grind arith) (λ loose. none_of found w.as_slice.result.now w.has_fault.result w.as_slice.ensures.value w.has_fault.ensures (sym w.whole-is ∙ whole))
+      | then-is_closed+else-self w ↦ all (grind arith) (λ loose.
+          none_of found w.as_slice.result.now w.has_fault.result w.as_slice.ensures.value w.has_fault.ensures (sym w.whole-is ∙ whole))
       | else-is_closed w ↦ cc
     ])
