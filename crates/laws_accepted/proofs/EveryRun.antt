@@ -27,28 +27,19 @@ a_step_is_left p checked some ok fine law =
     by b events (Running w) h left = λ t alive. left t (h t alive).instr alive (h t alive).at
     by b events (Faulted kind t f pc) h left = tt
 
--- the laws that the promises for every run follow from
-pub record Laws : Type 0 where
-  pub closed : ClosedIsEmpty
-  pub root : RootEndsLast
-  pub goes_on : SomeTaskSteps
-  pub steps : StepsAreWithin
-  pub tasks : TasksAreWithin
-  pub scopes : ScopesAreWithin
-  pub binds : BindsAreWithin
-
-pub runs_well : (p : Program) → program_fault p.routines ≡ None → 0 < length p.routines → IsAccepted p → NeverFaults p → Laws → (b : Budgets) → IsBudgetOf p (main_of p) b → (events : List Event) → RunsWell p b events
-runs_well p checked some ok never laws b is events =
+-- the promises for every run, from the laws of runs and those of costs
+pub runs_well : (p : Program) → program_fault p.routines ≡ None → 0 < length p.routines → IsAccepted p → NeverFaults p → ClosedIsEmpty → RootEndsLast → SomeTaskSteps → StepsAreWithin → TasksAreWithin → ScopesAreWithin → BindsAreWithin → (b : Budgets) → IsBudgetOf p (main_of p) b → (events : List Event) → RunsWell p b events
+runs_well p checked some ok never closed root goes_on steps tasks scopes binds b is events =
     let run = never events in
     let w : World = run.0 in
     record {
       world = run.0;
       no_fault = run.1;
-      closed = holds-in ClosedAreEmpty (after p events) run.0 run.1 (laws.closed p events);
-      root = holds-in RootIsLast (after p events) run.0 run.1 (laws.root p events);
-      goes_on = (holds-in (GoesOn p) (after p events) run.0 run.1 (laws.goes_on p events)).some;
-      steps = holds-in (λ v. taken p events ≤ b.steps) (after p events) run.0 run.1 (with_main p checked some (λ c es v. taken p es ≤ c.steps) (λ budgets has. laws.steps p budgets has (all_typed p ok)) b is events);
-      tasks = holds-in (λ v. standing_tasks v ≤ b.tasks) (after p events) run.0 run.1 (with_main p checked some (λ c es v. standing_tasks v ≤ c.tasks) (laws.tasks p) b is events);
-      scopes = holds-in (λ v. standing_scopes v ≤ b.scopes) (after p events) run.0 run.1 (with_main p checked some (λ c es v. standing_scopes v ≤ c.scopes) (laws.scopes p) b is events);
-      binds = holds-in (λ v. standing_bindings v ≤ b.binds) (after p events) run.0 run.1 (with_main p checked some (λ c es v. standing_bindings v ≤ c.binds) (laws.binds p) b is events);
+      closed = holds-in ClosedAreEmpty (after p events) run.0 run.1 (closed p events);
+      root = holds-in RootIsLast (after p events) run.0 run.1 (root p events);
+      goes_on = (holds-in (GoesOn p) (after p events) run.0 run.1 (goes_on p events)).some;
+      steps = holds-in (λ v. taken p events ≤ b.steps) (after p events) run.0 run.1 (with_main p checked some (λ c es v. taken p es ≤ c.steps) (λ budgets has. steps p budgets has (all_typed p ok)) b is events);
+      tasks = holds-in (λ v. standing_tasks v ≤ b.tasks) (after p events) run.0 run.1 (with_main p checked some (λ c es v. standing_tasks v ≤ c.tasks) (tasks p) b is events);
+      scopes = holds-in (λ v. standing_scopes v ≤ b.scopes) (after p events) run.0 run.1 (with_main p checked some (λ c es v. standing_scopes v ≤ c.scopes) (scopes p) b is events);
+      binds = holds-in (λ v. standing_bindings v ≤ b.binds) (after p events) run.0 run.1 (with_main p checked some (λ c es v. standing_bindings v ≤ c.binds) (binds p) b is events);
     }

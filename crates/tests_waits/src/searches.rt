@@ -42,121 +42,62 @@ const BATCHES: Seen = Seen {
     batch: true,
 };
 
+/// A case in one line. Its program is given by its subtasks, their rounds, the steps of a row, and
+/// when the event is due.
+macro_rules! case {
+    (
+        $name:expr, $workers:expr, ($subtasks:expr, $rounds:expr, $row:expr, $due:expr),
+        $may_stop:expr, $seen:expr
+    ) => {
+        Case {
+            name: $name,
+            workers: $workers,
+            program: Program {
+                subtasks: $subtasks,
+                rounds: $rounds,
+                row: $row,
+                due: $due,
+            },
+            may_stop: $may_stop,
+            seen: $seen,
+        }
+    };
+}
+
 /// The searches that take the fast program no second. Rows are long or too short for slices, a run may
 /// be stopped, and an event from outside ends a join.
 pub const SMALL: &[Case] = &[
-    Case {
-        name: "long rows",
-        workers: 3,
-        program: Program {
-            subtasks: 2,
-            rounds: 1,
-            row: 8,
-            due: NEVER,
-        },
-        may_stop: false,
-        seen: BATCHES,
-    },
-    Case {
-        name: "short rows",
-        workers: 2,
-        program: Program {
-            subtasks: 2,
-            rounds: 2,
-            row: 1,
-            due: NEVER,
-        },
-        may_stop: false,
-        seen: CLAIMS,
-    },
-    Case {
-        name: "a stop",
-        workers: 2,
-        program: Program {
-            subtasks: 2,
-            rounds: 1,
-            row: 4,
-            due: NEVER,
-        },
-        may_stop: true,
-        seen: SLICES,
-    },
-    Case {
-        name: "an event from outside",
-        workers: 2,
-        program: Program {
-            subtasks: 2,
-            rounds: 1,
-            row: 4,
-            due: 12,
-        },
-        may_stop: false,
-        seen: SLICES,
-    },
+    case!("long rows", 3, (2, 1, 8, NEVER), false, BATCHES),
+    case!("short rows", 2, (2, 2, 1, NEVER), false, CLAIMS),
+    case!("a stop", 2, (2, 1, 4, NEVER), true, SLICES),
+    case!("an event from outside", 2, (2, 1, 4, 12), false, SLICES),
 ];
 
 /// The searches that take the fast program some seconds.
 pub const LARGE: &[Case] = &[
-    Case {
-        name: "three subtasks",
-        workers: 3,
-        program: Program {
-            subtasks: 3,
-            rounds: 1,
-            row: 8,
-            due: NEVER,
-        },
-        may_stop: false,
-        seen: BATCHES,
-    },
-    Case {
-        name: "two rounds",
-        workers: 3,
-        program: Program {
-            subtasks: 3,
-            rounds: 2,
-            row: 8,
-            due: NEVER,
-        },
-        may_stop: false,
-        seen: BATCHES,
-    },
-    Case {
-        name: "three rounds of short rows",
-        workers: 3,
-        program: Program {
-            subtasks: 3,
-            rounds: 3,
-            row: 1,
-            due: NEVER,
-        },
-        may_stop: false,
-        seen: CLAIMS,
-    },
-    Case {
-        name: "three subtasks and an event",
-        workers: 3,
-        program: Program {
-            subtasks: 3,
-            rounds: 1,
-            row: 8,
-            due: 20,
-        },
-        may_stop: false,
-        seen: BATCHES,
-    },
-    Case {
-        name: "three workers and a stop",
-        workers: 3,
-        program: Program {
-            subtasks: 2,
-            rounds: 1,
-            row: 8,
-            due: NEVER,
-        },
-        may_stop: true,
-        seen: BATCHES,
-    },
+    case!("three subtasks", 3, (3, 1, 8, NEVER), false, BATCHES),
+    case!("two rounds", 3, (3, 2, 8, NEVER), false, BATCHES),
+    case!(
+        "three rounds of short rows",
+        3,
+        (3, 3, 1, NEVER),
+        false,
+        CLAIMS
+    ),
+    case!(
+        "three subtasks and an event",
+        3,
+        (3, 1, 8, 20),
+        false,
+        BATCHES
+    ),
+    case!(
+        "three workers and a stop",
+        3,
+        (2, 1, 8, NEVER),
+        true,
+        BATCHES
+    ),
 ];
 
 impl Case {

@@ -3,15 +3,8 @@ use Rattle.laws_accepted.proofs.accepted.every_run.Goals as goal
 
 pub returns-clause-runs_well : goal.returns-clause-runs_well
 returns-clause-runs_well c =
-    laws.runs_well c.args.verified.now c.main_budgets.ensures.checked c.main_budgets.ensures.some c.main_budgets.ensures.accepted
-    c.never_faults.ensures
-    (record {
-      closed = c.closed_is_empty.ensures;
-      root = c.root_ends_last.ensures;
-      goes_on = c.some_task_steps.ensures;
-      steps = c.steps_are_within.ensures;
-      tasks = c.tasks_are_within.ensures;
-      scopes = c.scopes_are_within.ensures;
-      binds = c.binds_are_within.ensures;
-    })
-    c.main_budgets.result c.main_budgets.ensures.printed
+    let main = c.main_budgets.ensures in
+    laws.runs_well c.args.verified.now main.checked main.some main.accepted c.never_faults.ensures
+    c.closed_is_empty.ensures c.root_ends_last.ensures c.some_task_steps.ensures
+    c.steps_are_within.ensures c.tasks_are_within.ensures c.scopes_are_within.ensures c.binds_are_within.ensures
+    c.main_budgets.result main.printed
