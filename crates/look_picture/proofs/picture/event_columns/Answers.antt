@@ -10,7 +10,9 @@ use Rattle.look_tell.proofs.StoryLemmas.{after_next, watched_taken, watched_told
 use Rattle.look_picture.proofs.Columns.{applied_of, column_after, count_after, numbered, numbered_at, one_more_few}
 use Rattle.look_drawing.proofs.ListingLemmas.{kept_shown}
 use Rattle.look_drawing.proofs.WatchingLemmas.{follows_watched, held_watched}
+use Rattle.look_drawing.specs.Column.{maybe_column, one_more}
 use Rattle.look_drawing.specs.Present as numbers
+use Rattle.look_picture.specs.Picture as def
 use Rattle.look_drawing.specs.Present.{Follows, Numbers}
 use Rattle.look_picture.specs.Told.{event_words}
 use Rattle.look_picture.proofs.picture.event_columns.Goals as goal
@@ -44,10 +46,10 @@ module _ (c : In_ok-add_born) where
       (c.records-in-loop-i.ensures ∙ c.world-in-loop-i.ensures)
       ∙ ap (λ (n : Numbers). numbers.with_born n l.before.last c.watch-watch.result.now.last) l.invariant.listed
 
-  kept_now : (w : Watched) → w ≡ watched c.args.before.now.program (take (c.loop-i.i + 1) c.args.events.now) → numbers.kept c.add_born.new.self w.last ≡ numbers.present w.last
-  kept_now w made =
+  kept_now : (w : Watched) (v : World) → w ≡ watched c.args.before.now.program (take (c.loop-i.i + 1) c.args.events.now) → v ≡ w.last → numbers.kept c.add_born.new.self v ≡ numbers.present w.last
+  kept_now w v made read =
       let same = ap (λ (x : Watched). x.last) (made ∙ sym seen_next) in
-      ap₂ (λ (n : Numbers) (v : World). numbers.kept n v) listed same
+      ap₂ (λ (n : Numbers) (x : World). numbers.kept n x) listed (read ∙ same)
       ∙ kept_shown c.loop-i.before.last c.watch-watch.result.now.last follows ∙ ap numbers.present (sym same)
 
   said : string_bytes c.in_ok-words.words ≡ event_words c.args.names.now c.args.brief (c.loop-i.i + 1) (after_events c.args.before.now.program (take c.loop-i.i c.args.events.now)) event
@@ -66,6 +68,19 @@ module _ (c : In_ok-add_born) where
       ∙ ap (λ (w : Watched). numbered_at w (c.loop-i.i + 1) event)
       (watched_taken c.args.before.now.program c.args.events.now c.loop-i.i c.loop-i.story (omega arith) (omega arith) c.loop-i.invariant.told)
 
+  counted : (words : List ℕ) (m : ℕ) → words ≡ string_bytes c.in_ok-words.words → m ≡ one_more words c.loop-i.columns → def.count_from c.args.names.now c.args.brief c.args.before.now.program m (take (c.loop-i.i + 1) c.args.events.now) (drop (c.loop-i.i + 1) c.args.events.now) ≡ def.count_from c.args.names.now c.args.brief c.args.before.now.program 0 (take c.args.skipped c.args.events.now) (drop c.args.skipped c.args.events.now)
+  counted words m same more =
+      count_after c.args.names.now c.args.brief c.args.before.now.program c.loop-i.columns c.args.events.now c.loop-i.i (Step 0) words m
+      (omega arith) (same ∙ said) more
+      ∙ c.loop-i.invariant.counted
+
+  drawn : (words : List ℕ) (m : ℕ) (new : List ℕ) → words ≡ string_bytes c.in_ok-words.words → m ≡ one_more words c.loop-i.columns → new ≡ string_bytes c.loop-i.out ++ maybe_column c.args.names.now words c.loop-i.before c.watch-watch.result.now c.args.brief c.loop-i.columns (applied_of (c.loop-i.i + 1) event c.counts-is_counted.result) → new ++ def.columns_from c.args.names.now c.args.brief c.args.before.now.program m (take (c.loop-i.i + 1) c.args.events.now) (drop (c.loop-i.i + 1) c.args.events.now) ≡ string_bytes c.args.out.now ++ def.columns_from c.args.names.now c.args.brief c.args.before.now.program 0 (take c.args.skipped c.args.events.now) (drop c.args.skipped c.args.events.now)
+  drawn words m new same more made =
+      column_after c.args.names.now c.args.brief c.args.before.now.program c.loop-i.columns c.args.events.now c.loop-i.i (Step 0) words m
+      c.loop-i.before c.watch-watch.result.now (applied_of (c.loop-i.i + 1) event c.counts-is_counted.result) (string_bytes c.loop-i.out) new
+      (omega arith) (same ∙ said) more c.loop-i.invariant.behind seen_next is_numbered made
+      ∙ c.loop-i.invariant.drawn
+
 pub invariant_of-seen-clause-follows : goal.invariant_of-seen-clause-follows
 invariant_of-seen-clause-follows c = follows (goal.at.invariant_of-seen-clause-follows c).In_ok-add_born
 
@@ -79,16 +94,14 @@ invariant_of-seen-clause-listed c = listed (goal.at.invariant_of-seen-clause-lis
 
 pub loop-i-preserved : goal.loop-i-preserved
 loop-i-preserved c =
-    let l = c.loop-i in
     let a = (goal.at.loop-i-preserved c).In_ok-add_born in
-    let behind = c.in_ok-apply.ensures.ok ∙ ap (λ (w : Watched). after_event w (event a)) l.invariant.behind ∙ sym (seen a) ∙ seen_next a in
-    let words = c.as_str.ensures.value ∙ said a in
-    let step = one_more_few c.as_str.result.now l.columns in
+    let more = c.in_ok-more.ensures in
+    let behind = c.in_ok-apply.ensures.ok ∙ ap (λ (w : Watched). after_event w (event a)) c.loop-i.invariant.behind ∙ sym (seen a) ∙ seen_next a in
     record {
       behind = behind;
       told = told_next a;
-      few = omega (arith, c.in_ok-more.ensures.counted, step);
-      listed = c.keep.ensures ∙ ap (numbers.kept c.add_born.new.self) (c.records-in-loop-i-2.ensures ∙ c.world-in-loop-i-2.ensures) ∙ kept_now a c.apply.new.self behind;
-      counted = count_after c.args.names.now c.args.brief c.args.before.now.program l.columns c.args.events.now l.i (Step 0) _ _ (omega arith) words c.in_ok-more.ensures.counted ∙ l.invariant.counted;
-      drawn = column_after c.args.names.now c.args.brief c.args.before.now.program l.columns c.args.events.now l.i (Step 0) _ _ _ _ _ _ _ (omega arith) words c.in_ok-more.ensures.counted l.invariant.behind (seen_next a) (is_numbered a) c.in_ok-more.ensures.drawn ∙ l.invariant.drawn;
+      few = let step = one_more_few c.as_str.result.now c.loop-i.columns in omega (arith, more.counted, step);
+      listed = c.keep.ensures ∙ kept_now a _ _ behind (c.records-in-loop-i-2.ensures ∙ c.world-in-loop-i-2.ensures);
+      counted = counted a _ _ c.as_str.ensures.value more.counted;
+      drawn = drawn a _ _ _ c.as_str.ensures.value more.counted more.drawn;
     }
