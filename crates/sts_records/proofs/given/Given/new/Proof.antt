@@ -17,9 +17,9 @@ use types.ByLocal.{alloc_all, pass_all, free_all, look_at, sets}
 use denote.RattleType.{owns}
 use denote.Shadow.{pure_i}
 use denote.Triple.Entry.{on_entry, alive}
-use denote.Triple.Spec.{Meets, triple_of}
-use denote.Triple.Table.{entered}
+use denote.Triple.Spec.{Meets}
 use denote.Triple.Walked.{says, Stays, walk_of, Walks, ends_at, walked, walk_Meets}
+use Rattle.sts_records.proofs.Entry.{of_code}
 use Rattle.sts_records.specs.contracts.given.Given.new.Key.{name as key}
 use Rattle.sts_records.specs.contracts.given.Given.new as f
 use Rattle.sts_records.proofs.given.Given.new.Statement as stated
@@ -58,6 +58,4 @@ meets {𝓤 = 𝓤} 𝓛 mem run 𝓣 =
 pub new_spec : {M : Type 1} → stated.statement M
 unfolding tables_of
 new_spec 𝓤 𝓛 𝓜 𝓡 wired =
-    entered 𝓤 𝓛.H (triple_of 𝓛 f.signature (f.spec 𝓛 𝓜.mem 𝓡.returns))
-    (tables 𝓤 𝓛.H 𝓜 𝓡 𝓡.env).C (tables 𝓤 𝓛.H 𝓜 𝓡 𝓡.env).Λ key code.function (code.unfolded 𝓤 𝓛.H 𝓜 𝓡 wired)
-    (meets 𝓛 𝓜.mem 𝓡.returns (tables_of 𝓤 𝓛.H 𝓜 (tables 𝓤 𝓛.H 𝓜 𝓡 𝓡.env)))
+    of_code 𝓤 𝓛 𝓜 𝓡 key code.function _ (code.unfolded 𝓤 𝓛.H 𝓜 𝓡 wired) (meets 𝓛 𝓜.mem 𝓡.returns (tables_of 𝓤 𝓛.H 𝓜 (tables 𝓤 𝓛.H 𝓜 𝓡 𝓡.env)))

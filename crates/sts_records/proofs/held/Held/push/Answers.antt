@@ -18,7 +18,8 @@ turn-requires-clause-keys g c =
 pub turn-requires-clause-room : goal.turn-requires-clause-room
 turn-requires-clause-room g c =
     let e = c.insert-key.ensures in
-    put_room (came c.self.inside c.self.invariant e.was_vacant e.updates e.filled e.capacity) c.put.new.self (rw (← c.self.view_is) at c.requires.room) c.put.ensures.pages
+    put_room (came c.self.inside c.self.invariant e.was_vacant e.updates e.filled e.capacity) c.put.new.self
+    (rw (← c.self.view_is) at c.requires.room) c.put.ensures.pages
 
 pub invariant_of-self : goal.invariant_of-self
 invariant_of-self g c =
