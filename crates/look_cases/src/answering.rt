@@ -15,25 +15,25 @@ ghost use Rattle.look_cases.specs.Case.{seen};
 ghost use Rattle.look_cases.specs.Objects.{Makes};
 
 use crate::faults::{text_fault, trace_fault};
-use crate::objects::{Scalar, object_of, with_member};
+use crate::objects::{Made, Scalar, object_of, with_member};
 use crate::reading::Case;
 use crate::runs::run;
 use crate::verdicts::{accepted, refused};
 use look_lines::after;
 use serde_json::Value;
-use std::alloc::{AllocError, Global};
+use std::alloc::Global;
 use sts_asm::{AsmError, assemble};
 use sts_code::Program;
 use sts_model::Event;
-use sts_rules::Cause;
+use sts_output::{Refusal, judge};
 use sts_trace::read_trace;
-use sts_verify::{Verified, VerifyError, verify};
+use sts_verify::Verified;
 
 /// The version of the answers.
 const VERSION: u64 = 1;
 
 /// Returns the state after these events.
-fn ran(alloc: Global, program: &Program, text: &[u8], events: &[Event]) -> Result<Value, AllocError>
+fn ran(alloc: Global, program: &Program, text: &[u8], events: &[Event]) -> Made
     ensures { IfOk result (λ v. view v ≡ def.run program.now text.now
         (shown (after_events program.now events.now)) (taken program.now events.now)) }
 {
@@ -42,7 +42,7 @@ fn ran(alloc: Global, program: &Program, text: &[u8], events: &[Event]) -> Resul
 }
 
 /// Returns an answer that has only the number of its case and the version.
-fn numbered(alloc: Global, number: u64) -> Result<Value, AllocError>
+fn numbered(alloc: Global, number: u64) -> Made
     ensures { IfOk result (λ v. view v ≡ def.answer_of number []) }
 {
     object_of(
@@ -55,13 +55,7 @@ fn numbered(alloc: Global, number: u64) -> Result<Value, AllocError>
 }
 
 /// Adds to an answer the run of a trace, or the fault of the trace.
-fn traced(
-    alloc: Global,
-    program: &Program,
-    text: &[u8],
-    trace: &[u8],
-    answer: Result<Value, AllocError>,
-) -> Result<Value, AllocError>
+fn traced(alloc: Global, program: &Program, text: &[u8], trace: &[u8], answer: Made) -> Made
     ensures { (n : ℕ) → (d : Data) → Makes (def.judged_only n d) answer
         → Makes (def.read_answer n program.now text.now (trace_read trace.now) d) result }
 {
@@ -77,90 +71,67 @@ fn traced(
     }
 }
 
-/// Returns the answer of a program with this verdict.
-fn of_program(
-    alloc: Global,
+/// A case, and its number.
+#[derive(Clone, Copy)]
+struct Asked<'a> {
     number: u64,
-    program: &Program,
-    case: Case<'_>,
-    verdict: Value,
-) -> Result<Value, AllocError>
-    ensures { IfOk result (λ v. view v ≡ def.program_answer number program.now (seen case.entry)
-        (view verdict)) }
-{
-    let answer = with_member(alloc, numbered(alloc, number), "verdict", Ok(verdict));
-    match case.trace {
-        Some(trace) => traced(alloc, program, case.text, trace, answer),
-        None => answer,
+    case: Case<'a>,
+}
+
+impl Asked<'_> {
+    /// Returns the answer of a program with this verdict.
+    fn of_program(self, alloc: Global, program: &Program, verdict: Value) -> Made
+        ensures { IfOk result (λ v. view v ≡ def.program_answer self.entry.number program.now
+            (seen self.entry.case) (view verdict)) }
+    {
+        let answer = with_member(alloc, numbered(alloc, self.number), "verdict", Ok(verdict));
+        match self.case.trace {
+            Some(trace) => traced(alloc, program, self.case.text, trace, answer),
+            None => answer,
+        }
+    }
+
+    fn of_accepted(self, alloc: Global, verified: &Verified) -> Made
+        ensures { IfOk result (λ v. def.Answers self.entry.number (seen self.entry.case)
+            (Ok verified.now) (view v)) }
+    {
+        let verdict = accepted(alloc, verified)?;
+        self.of_program(alloc, verified.program(), verdict)
+    }
+
+    fn of_refused(self, alloc: Global, refusal: &Refusal) -> Made
+        requires { IsRefusal refusal.now.program refusal.now.function refusal.now.pc
+            refusal.now.cause }
+        ensures { IfOk result (λ v. def.Answers self.entry.number (seen self.entry.case)
+            (Ok refusal.now.program) (view v)) }
+    {
+        let verdict = refused(alloc, refusal, self.case.text)?;
+        self.of_program(alloc, &refusal.program, verdict)
+    }
+
+    /// Returns the answer of a text that spells a program.
+    fn judged_program(self, alloc: Global, program: Program) -> Made
+        ensures { IfOk result (λ v. def.Answers self.entry.number (seen self.entry.case)
+            (Ok program) (view v)) }
+    {
+        match judge(alloc, program)? {
+            Ok(verified) => self.of_accepted(alloc, &verified),
+            Err(refusal) => self.of_refused(alloc, &refusal),
+        }
+    }
+
+    /// Returns the answer of a text with a fault.
+    fn faulty_text(self, alloc: Global, error: AsmError) -> Made
+        ensures { (read : Result AnyProgram AsmError) → FailsAt error error.kind read
+            → IfOk result (λ v. def.Answers self.entry.number (seen self.entry.case)
+            read (view v)) }
+    {
+        let fault = text_fault(alloc, error)?;
+        with_member(alloc, numbered(alloc, self.number), "text_fault", Ok(fault))
     }
 }
 
-fn of_accepted(
-    alloc: Global,
-    number: u64,
-    verified: &Verified,
-    case: Case<'_>,
-) -> Result<Value, AllocError>
-    ensures { IfOk result (λ v. def.Answers number (seen case.entry) (Ok verified.now) (view v)) }
-{
-    let verdict = accepted(alloc, verified)?;
-    of_program(alloc, number, verified.program(), case, verdict)
-}
-
-fn of_refused(
-    alloc: Global,
-    number: u64,
-    program: &Program,
-    function: u32,
-    pc: u32,
-    cause: Cause,
-    case: Case<'_>,
-) -> Result<Value, AllocError>
-    requires { IsRefusal program.now function pc cause }
-    ensures { IfOk result (λ v. def.Answers number (seen case.entry) (Ok program.now) (view v)) }
-{
-    let verdict = refused(alloc, program, case.text, function, pc, cause)?;
-    of_program(alloc, number, program, case, verdict)
-}
-
-/// Returns the answer of a text that spells a program.
-fn judged_program(
-    alloc: Global,
-    number: u64,
-    program: Program,
-    case: Case<'_>,
-) -> Result<Value, AllocError>
-    ensures { IfOk result (λ v. def.Answers number (seen case.entry) (Ok program) (view v)) }
-{
-    match verify(alloc, program) {
-        Ok(verified) => of_accepted(alloc, number, &verified, case),
-        Err(VerifyError::Memory(_)) => Err(AllocError),
-        Err(
-            VerifyError::Refused {
-                program,
-                function,
-                pc,
-                cause,
-            },
-        ) => of_refused(alloc, number, &program, function, pc, cause, case),
-    }
-}
-
-/// Returns the answer of a text with a fault.
-fn faulty_text(
-    alloc: Global,
-    number: u64,
-    error: AsmError,
-    case: Case<'_>,
-) -> Result<Value, AllocError>
-    ensures { (read : Result AnyProgram AsmError) → FailsAt error error.kind read
-        → IfOk result (λ v. def.Answers number (seen case.entry) read (view v)) }
-{
-    let fault = text_fault(alloc, error)?;
-    with_member(alloc, numbered(alloc, number), "text_fault", Ok(fault))
-}
-
-fn no_case(alloc: Global, number: u64) -> Result<Value, AllocError>
+fn no_case(alloc: Global, number: u64) -> Made
     ensures { IfOk result (λ v. view v ≡ def.no_case number) }
 {
     object_of(
@@ -178,14 +149,15 @@ fn no_case(alloc: Global, number: u64) -> Result<Value, AllocError>
 /// # Errors
 ///
 /// Memory was refused.
-pub fn answer(alloc: Global, number: u64, case: Option<Case<'_>>) -> Result<Value, AllocError>
+pub fn answer(alloc: Global, number: u64, case: Option<Case<'_>>) -> Made
     ensures { IfOk result (λ v. def.IsAnswer number (option_map seen case.entry) (view v)) }
 {
     let Some(case) = case else {
         return no_case(alloc, number);
     };
+    let asked = Asked { number, case };
     match assemble(alloc, case.text) {
-        Ok(program) => judged_program(alloc, number, program, case),
-        Err(error) => faulty_text(alloc, number, error, case),
+        Ok(program) => asked.judged_program(alloc, program),
+        Err(error) => asked.faulty_text(alloc, error),
     }
 }

@@ -10,8 +10,7 @@ ghost use Rattle.sts_asm.specs.declared.fault.AsmError.{AsmError};
 ghost use Rattle.sts_trace.specs.declared.error.TraceError.TheVariants.{Memory};
 ghost use Rattle.look_cases.specs.Answer as def;
 
-use crate::objects::{Scalar, object_of, with_text};
-use serde_json::Value;
+use crate::objects::{Made, Scalar, object_of, with_text};
 use std::alloc::{AllocError, Global};
 use sts_asm::{AsmError, AsmKind};
 use sts_code::CodeError;
@@ -28,14 +27,14 @@ pub(crate) fn code(alloc: Global, letter: &str, number: u8) -> Result<String, Al
     format!(in alloc; "{letter}{number}")
 }
 
-fn line_fault(alloc: Global, number: u8, line: u32) -> Result<Value, AllocError>
+fn line_fault(alloc: Global, number: u8, line: u32) -> Made
     ensures { IfOk result (λ v. view v ≡ def.line_fault number line) }
 {
     let fault = object_of(alloc, &[("line", Scalar::Count(line as u64))]);
     with_text(alloc, fault, "fault", code(alloc, "A", number))
 }
 
-fn check_fault(alloc: Global, error: CodeError) -> Result<Value, AllocError>
+fn check_fault(alloc: Global, error: CodeError) -> Made
     ensures { IfOk result (λ v. view v ≡ def.check_fault error) }
 {
     let fault = object_of(
@@ -59,7 +58,7 @@ fn check_fault(alloc: Global, error: CodeError) -> Result<Value, AllocError>
 /// # Errors
 ///
 /// Memory was refused.
-pub fn text_fault(alloc: Global, error: AsmError) -> Result<Value, AllocError>
+pub fn text_fault(alloc: Global, error: AsmError) -> Made
     ensures { (read : Result AnyProgram AsmError) → FailsAt error error.kind read
         → IfOk result (λ v. (read ≡ Err error)
         × (view v ≡ def.text_fault error (code_error error.kind))) }
@@ -73,7 +72,7 @@ pub fn text_fault(alloc: Global, error: AsmError) -> Result<Value, AllocError>
     }
 }
 
-fn bad_line(alloc: Global, fault: &str, line: Option<u64>) -> Result<Value, AllocError>
+fn bad_line(alloc: Global, fault: &str, line: Option<u64>) -> Made
     ensures { IfOk result (λ v. view v ≡ def.bad_line fault.now line) }
 {
     object_of(
@@ -90,7 +89,7 @@ fn bad_line(alloc: Global, fault: &str, line: Option<u64>) -> Result<Value, Allo
 /// # Errors
 ///
 /// Memory was refused.
-pub fn trace_fault(alloc: Global, error: TraceError) -> Result<Value, AllocError>
+pub fn trace_fault(alloc: Global, error: TraceError) -> Made
     ensures { IfOk result (λ v. (error ≢ Memory) × (view v ≡ def.trace_fault error)) }
 {
     match error {

@@ -11,6 +11,9 @@ ghost use Rattle.look_cases.specs.Objects as def;
 use serde_json::{Map, Value};
 use std::alloc::{AllocError, Global};
 
+/// A value, if memory was enough for it.
+pub type Made = Result<Value, AllocError>;
+
 /// A value that owns no memory.
 #[derive(Clone, Copy)]
 pub enum Scalar<'a> {
@@ -41,7 +44,7 @@ fn count_or_null(number: Option<u64>) -> Value
     }
 }
 
-fn value_of(alloc: Global, scalar: Scalar<'_>) -> Result<Value, AllocError>
+fn value_of(alloc: Global, scalar: Scalar<'_>) -> Made
     ensures { IfOk result (λ v. view v ≡ def.data_of scalar.entry) }
 {
     match scalar {
@@ -71,7 +74,7 @@ fn put_scalar(
 /// # Errors
 ///
 /// Memory was refused.
-pub fn object_of(alloc: Global, members: &[(&str, Scalar<'_>)]) -> Result<Value, AllocError>
+pub fn object_of(alloc: Global, members: &[(&str, Scalar<'_>)]) -> Made
     ensures { IfOk result (λ v. view v ≡ object (def.all_put members.now no_members)) }
 {
     let mut object = Map::new(alloc);
@@ -91,12 +94,7 @@ fn both<A: Drop, B: Drop>(
     Ok((first?, second?))
 }
 
-fn put_value(
-    alloc: Global,
-    members: Map<String, Value>,
-    key: &str,
-    member: Value,
-) -> Result<Value, AllocError>
+fn put_value(alloc: Global, members: Map<String, Value>, key: &str, member: Value) -> Made
     ensures { IfOk result (λ v. view v
         ≡ object (put key.now (view member) (members_view members.entries))) }
 {
@@ -105,7 +103,7 @@ fn put_value(
     Ok(Value::Object(members))
 }
 
-fn with_value(alloc: Global, value: Value, key: &str, member: Value) -> Result<Value, AllocError>
+fn with_value(alloc: Global, value: Value, key: &str, member: Value) -> Made
     ensures { (ms : Members) → view value ≡ object ms
         → IfOk result (λ v. view v ≡ object (put key.now (view member) ms)) }
 {
@@ -120,12 +118,7 @@ fn with_value(alloc: Global, value: Value, key: &str, member: Value) -> Result<V
 /// # Errors
 ///
 /// Memory was refused, here or for one of the two.
-pub fn with_member(
-    alloc: Global,
-    value: Result<Value, AllocError>,
-    key: &str,
-    member: Result<Value, AllocError>,
-) -> Result<Value, AllocError>
+pub fn with_member(alloc: Global, value: Made, key: &str, member: Made) -> Made
     ensures { (ms : Members) → (d : Data) → def.Makes (object ms) value → def.Makes d member
         → def.Makes (object (put key.now d ms)) result }
 {
@@ -135,13 +128,10 @@ pub fn with_member(
     }
 }
 
-fn listed(list: Result<Vec<Value>, AllocError>) -> Result<Value, AllocError>
+fn listed(list: Result<Vec<Value>, AllocError>) -> Made
     ensures { (ds : Items) → def.MakesList ds list → def.Makes (array ds) result }
 {
-    match list {
-        Ok(list) => Ok(Value::Array(list)),
-        Err(error) => Err(error),
-    }
+    Ok(Value::Array(list?))
 }
 
 /// Adds a list to an object as a member, if both were made.
@@ -151,23 +141,20 @@ fn listed(list: Result<Vec<Value>, AllocError>) -> Result<Value, AllocError>
 /// Memory was refused, here or for one of the two.
 pub fn with_list(
     alloc: Global,
-    value: Result<Value, AllocError>,
+    value: Made,
     key: &str,
     list: Result<Vec<Value>, AllocError>,
-) -> Result<Value, AllocError>
+) -> Made
     ensures { (ms : Members) → (ds : Items) → def.Makes (object ms) value → def.MakesList ds list
         → def.Makes (object (put key.now (array ds) ms)) result }
 {
     with_member(alloc, value, key, listed(list))
 }
 
-fn worded(text: Result<String, AllocError>) -> Result<Value, AllocError>
+fn worded(text: Result<String, AllocError>) -> Made
     ensures { (t : List ℕ) → def.MakesText t text → def.Makes (string t) result }
 {
-    match text {
-        Ok(text) => Ok(Value::String(text)),
-        Err(error) => Err(error),
-    }
+    Ok(Value::String(text?))
 }
 
 /// Adds a text to an object as a member, if both were made.
@@ -175,12 +162,7 @@ fn worded(text: Result<String, AllocError>) -> Result<Value, AllocError>
 /// # Errors
 ///
 /// Memory was refused, here or for one of the two.
-pub fn with_text(
-    alloc: Global,
-    value: Result<Value, AllocError>,
-    key: &str,
-    text: Result<String, AllocError>,
-) -> Result<Value, AllocError>
+pub fn with_text(alloc: Global, value: Made, key: &str, text: Result<String, AllocError>) -> Made
     ensures { (ms : Members) → (t : List ℕ) → def.Makes (object ms) value → def.MakesText t text
         → def.Makes (object (put key.now (string t) ms)) result }
 {

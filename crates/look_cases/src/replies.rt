@@ -7,6 +7,7 @@ ghost use Rattle.sts_output.specs.Output.{Output, Writes};
 ghost use Rattle.look_cases.specs.Lines as def;
 
 use crate::answering::answer;
+use crate::objects::Made;
 use crate::reading::case_of;
 use serde_json::Value;
 use std::alloc::{AllocError, Global};
@@ -15,7 +16,7 @@ use sts_output::{TakeError, WriteFailed, failed, written};
 use sts_text::cut_at_newline;
 
 /// Returns the answer to a line, which may be JSON.
-fn reply(alloc: Global, number: u64, line: &[u8]) -> Result<Value, AllocError>
+fn reply(alloc: Global, number: u64, line: &[u8]) -> Made
     ensures { IfOk result (λ v. def.IsReply number line.now (view v)) }
 {
     match Value::from_slice(alloc, line) {

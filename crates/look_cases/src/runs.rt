@@ -4,21 +4,20 @@ ghost use Rattle.std.specs.Prelude.{◌≡◌, IfOk};
 ghost use Rattle.serde_json.specs.View.{view};
 ghost use Rattle.look_cases.specs.Answer as def;
 
-use crate::objects::{Scalar, object_of};
+use crate::objects::{Made, Scalar, object_of};
 use crate::verdicts::line_of;
-use serde_json::Value;
-use std::alloc::{AllocError, Global};
+use std::alloc::Global;
 use sts_code::{Program, name_of};
-use sts_model::{End, Fault};
+use sts_model::End;
 use sts_output::printed::fault_word;
-use sts_plain::PlainState;
+use sts_plain::{Misstep, PlainState};
 
 /// Returns the end of a run, and the steps that it took.
 ///
 /// # Errors
 ///
 /// Memory was refused.
-pub fn ended(alloc: Global, end: End, steps: u64) -> Result<Value, AllocError>
+pub fn ended(alloc: Global, end: End, steps: u64) -> Made
     ensures { IfOk result (λ v. view v ≡ def.ended end steps) }
 {
     match end {
@@ -41,22 +40,7 @@ pub fn ended(alloc: Global, end: End, steps: u64) -> Result<Value, AllocError>
     }
 }
 
-/// A fault of a run and its place.
-#[derive(Clone, Copy)]
-struct Place {
-    kind: Fault,
-    task: u32,
-    function: u32,
-    pc: u32,
-}
-
-fn faulted(
-    alloc: Global,
-    program: &Program,
-    text: &[u8],
-    at: Place,
-    steps: u64,
-) -> Result<Value, AllocError>
+fn faulted(alloc: Global, program: &Program, text: &[u8], at: Misstep, steps: u64) -> Made
     ensures { IfOk result (λ v. view v ≡ def.run program.now text.now
         (PlainState.Fault at.kind at.task at.function at.pc) steps) }
 {
@@ -86,7 +70,7 @@ pub(crate) fn run(
     text: &[u8],
     state: PlainState,
     steps: u64,
-) -> Result<Value, AllocError>
+) -> Made
     ensures { IfOk result (λ v. view v ≡ def.run program.now text.now state steps) }
 {
     match state {
@@ -104,7 +88,7 @@ pub(crate) fn run(
             function,
             pc,
         } => {
-            let at = Place {
+            let at = Misstep {
                 kind,
                 task,
                 function,

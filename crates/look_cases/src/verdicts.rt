@@ -3,19 +3,19 @@
 ghost use Rattle.std.specs.Prelude.{◌≡◌, ℕ, IfOk, List, length};
 ghost use Rattle.serde_json.specs.Data.{Items};
 ghost use Rattle.serde_json.specs.View.{view, items_view, items_of};
-ghost use Rattle.sts_rules.specs.Refusal.{IsRefusal};
 ghost use Rattle.sts_asm.specs.Source.{outlined as outlined_of, sentence_at};
 ghost use Rattle.look_cases.specs.Answer as def;
 ghost use Rattle.look_cases.specs.Objects.{Makes, MakesList};
 
 use crate::faults::code;
-use crate::objects::{Scalar, object_of, with_list, with_text};
+use crate::objects::{Made, Scalar, object_of, with_list, with_text};
 use serde_json::Value;
 use std::alloc::{AllocError, Global};
 use sts_asm::{AsmKind, Outline, outlined};
-use sts_code::{Function, Program, name_of};
+use sts_code::{Function, name_of};
+use sts_output::Refusal;
 use sts_output::verify::all_budgets;
-use sts_rules::{Budgets, Cause};
+use sts_rules::Budgets;
 use sts_verify::Verified;
 
 fn line_in(outline: &Outline<'_>, function: u32, pc: u32) -> Option<u64>
@@ -51,7 +51,7 @@ pub(crate) fn line_of(
     }
 }
 
-fn budget(alloc: Global, name: &str, budgets: Budgets) -> Result<Value, AllocError>
+fn budget(alloc: Global, name: &str, budgets: Budgets) -> Made
     ensures { IfOk result (λ v. view v ≡ def.budget name.now budgets) }
 {
     object_of(
@@ -84,10 +84,7 @@ fn budget_list(
     Ok(list)
 }
 
-fn accepted_with(
-    alloc: Global,
-    budgets: Result<Vec<Value>, AllocError>,
-) -> Result<Value, AllocError>
+fn accepted_with(alloc: Global, budgets: Result<Vec<Value>, AllocError>) -> Made
     ensures { (ds : Items) → MakesList ds budgets → Makes (def.accepted_with ds) result }
 {
     let verdict = object_of(alloc, &[("accepted", Scalar::Flag(true))]);
@@ -99,7 +96,7 @@ fn accepted_with(
 /// # Errors
 ///
 /// Memory was refused.
-pub(crate) fn accepted(alloc: Global, verified: &Verified) -> Result<Value, AllocError>
+pub(crate) fn accepted(alloc: Global, verified: &Verified) -> Made
     ensures { IfOk result (λ v. (text : List ℕ) → def.IsVerdict verified.now text (view v)) }
 {
     let budgets = all_budgets(alloc, verified)?;
@@ -112,25 +109,21 @@ pub(crate) fn accepted(alloc: Global, verified: &Verified) -> Result<Value, Allo
 /// # Errors
 ///
 /// Memory was refused.
-pub(crate) fn refused(
-    alloc: Global,
-    program: &Program,
-    text: &[u8],
-    function: u32,
-    pc: u32,
-    cause: Cause,
-) -> Result<Value, AllocError>
-    ensures { IfOk result (λ v. view v ≡ def.refused program.now text.now function pc cause) }
+pub(crate) fn refused(alloc: Global, refusal: &Refusal, text: &[u8]) -> Made
+    ensures { IfOk result (λ v. view v ≡ def.refused refusal.now.program text.now
+        refusal.now.function refusal.now.pc refusal.now.cause) }
 {
-    let line = line_of(alloc, text, function, pc)?;
+    let line = line_of(alloc, text, refusal.function, refusal.pc)?;
+    let name = name_of(&refusal.program, refusal.function);
     let verdict = object_of(
         alloc,
         &[
             ("accepted", Scalar::Flag(false)),
-            ("function", Scalar::Text(name_of(program, function))),
+            ("function", Scalar::Text(name)),
             ("line", Scalar::MaybeCount(line)),
-            ("place", Scalar::Count(pc as u64)),
+            ("place", Scalar::Count(refusal.pc as u64)),
         ],
     );
+    let cause = refusal.cause;
     with_text(alloc, verdict, "cause", code(alloc, "V", cause.number()))
 }

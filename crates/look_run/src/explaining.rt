@@ -12,15 +12,15 @@ use crate::states::Told;
 use crate::traces::trace_fault;
 use look_lines::{Watch, after};
 use look_names::Names;
-use look_refusal::{ExplainError, Explanation, program_of, write_explained};
-use std::alloc::{AllocError, Global};
+use look_refusal::{ExplainError, Explanation, Made, program_of, write_explained};
+use std::alloc::Global;
 use std::io::Write;
 use sts_code::Program;
 use sts_output::{WriteFailed, state_status};
 use sts_trace::read_trace;
 
 /// The state of a watched machine, and each task that lives.
-fn of_watch(alloc: Global, names: &Names<'_>, watch: &Watch<'_>) -> Result<Explanation, AllocError>
+fn of_watch(alloc: Global, names: &Names<'_>, watch: &Watch<'_>) -> Made
     ensures { IfOk result (λ o. o ≡ def.watched_output names.now watch.now) }
 {
     let told = Told {
@@ -38,12 +38,7 @@ fn of_watch(alloc: Global, names: &Names<'_>, watch: &Watch<'_>) -> Result<Expla
 }
 
 /// The explanation of a run of a program with these lines.
-fn of_trace(
-    alloc: Global,
-    names: &Names<'_>,
-    program: &Program,
-    trace: &[u8],
-) -> Result<Explanation, AllocError>
+fn of_trace(alloc: Global, names: &Names<'_>, program: &Program, trace: &[u8]) -> Made
     ensures { IfOk result (λ o. o ≡ def.traced_output program.now names.now trace.now
         (trace_read trace.now)) }
 {

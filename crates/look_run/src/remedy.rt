@@ -178,10 +178,10 @@ fn operand_remedy(program: &Program, records: &Records, frame: &Frame, instr: In
 
 // ---- IllegalState
 
-fn unread_in(phase: Phase) -> Remedy
-    ensures { result ≡ def.unread_in phase }
+fn unread_in(records: &Records, s: u32) -> Remedy
+    ensures { result ≡ def.unread_in (model.scope_at records.now s).phase }
 {
-    match phase {
+    match records.phase(s) {
         Phase::Attempted => Remedy::ReadAfterInterrupt,
         Phase::Joined => Remedy::ReadAfterTimeout,
         _ => Remedy::ReadBeforeJoin,
@@ -192,7 +192,7 @@ fn unread(records: &Records, held: Slot) -> Remedy
     ensures { result ≡ def.unread records.now held }
 {
     match held {
-        Slot::Own(s) => unread_in(records.phase(s)),
+        Slot::Own(s) => unread_in(records, s),
         _ => Remedy::ReadBeforeJoin,
     }
 }
@@ -207,7 +207,7 @@ fn of_scope(records: &Records, profile: Profile, s: Option<u32>, otherwise: Reme
         Some(s) => if records.is_readable(profile, s) {
             otherwise
         } else {
-            unread_in(records.phase(s))
+            unread_in(records, s)
         },
     }
 }

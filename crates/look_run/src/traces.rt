@@ -9,7 +9,7 @@ ghost use Rattle.look_run.specs.Output.{trace_fault_output};
 
 use crate::sentences::trace_sentence;
 use look_names::Said;
-use look_refusal::Explanation;
+use look_refusal::{Explanation, Made};
 use look_text::say;
 use std::alloc::{AllocError, Global};
 use sts_output::{line_at, say_shown};
@@ -74,7 +74,7 @@ fn say_fault(alloc: Global, out: &mut Vec<u8>, text: &[u8], error: TraceError) -
 /// # Errors
 ///
 /// Memory ran out.
-pub fn trace_fault(alloc: Global, text: &[u8], error: TraceError) -> Result<Explanation, AllocError>
+pub fn trace_fault(alloc: Global, text: &[u8], error: TraceError) -> Made
     ensures { IfOk result (λ o. (error ≢ Memory) × (o ≡ trace_fault_output text.now error)) }
 {
     if matches!(error, TraceError::Memory) {
