@@ -39,61 +39,30 @@ abbrev pub named : Option (Bor Text) → List Text
 named None = []
 named (Some path) = path.now ∷ []
 
+-- a command with these files, and no options
+abbrev pub plainly : Text → List Text → Said
+plainly name files = record {
+  name = name;
+  files = files;
+  view = None;
+  form = None;
+  draw = None;
+  tell = None;
+  ends = None;
+}
+
 abbrev pub said : Asked → Said
-said (asked.View file trace view) = record {
-  name = codes "view";
-  files = file.now ∷ trace.now ∷ [];
-  view = Some view;
-  form = None;
-  draw = None;
-  tell = None;
-  ends = None;
-}
-said (asked.Explain file trace form) = record {
-  name = codes "explain";
-  files = file.now ∷ named trace;
-  view = None;
-  form = Some form;
-  draw = None;
-  tell = None;
-  ends = None;
-}
-said (asked.Draw file trace draw) = record {
-  name = codes "draw";
-  files = file.now ∷ trace.now ∷ [];
-  view = None;
-  form = None;
-  draw = Some draw;
-  tell = None;
-  ends = None;
-}
-said (asked.Tell file trace tell) = record {
-  name = codes "tell";
-  files = file.now ∷ trace.now ∷ [];
-  view = None;
-  form = None;
-  draw = None;
-  tell = Some tell;
-  ends = None;
-}
-said (asked.Ends file ends) = record {
-  name = codes "ends";
-  files = file.now ∷ [];
-  view = None;
-  form = None;
-  draw = None;
-  tell = None;
-  ends = Some (said_ends ends);
-}
-said (asked.Cases file) = record {
-  name = codes "cases";
-  files = file.now ∷ [];
-  view = None;
-  form = None;
-  draw = None;
-  tell = None;
-  ends = None;
-}
+said (asked.View file trace view) =
+    record (plainly (codes "view") (file.now ∷ trace.now ∷ [])) { view = Some view }
+said (asked.Explain file trace form) =
+    record (plainly (codes "explain") (file.now ∷ named trace)) { form = Some form }
+said (asked.Draw file trace draw) =
+    record (plainly (codes "draw") (file.now ∷ trace.now ∷ [])) { draw = Some draw }
+said (asked.Tell file trace tell) =
+    record (plainly (codes "tell") (file.now ∷ trace.now ∷ [])) { tell = Some tell }
+said (asked.Ends file ends) =
+    record (plainly (codes "ends") (file.now ∷ [])) { ends = Some (said_ends ends) }
+said (asked.Cases file) = plainly (codes "cases") (file.now ∷ [])
 
 abbrev pub is_set : Text → List Row → Bool
 is_set id rows = is_true (first_of id rows)

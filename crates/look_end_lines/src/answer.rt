@@ -1,6 +1,7 @@
-//! What a search found.
+//! What a search found, and what else its listing shows.
 
-use ends_plain::config::Found;
+use ends_plain::config::{Found, Setting};
+use look_names::Names;
 use std::alloc::Global;
 
 /// The ends of a program, as far as they were found.
@@ -15,4 +16,15 @@ pub struct Answer {
     /// The states of a search by calls, if it found no other end, and it is not proved that there
     /// is none.
     pub by_calls: Option<usize>,
+}
+
+/// A search of the program of a text with these names: what was searched, whether the program is
+/// refused, the number of the end that is asked for, and the ends.
+#[derive(Clone, Copy)]
+pub struct Searched<'a, 't> {
+    pub names: &'a Names<'t>,
+    pub setting: &'a Setting,
+    pub is_refused: bool,
+    pub number: Option<u32>,
+    pub ends: &'a Answer,
 }

@@ -4,11 +4,21 @@ ghost use Rattle.std.specs.Prelude.{◌≡◌, ◌++◌, OnOk};
 ghost use Rattle.look_end_lines.specs.Calls as def;
 
 use crate::lines::say_head;
-use look_calls::CallEnd;
+use look_calls::{CallEnd, CallsFound};
 use look_names::{say_arguments, say_function};
 use look_run::{Told, say_end_line};
 use look_text::{Said, say, say_number};
 use std::alloc::Global;
+
+/// A program, whether it is refused, the number of the end that is asked for, and the ends of its
+/// calls.
+#[derive(Clone, Copy)]
+pub struct Called<'a, 't> {
+    pub told: Told<'a, 't>,
+    pub is_refused: bool,
+    pub number: Option<u32>,
+    pub calls: &'a CallsFound,
+}
 
 /// `charge(10)`
 fn say_call(alloc: Global, out: &mut Vec<u8>, told: Told<'_, '_>, call: &CallEnd) -> Said
@@ -87,19 +97,14 @@ fn say_searched(alloc: Global, out: &mut Vec<u8>, states: usize) -> Said
 }
 
 /// What was searched of the calls.
-pub(crate) fn say_below(
-    alloc: Global,
-    out: &mut Vec<u8>,
-    is_refused: bool,
-    states: usize,
-    is_cut_off: bool,
-) -> Said
-    ensures { OnOk result (out.new.items ≡ out.old.items
-        ++ def.below_calls is_refused states is_cut_off) }
+pub(crate) fn say_below(alloc: Global, out: &mut Vec<u8>, called: Called<'_, '_>) -> Said
+    ensures { OnOk result (out.new.items ≡ out.old.items ++ def.below_calls
+        called.entry.is_refused called.entry.calls.now.states
+        called.entry.calls.now.is_cut_off) }
 {
-    if is_refused {
+    if called.is_refused {
         return say(out, "refused, so its calls were not searched\n");
     }
-    say_cut_off(out, is_cut_off)?;
-    say_searched(alloc, out, states)
+    say_cut_off(out, called.calls.is_cut_off)?;
+    say_searched(alloc, out, called.calls.states)
 }

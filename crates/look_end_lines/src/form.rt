@@ -7,21 +7,20 @@ ghost use Rattle.look_end_lines.specs.Calls.{calls_lines};
 ghost use Rattle.look_end_lines.specs.Form.{IsFaultIn};
 ghost use Rattle.look_end_lines.specs.InLines as def;
 
-use crate::answer::Answer;
+use crate::answer::Searched;
 use crate::below::{
     say_by_calls, say_no_number, say_refused, say_schedules, say_states, say_unfinished,
 };
-use crate::calls::{say_below, say_calls};
-use crate::lines::{say_all, say_shares};
-use ends_plain::config::Setting;
-use ends_plain::sample::Sample;
-use look_calls::CallsFound;
-use look_names::Names;
+use crate::calls::{Called, say_below, say_calls};
+use crate::lines::{Sampled, say_all, say_shares};
 use look_refusal::{ExplainError, program_of};
 use look_run::Told;
 use look_text::Said;
 use std::alloc::{AllocError, Global};
 use sts_code::Program;
+
+/// What is shown: bytes, if there was memory for them.
+pub type Bytes = Result<Vec<u8>, AllocError>;
 
 /// A form in which the ends of a text are shown, or its fault.
 pub trait EndsForm {
@@ -31,46 +30,25 @@ pub trait EndsForm {
     ghost shows: { Self → AnyForm };
 
     /// Returns what is shown of a search.
-    fn of_search(
-        &self,
-        alloc: Global,
-        names: &Names<'_>,
-        setting: &Setting,
-        is_refused: bool,
-        number: Option<u32>,
-        ends: &Answer,
-    ) -> Result<Vec<u8>, AllocError>
-        ensures { IfOk result (λ b. b.items ≡ (shows self.now).of_search names.now setting.now
-            is_refused number ends.now.found.items ends.now.states ends.now.whole
-            ends.now.by_calls) };
+    fn of_search(&self, alloc: Global, search: Searched<'_, '_>) -> Bytes
+        ensures { IfOk result (λ b. b.items ≡ (shows self.now).of_search
+            search.entry.names.now search.entry.setting.now search.entry.is_refused
+            search.entry.number search.entry.ends.now.found.items search.entry.ends.now.states
+            search.entry.ends.now.whole search.entry.ends.now.by_calls) };
 
     /// Returns what is shown of random schedules.
-    fn of_sample(
-        &self,
-        alloc: Global,
-        names: &Names<'_>,
-        program: &Program,
-        schedules: u32,
-        seed: u32,
-        number: Option<u32>,
-        sample: &Sample,
-    ) -> Result<Vec<u8>, AllocError>
-        ensures { IfOk result (λ b. b.items ≡ (shows self.now).of_sample names.now program.now
-            schedules seed number sample.now.found.items sample.now.times.items
-            sample.now.unfinished) };
+    fn of_sample(&self, alloc: Global, sampled: Sampled<'_, '_>) -> Bytes
+        ensures { IfOk result (λ b. b.items ≡ (shows self.now).of_sample
+            sampled.entry.told.names.now sampled.entry.told.program.now sampled.entry.schedules
+            sampled.entry.seed sampled.entry.number sampled.entry.sample.now.found.items
+            sampled.entry.sample.now.times.items sampled.entry.sample.now.unfinished) };
 
     /// Returns what is shown of the ends of calls.
-    fn of_calls(
-        &self,
-        alloc: Global,
-        names: &Names<'_>,
-        program: &Program,
-        is_refused: bool,
-        number: Option<u32>,
-        calls: &CallsFound,
-    ) -> Result<Vec<u8>, AllocError>
-        ensures { IfOk result (λ b. b.items ≡ (shows self.now).of_calls names.now program.now
-            is_refused number calls.now.found.items calls.now.states calls.now.is_cut_off) };
+    fn of_calls(&self, alloc: Global, called: Called<'_, '_>) -> Bytes
+        ensures { IfOk result (λ b. b.items ≡ (shows self.now).of_calls
+            called.entry.told.names.now called.entry.told.program.now called.entry.is_refused
+            called.entry.number called.entry.calls.now.found.items called.entry.calls.now.states
+            called.entry.calls.now.is_cut_off) };
 
     /// Returns the program of a text, or what is shown of its fault.
     fn program_of(&self, alloc: Global, text: &[u8]) -> Result<Program, ExplainError>
@@ -79,66 +57,55 @@ pub trait EndsForm {
 }
 
 /// Appends the lines of a search.
-fn say_search(
-    alloc: Global,
-    out: &mut Vec<u8>,
-    names: &Names<'_>,
-    setting: &Setting,
-    is_refused: bool,
-    number: Option<u32>,
-    ends: &Answer,
-) -> Said
-    ensures { OnOk result (out.new.items ≡ out.old.items
-        ++ def.search_lines names.now setting.now is_refused number ends.now.found.items
-        ends.now.states ends.now.whole ends.now.by_calls) }
+fn say_search(alloc: Global, out: &mut Vec<u8>, search: Searched<'_, '_>) -> Said
+    ensures { OnOk result (out.new.items ≡ out.old.items ++ def.search_lines
+        search.entry.names.now search.entry.setting.now search.entry.is_refused
+        search.entry.number search.entry.ends.now.found.items search.entry.ends.now.states
+        search.entry.ends.now.whole search.entry.ends.now.by_calls) }
 {
-    let program = &setting.program;
+    let ends = search.ends;
+    let (names, program) = (search.names, &search.setting.program);
     let found = ends.found.as_slice();
     say_all(alloc, out, Told { program, names }, found)?;
-    say_refused(alloc, out, setting, is_refused, ends.whole, found)?;
+    say_refused(
+        alloc,
+        out,
+        search.setting,
+        search.is_refused,
+        ends.whole,
+        found,
+    )?;
     say_by_calls(alloc, out, ends.by_calls)?;
     say_states(alloc, out, ends.whole, ends.states)?;
-    say_no_number(alloc, out, number, found)
+    say_no_number(alloc, out, search.number, found)
 }
 
 /// Appends the lines of random schedules.
-fn say_sample(
-    alloc: Global,
-    out: &mut Vec<u8>,
-    told: Told<'_, '_>,
-    schedules: u32,
-    seed: u32,
-    number: Option<u32>,
-    sample: &Sample,
-) -> Said
-    ensures { OnOk result (out.new.items ≡ out.old.items
-        ++ def.sample_lines told.entry.names.now told.entry.program.now schedules seed number
-        sample.now.found.items sample.now.times.items sample.now.unfinished) }
+fn say_sample(alloc: Global, out: &mut Vec<u8>, sampled: Sampled<'_, '_>) -> Said
+    ensures { OnOk result (out.new.items ≡ out.old.items ++ def.sample_lines
+        sampled.entry.told.names.now sampled.entry.told.program.now sampled.entry.schedules
+        sampled.entry.seed sampled.entry.number sampled.entry.sample.now.found.items
+        sampled.entry.sample.now.times.items sampled.entry.sample.now.unfinished) }
 {
+    let (told, sample) = (sampled.told, sampled.sample);
     let (found, times) = (sample.found.as_slice(), sample.times.as_slice());
-    say_shares(alloc, out, told, found, times, schedules)?;
+    say_shares(alloc, out, told, found, times, sampled.schedules)?;
     say_unfinished(alloc, out, sample.unfinished)?;
-    say_schedules(alloc, out, schedules, seed)?;
-    say_no_number(alloc, out, number, found)
+    say_schedules(alloc, out, sampled.schedules, sampled.seed)?;
+    say_no_number(alloc, out, sampled.number, found)
 }
 
 /// Appends the lines of the ends of calls.
-fn say_found_calls(
-    alloc: Global,
-    out: &mut Vec<u8>,
-    told: Told<'_, '_>,
-    is_refused: bool,
-    number: Option<u32>,
-    calls: &CallsFound,
-) -> Said
-    ensures { OnOk result (out.new.items ≡ out.old.items
-        ++ calls_lines told.entry.names.now told.entry.program.now is_refused number
-        calls.now.found.items calls.now.states calls.now.is_cut_off) }
+fn say_found_calls(alloc: Global, out: &mut Vec<u8>, called: Called<'_, '_>) -> Said
+    ensures { OnOk result (out.new.items ≡ out.old.items ++ calls_lines
+        called.entry.told.names.now called.entry.told.program.now called.entry.is_refused
+        called.entry.number called.entry.calls.now.found.items called.entry.calls.now.states
+        called.entry.calls.now.is_cut_off) }
 {
-    let found = calls.found.as_slice();
-    say_calls(alloc, out, told, found)?;
-    say_below(alloc, out, is_refused, calls.states, calls.is_cut_off)?;
-    say_no_number(alloc, out, number, found)
+    let found = called.calls.found.as_slice();
+    say_calls(alloc, out, called.told, found)?;
+    say_below(alloc, out, called)?;
+    say_no_number(alloc, out, called.number, found)
 }
 
 /// Lines for people.
@@ -146,52 +113,23 @@ fn say_found_calls(
 pub struct EndLines;
 
 impl EndsForm for EndLines {
-    ghost use Rattle.look_end_lines.specs.InLines.{lines_form};
+    ghost shows = { λ _. def.lines_form };
 
-    ghost shows = { λ _. lines_form };
-
-    fn of_search(
-        &self,
-        alloc: Global,
-        names: &Names<'_>,
-        setting: &Setting,
-        is_refused: bool,
-        number: Option<u32>,
-        ends: &Answer,
-    ) -> Result<Vec<u8>, AllocError> {
+    fn of_search(&self, alloc: Global, search: Searched<'_, '_>) -> Bytes {
         let mut out = Vec::new(alloc);
-        say_search(alloc, &mut out, names, setting, is_refused, number, ends)?;
+        say_search(alloc, &mut out, search)?;
         Ok(out)
     }
 
-    fn of_sample(
-        &self,
-        alloc: Global,
-        names: &Names<'_>,
-        program: &Program,
-        schedules: u32,
-        seed: u32,
-        number: Option<u32>,
-        sample: &Sample,
-    ) -> Result<Vec<u8>, AllocError> {
+    fn of_sample(&self, alloc: Global, sampled: Sampled<'_, '_>) -> Bytes {
         let mut out = Vec::new(alloc);
-        let told = Told { program, names };
-        say_sample(alloc, &mut out, told, schedules, seed, number, sample)?;
+        say_sample(alloc, &mut out, sampled)?;
         Ok(out)
     }
 
-    fn of_calls(
-        &self,
-        alloc: Global,
-        names: &Names<'_>,
-        program: &Program,
-        is_refused: bool,
-        number: Option<u32>,
-        calls: &CallsFound,
-    ) -> Result<Vec<u8>, AllocError> {
+    fn of_calls(&self, alloc: Global, called: Called<'_, '_>) -> Bytes {
         let mut out = Vec::new(alloc);
-        let told = Told { program, names };
-        say_found_calls(alloc, &mut out, told, is_refused, number, calls)?;
+        say_found_calls(alloc, &mut out, called)?;
         Ok(out)
     }
 

@@ -4,9 +4,20 @@ ghost use Rattle.std.specs.Prelude.{◌≡◌, ◌++◌, OnOk};
 ghost use Rattle.look_end_lines.specs.Lines as def;
 
 use ends_plain::config::Found;
+use ends_plain::sample::Sample;
 use look_run::Told;
 use look_text::{Said, say, say_number};
 use std::alloc::Global;
+
+/// Random schedules of a program, the number of the end that is asked for, and the ends.
+#[derive(Clone, Copy)]
+pub struct Sampled<'a, 't> {
+    pub told: Told<'a, 't>,
+    pub schedules: u32,
+    pub seed: u32,
+    pub number: Option<u32>,
+    pub sample: &'a Sample,
+}
 
 /// `K after N events`
 pub(crate) fn say_head(alloc: Global, out: &mut Vec<u8>, place: usize, events: usize) -> Said

@@ -1,5 +1,5 @@
 -- A listing of a search says what was searched.
-use Rattle.std.proofs.Common.{◌≡◌, ℕ, List, Bool, true, Option, Result, Ok, ap, sym, subst, ◌∙◌}
+use Rattle.std.proofs.Common.{◌≡◌, ℕ, List, [], Bool, true, Option, Result, Ok, ap, sym, subst, ◌∙◌}
 use Rattle.std.specs.Prelude.{IfOk}
 use Rattle.std.proofs.lemmas.Result.{IfOk-weaker}
 use Rattle.ends_plain.specs.Ends.{AreAll}
@@ -12,7 +12,9 @@ use Rattle.sts_code.specs.Program.{Program}
 use Rattle.sts_output.specs.Output.{Output}
 use Rattle.look_options.specs.declared.ends.EndsOptions.{EndsOptions}
 use Rattle.look_end_lines.specs.Form.{EndsForm, IsFaultIn}
-use Rattle.look_ends.specs.Listing.{IsSearch, IsVerdict, Listing, ListsBy, ListsIn, alone, searched_listing, setting}
+use Rattle.look_calls.specs.Calls.{AreCallEnds}
+use Rattle.look_calls.specs.declared.found.CallsFound.{CallsFound}
+use Rattle.look_ends.specs.Listing.{IsCallsListing, IsSearch, IsVerdict, Listing, ListsBy, ListsIn, alone, calls_listing, searched_listing, setting}
 
 -- what was searched is what was asked for
 pub search_of : (form : EndsForm) (g x : Setting) (text : List ℕ) (number : Option ℕ) (is_refused : Bool) (found : List Found) (states : ℕ) (whole : Bool) (by_calls : Option ℕ) (r : Listing)
@@ -28,6 +30,21 @@ search_of form g x text number is_refused found states whole by_calls r seen sou
   complete = complete;
   verdict = verdict;
   printed = subst (λ (y : Setting). r ≡ searched_listing form text y is_refused number found states whole by_calls) seen printed;
+}
+
+-- the ends of the calls of the program that was asked for
+pub calls_of : (form : EndsForm) (text : List ℕ) (g : Setting) (number : Option ℕ) (is_refused : Bool) (r : CallsFound) (l : Listing) → AreCallEnds g r.found.items
+    → (is_refused ≡ true → r.found.items ≡ []) → IsVerdict g.program is_refused → l ≡ calls_listing form text g.program is_refused number r.found.items r.states r.is_cut_off
+    → IsCallsListing form text g number l
+calls_of form text g number is_refused r l sound unsearched verdict printed = record {
+  found = r.found.items;
+  states = r.states;
+  is_cut_off = r.is_cut_off;
+  is_refused = is_refused;
+  sound = sound;
+  unsearched = unsearched;
+  verdict = verdict;
+  printed = printed;
 }
 
 -- the listing of the program of a text

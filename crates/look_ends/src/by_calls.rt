@@ -238,6 +238,18 @@ fn joined(setting: &Setting, calls: EndsByCalls, ends: EndsFound) -> Result<Answ
     })
 }
 
+/// The ends of all schedules.
+fn whole(found: Vec<Found>, states: usize) -> Answer
+    ensures { (result.found ≡ found) × (result.whole ≡ true) }
+{
+    Answer {
+        found,
+        states,
+        whole: true,
+        by_calls: None,
+    }
+}
+
 /// The ends of a search over all schedules. If it stopped, those of a search by calls are there,
 /// too; and these alone, if they are all ends.
 pub(crate) fn answered(
@@ -253,20 +265,10 @@ pub(crate) fn answered(
     ensures complete { IfOk result (λ a. a.whole ≡ true → AreAllOf setting.now a.found.items) }
 {
     if ends.whole {
-        return Ok(Answer {
-            found: ends.found,
-            states: ends.states,
-            whole: true,
-            by_calls: None,
-        });
+        return Ok(whole(ends.found, ends.states));
     }
     if calls.whole {
-        return Ok(Answer {
-            found: calls.found,
-            states: calls.states,
-            whole: true,
-            by_calls: None,
-        });
+        return Ok(whole(calls.found, calls.states));
     }
     joined(setting, calls, ends)
 }

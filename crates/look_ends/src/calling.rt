@@ -6,11 +6,12 @@ ghost use Rattle.look_end_lines.specs.Calls as calls;
 ghost use Rattle.look_ends.specs.Listing as def;
 
 use crate::by_calls::MOST_STATES;
-use crate::listing::{Listing, STATUS_PART, listing_of};
+use crate::listing::{Listed, STATUS_PART, listing_of};
 use ends_plain::config::Setting;
 use look_calls::{CallEnd, CallsFound, call_ends, no_calls};
-use look_end_lines::{EndsForm, found_at};
+use look_end_lines::{Called, EndsForm, found_at};
 use look_names::Names;
+use look_run::Told;
 use std::alloc::{AllocError, Global};
 use sts_model::Event;
 
@@ -56,22 +57,14 @@ fn trace_of_call(
 }
 
 /// What is shown of these ends of calls.
-fn shown<F: EndsForm>(
-    alloc: Global,
-    form: &F,
-    names: &Names<'_>,
-    setting: &Setting,
-    is_refused: bool,
-    number: Option<u32>,
-    calls: &CallsFound,
-) -> Result<Listing, AllocError>
-    ensures { IfOk result (λ l. l ≡ def.calls_listing (F.shows form.now) names.now
-        setting.now.program is_refused number calls.now.found.items calls.now.states
-        calls.now.is_cut_off) }
+fn shown<F: EndsForm>(alloc: Global, form: &F, called: Called<'_, '_>) -> Listed
+    ensures { IfOk result (λ l. l ≡ def.calls_listing (F.shows form.now)
+        called.entry.told.names.now called.entry.told.program.now called.entry.is_refused
+        called.entry.number called.entry.calls.now.found.items called.entry.calls.now.states
+        called.entry.calls.now.is_cut_off) }
 {
-    let program = &setting.program;
-    let bytes = form.of_calls(alloc, names, program, is_refused, number, calls);
-    let trace = trace_of_call(alloc, number, calls.found.as_slice());
+    let bytes = form.of_calls(alloc, called);
+    let trace = trace_of_call(alloc, called.number, called.calls.found.as_slice());
     listing_of(bytes, STATUS_PART, trace)
 }
 
@@ -84,10 +77,17 @@ pub(crate) fn of_calls<F: EndsForm>(
     is_refused: bool,
     states: Option<u32>,
     number: Option<u32>,
-) -> Result<Listing, AllocError>
+) -> Listed
     requires { def.IsVerdict setting.now.program is_refused }
     ensures { IfOk result (def.IsCallsListing (F.shows form.now) names.now setting.now number) }
 {
     let calls = calls_of(alloc, setting, is_refused, states)?;
-    shown(alloc, form, names, setting, is_refused, number, &calls)
+    let program = &setting.program;
+    let called = Called {
+        told: Told { program, names },
+        is_refused,
+        number,
+        calls: &calls,
+    };
+    shown(alloc, form, called)
 }

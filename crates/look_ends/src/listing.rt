@@ -15,13 +15,14 @@ use crate::exploring::explored;
 use crate::verdict::{Judged, verdict};
 use ends_plain::config::{Found, Setting};
 use ends_plain::exploration::Exploration;
-use ends_plain::sample::{Sample, Sampling, sample_ends};
+use ends_plain::sample::{Sampling, sample_ends};
 use ends_whole::EndsByCalls;
-use look_end_lines::{Answer, EndLines, EndsForm, found_at, has_number};
+use look_end_lines::{Answer, EndLines, EndsForm, Sampled, Searched, found_at, has_number};
 use look_host::Progress;
 use look_names::Names;
 use look_options::{EndsOptions, Limits, Manner};
 use look_refusal::{ExplainError, Explanation};
+use look_run::Told;
 use std::alloc::{AllocError, Global};
 use std::marker::Model;
 use sts_code::Program;
@@ -39,6 +40,9 @@ pub struct Listing {
     pub output: Explanation,
     pub trace: Vec<Event>,
 }
+
+/// A listing, if there was memory for it.
+pub(crate) type Listed = Result<Listing, AllocError>;
 
 impl Model for Listing {
     ghost use Rattle.look_ends.specs.Listing.{Listing};
@@ -73,7 +77,7 @@ pub(crate) fn listing_of(
     bytes: Result<Vec<u8>, AllocError>,
     status: u8,
     trace: Result<Vec<Event>, AllocError>,
-) -> Result<Listing, AllocError>
+) -> Listed
     ensures { (b : List ℕ) → (es : List AnyEvent) → IfOk bytes (λ v. v.items ≡ b)
         → IfOk trace (λ v. v.items ≡ es) → IfOk result (λ l. l ≡ def.listing_of b status es) }
 {
@@ -98,41 +102,27 @@ fn status_of(number: Option<u32>, ends: &Answer) -> u8
 }
 
 /// What is shown of a search.
-fn searched<F: EndsForm>(
-    alloc: Global,
-    form: &F,
-    names: &Names<'_>,
-    setting: &Setting,
-    is_refused: bool,
-    number: Option<u32>,
-    ends: &Answer,
-) -> Result<Listing, AllocError>
-    ensures { IfOk result (λ l. l ≡ def.searched_listing (F.shows form.now) names.now setting.now
-        is_refused number ends.now.found.items ends.now.states ends.now.whole
-        ends.now.by_calls) }
+fn searched<F: EndsForm>(alloc: Global, form: &F, search: Searched<'_, '_>) -> Listed
+    ensures { IfOk result (λ l. l ≡ def.searched_listing (F.shows form.now)
+        search.entry.names.now search.entry.setting.now search.entry.is_refused search.entry.number
+        search.entry.ends.now.found.items search.entry.ends.now.states
+        search.entry.ends.now.whole search.entry.ends.now.by_calls) }
 {
-    let bytes = form.of_search(alloc, names, setting, is_refused, number, ends);
+    let (number, ends) = (search.number, search.ends);
+    let bytes = form.of_search(alloc, search);
     let trace = trace_of(alloc, number, ends.found.as_slice());
     listing_of(bytes, status_of(number, ends), trace)
 }
 
 /// What is shown of random schedules.
-fn sampled<F: EndsForm>(
-    alloc: Global,
-    form: &F,
-    names: &Names<'_>,
-    program: &Program,
-    schedules: u32,
-    seed: u32,
-    number: Option<u32>,
-    sample: &Sample,
-) -> Result<Listing, AllocError>
-    ensures { IfOk result (λ l. l ≡ def.sampled_listing (F.shows form.now) names.now program.now
-        schedules seed number sample.now.found.items sample.now.times.items
-        sample.now.unfinished) }
+fn sampled<F: EndsForm>(alloc: Global, form: &F, ends: Sampled<'_, '_>) -> Listed
+    ensures { IfOk result (λ l. l ≡ def.sampled_listing (F.shows form.now)
+        ends.entry.told.names.now ends.entry.told.program.now ends.entry.schedules
+        ends.entry.seed ends.entry.number ends.entry.sample.now.found.items
+        ends.entry.sample.now.times.items ends.entry.sample.now.unfinished) }
 {
-    let bytes = form.of_sample(alloc, names, program, schedules, seed, number, sample);
-    let trace = trace_of(alloc, number, sample.found.as_slice());
+    let bytes = form.of_sample(alloc, ends);
+    let trace = trace_of(alloc, ends.number, ends.sample.found.as_slice());
     listing_of(bytes, STATUS_PART, trace)
 }
 
@@ -145,7 +135,7 @@ fn of_both<F: EndsForm>(
     exploration: &Exploration,
     is_refused: bool,
     number: Option<u32>,
-) -> Result<Listing, AllocError>
+) -> Listed
     requires verdict { def.IsVerdict exploration.now.program is_refused }
     requires calls { AreEnds exploration.now calls.found.items }
     requires called { calls.whole ≡ true → AreAllOf exploration.now calls.found.items }
@@ -154,7 +144,14 @@ fn of_both<F: EndsForm>(
     let ends = exploration.ends(alloc)?;
     let setting = exploration.setting();
     let all = answered(setting, calls, ends)?;
-    searched(alloc, form, names, setting, is_refused, number, &all)
+    let search = Searched {
+        names,
+        setting,
+        is_refused,
+        number,
+        ends: &all,
+    };
+    searched(alloc, form, search)
 }
 
 /// The listing of all ends of a program. Each is reported when it is found.
@@ -167,7 +164,7 @@ fn of_all<F: EndsForm, P: Progress>(
     limits: Limits,
     number: Option<u32>,
     progress: &mut P,
-) -> Result<Listing, AllocError>
+) -> Listed
     requires verdict { def.IsVerdict setting.program is_refused }
     requires never { is_refused ≡ false → NeverFaults setting.program }
     ensures { IfOk result (def.IsSearch (F.shows form.now) names.now setting number) }
@@ -188,7 +185,7 @@ fn of_sample<F: EndsForm>(
     schedules: u32,
     seed: u32,
     number: Option<u32>,
-) -> Result<Listing, AllocError>
+) -> Listed
     ensures { IfOk result (def.IsSampling (F.shows form.now) names.now setting.now schedules seed
         number) }
 {
@@ -199,24 +196,30 @@ fn of_sample<F: EndsForm>(
     };
     let sample = sample_ends(alloc, setting, sampling)?;
     let program = &setting.program;
-    sampled(
-        alloc, form, names, program, schedules, seed, number, &sample,
-    )
+    let ends = Sampled {
+        told: Told { program, names },
+        schedules,
+        seed,
+        number,
+        sample: &sample,
+    };
+    sampled(alloc, form, ends)
 }
 
-/// The listing of a program, whose text has these names.
+/// The listing of the program of a text.
 fn of_program<F: EndsForm, P: Progress>(
     alloc: Global,
     form: &F,
-    names: &Names<'_>,
     program: Program,
     wanted: EndsOptions,
     number: Option<u32>,
+    text: &[u8],
     progress: &mut P,
-) -> Result<Listing, AllocError>
-    ensures { IfOk result (def.ListsBy (F.shows form.now) wanted.manner names.now
+) -> Listed
+    ensures { IfOk result (def.ListsBy (F.shows form.now) wanted.manner text.now
         (def.setting program wanted) number) }
 {
+    let names = Names::read(alloc, text)?;
     let Judged {
         program,
         is_refused,
@@ -228,13 +231,13 @@ fn of_program<F: EndsForm, P: Progress>(
     };
     match wanted.manner {
         Manner::All { limits } => of_all(
-            alloc, form, names, setting, is_refused, limits, number, progress,
+            alloc, form, &names, setting, is_refused, limits, number, progress,
         ),
         Manner::Sample { schedules, seed } => {
-            of_sample(alloc, form, names, &setting, schedules, seed, number)
+            of_sample(alloc, form, &names, &setting, schedules, seed, number)
         }
         Manner::Calls { states } => {
-            of_calls(alloc, form, names, &setting, is_refused, states, number)
+            of_calls(alloc, form, &names, &setting, is_refused, states, number)
         }
     }
 }
@@ -247,23 +250,6 @@ fn alone(alloc: Global, output: Explanation) -> Listing
         output,
         trace: Vec::new(alloc),
     }
-}
-
-/// The listing of the program of a text.
-fn of_text<F: EndsForm, P: Progress>(
-    alloc: Global,
-    form: &F,
-    program: Program,
-    wanted: EndsOptions,
-    number: Option<u32>,
-    text: &[u8],
-    progress: &mut P,
-) -> Result<Listing, AllocError>
-    ensures { IfOk result (def.ListsBy (F.shows form.now) wanted.manner text.now
-        (def.setting program wanted) number) }
-{
-    let names = Names::read(alloc, text)?;
-    of_program(alloc, form, &names, program, wanted, number, progress)
 }
 
 /// Finds the ends of a text, and returns what is shown of them in a form. With a `number`, it keeps
@@ -284,7 +270,7 @@ pub fn listed_in<F: EndsForm, P: Progress>(
         (def.ListsIn (F.shows form.now) (judged text.now) text.now wanted number) }
 {
     match form.program_of(alloc, text) {
-        Ok(program) => of_text(alloc, form, program, wanted, number, text, progress),
+        Ok(program) => of_program(alloc, form, program, wanted, number, text, progress),
         Err(ExplainError::Shown(output)) => Ok(alone(alloc, output)),
         Err(ExplainError::Memory) => Err(AllocError),
     }

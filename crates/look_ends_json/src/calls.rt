@@ -7,22 +7,17 @@ ghost use Rattle.look_views.specs.Views.{line};
 ghost use Rattle.look_ends_json.specs.Calls as def;
 ghost use Rattle.look_ends_json.specs.Outcome.{missing};
 
-use crate::outcome::{ended, missing, push_made};
-use look_calls::{CallEnd, CallsFound};
+use crate::outcome::{Made, ended, missing, push_made};
+use look_calls::CallEnd;
 use look_cases::{Scalar, object_of, widened, with_list, with_member};
-use look_names::Names;
+use look_end_lines::{Called, Told};
+use look_names::Said;
 use look_views::{VERSION, integers, with_name};
-use serde_json::Value;
-use std::alloc::{AllocError, Global};
+use std::alloc::Global;
 use sts_code::{Program, name_of};
 
 /// The end of a call, without its arguments, its end and the name of its function.
-fn call_head(
-    alloc: Global,
-    program: &Program,
-    place: usize,
-    call: &CallEnd,
-) -> Result<Value, AllocError>
+fn call_head(alloc: Global, program: &Program, place: usize, call: &CallEnd) -> Made
     requires { place + 1 < 2 ^ 64 }
     ensures { IfOk result (λ v. view v ≡ def.call_head program.now place call.now) }
 {
@@ -39,84 +34,66 @@ fn call_head(
 }
 
 /// The end of a call, without the name of its function.
-fn call(
-    alloc: Global,
-    names: &Names<'_>,
-    program: &Program,
-    place: usize,
-    call: &CallEnd,
-) -> Result<Value, AllocError>
+fn call(alloc: Global, told: Told<'_, '_>, place: usize, call: &CallEnd) -> Made
     requires { place + 1 < 2 ^ 64 }
-    ensures { IfOk result (λ v. view v ≡ def.call names.now program.now place call.now) }
+    ensures { IfOk result (λ v. view v
+        ≡ def.call told.entry.names.now told.entry.program.now place call.now) }
 {
-    let value = call_head(alloc, program, place, call);
+    let value = call_head(alloc, told.program, place, call);
     let arguments = integers(alloc, call.arguments.as_slice());
     let value = with_list(alloc, value, "arguments", arguments);
-    with_member(alloc, value, "task", ended(alloc, names, call.end))
+    with_member(alloc, value, "task", ended(alloc, told.names, call.end))
 }
 
-fn call_end(
-    alloc: Global,
-    names: &Names<'_>,
-    program: &Program,
-    place: usize,
-    one: &CallEnd,
-) -> Result<Value, AllocError>
+fn call_end(alloc: Global, told: Told<'_, '_>, place: usize, one: &CallEnd) -> Made
     requires { place + 1 < 2 ^ 64 }
-    ensures { IfOk result (λ v. view v ≡ def.call_end names.now program.now place one.now) }
+    ensures { IfOk result (λ v. view v
+        ≡ def.call_end told.entry.names.now told.entry.program.now place one.now) }
 {
-    let value = call(alloc, names, program, place, one)?;
-    with_name(alloc, value, "function_name", names.function(one.function))
+    let value = call(alloc, told, place, one)?;
+    let name = told.names.function(one.function);
+    with_name(alloc, value, "function_name", name)
 }
 
 fn say_call_end(
     alloc: Global,
     out: &mut String,
-    names: &Names<'_>,
-    program: &Program,
+    told: Told<'_, '_>,
     place: usize,
     one: &CallEnd,
-) -> Result<(), AllocError>
+) -> Said
     requires { place + 1 < 2 ^ 64 }
     ensures { OnOk result (string_bytes out.new ≡ string_bytes out.old
-        ++ line (def.call_end names.now program.now place one.now)) }
+        ++ line (def.call_end told.entry.names.now told.entry.program.now place one.now)) }
 {
-    push_made(alloc, out, call_end(alloc, names, program, place, one))
+    push_made(alloc, out, call_end(alloc, told, place, one))
 }
 
 /// Appends the lines of these ends.
-fn say_call_ends(
-    alloc: Global,
-    out: &mut String,
-    names: &Names<'_>,
-    program: &Program,
-    found: &[CallEnd],
-) -> Result<(), AllocError>
+fn say_call_ends(alloc: Global, out: &mut String, told: Told<'_, '_>, found: &[CallEnd]) -> Said
     ensures { OnOk result (string_bytes out.new ≡ string_bytes out.old
-        ++ def.call_lines names.now program.now found.now 0) }
+        ++ def.call_lines told.entry.names.now told.entry.program.now found.now 0) }
 {
     for k in 0..found.len() {
-        say_call_end(alloc, out, names, program, k, &found[k])?;
+        say_call_end(alloc, out, told, k, &found[k])?;
     }
     Ok(())
 }
 
-fn calls(
-    alloc: Global,
-    is_refused: bool,
-    number: Option<u32>,
-    calls: &CallsFound,
-) -> Result<Value, AllocError>
-    ensures { IfOk result (λ v. view v ≡ def.calls is_refused calls.now.states
-        calls.now.is_cut_off (missing number calls.now.found.items)) }
+/// The last line.
+fn calls(alloc: Global, called: Called<'_, '_>) -> Made
+    ensures { IfOk result (λ v. view v ≡ def.calls called.entry.is_refused
+        called.entry.calls.now.states called.entry.calls.now.is_cut_off
+        (missing called.entry.number called.entry.calls.now.found.items)) }
 {
-    let no_end = missing(number, calls.found.as_slice());
+    let calls = called.calls;
+    let no_end = missing(called.number, calls.found.as_slice());
     object_of(
         alloc,
         &[
             ("all_ends", Scalar::Flag(false)),
             ("no_end", Scalar::MaybeCount(widened(no_end))),
-            ("refused", Scalar::Flag(is_refused)),
+            ("refused", Scalar::Flag(called.is_refused)),
             ("states", Scalar::Count(calls.states as u64)),
             ("stopped", Scalar::Flag(calls.is_cut_off)),
             ("version", Scalar::Count(VERSION)),
@@ -125,19 +102,12 @@ fn calls(
 }
 
 /// Appends the lines of the ends of calls.
-pub(crate) fn say_calls(
-    alloc: Global,
-    out: &mut String,
-    names: &Names<'_>,
-    program: &Program,
-    is_refused: bool,
-    number: Option<u32>,
-    found: &CallsFound,
-) -> Result<(), AllocError>
-    ensures { OnOk result (string_bytes out.new ≡ string_bytes out.old
-        ++ def.calls_lines names.now program.now is_refused number found.now.found.items
-        found.now.states found.now.is_cut_off) }
+pub(crate) fn say_calls(alloc: Global, out: &mut String, called: Called<'_, '_>) -> Said
+    ensures { OnOk result (string_bytes out.new ≡ string_bytes out.old ++ def.calls_lines
+        called.entry.told.names.now called.entry.told.program.now called.entry.is_refused
+        called.entry.number called.entry.calls.now.found.items called.entry.calls.now.states
+        called.entry.calls.now.is_cut_off) }
 {
-    say_call_ends(alloc, out, names, program, found.found.as_slice())?;
-    push_made(alloc, out, calls(alloc, is_refused, number, found))
+    say_call_ends(alloc, out, called.told, called.calls.found.as_slice())?;
+    push_made(alloc, out, calls(alloc, called))
 }

@@ -6,21 +6,19 @@ ghost use Rattle.serde_json.specs.View.{view};
 ghost use Rattle.sts_code.specs.Program.{Program as AnyProgram};
 ghost use Rattle.sts_asm.specs.Fault.{FailsAt};
 ghost use Rattle.sts_asm.specs.declared.fault.AsmError.{AsmError};
+ghost use Rattle.look_views.specs.Named.{placed};
 ghost use Rattle.look_views.specs.Views.{faulty, line, text_line};
 ghost use Rattle.look_ends_json.specs.Ends as def;
 ghost use Rattle.look_ends_json.specs.Outcome.{missing};
 
 use crate::calls::say_calls;
-use crate::outcome::{ended, missing, push_made};
-use ends_plain::config::{Found, Setting};
-use ends_plain::sample::Sample;
-use look_calls::CallsFound;
+use crate::outcome::{Made, ended, missing, push_made};
+use ends_plain::config::Found;
 use look_cases::{Scalar, object_of, widened, with_member};
-use look_end_lines::{Answer, EndsForm, times_at};
-use look_names::Names;
+use look_end_lines::{Bytes, Called, EndsForm, Sampled, Searched, Told, times_at};
+use look_names::Said;
 use look_refusal::{ExplainError, Explanation};
 use look_views::{VERSION, faulty_text, line_at, placed};
-use serde_json::Value;
 use std::alloc::{AllocError, Global};
 use sts_asm::{AsmError, assemble};
 use sts_code::{Program, name_of};
@@ -38,65 +36,54 @@ fn count_of(number: Option<usize>) -> Option<u64>
     }
 }
 
+/// A fault with the names of its function and its line.
 fn faulted(
     alloc: Global,
-    names: &Names<'_>,
-    program: &Program,
+    told: Told<'_, '_>,
     kind: Fault,
     task: u32,
     function: u32,
     pc: u32,
-) -> Result<Value, AllocError>
-    ensures { IfOk result (λ v. view v
-        ≡ def.faulted names.now program.now kind task function pc) }
+) -> Made
+    ensures { IfOk result (λ v. view v ≡ placed told.entry.names.now function pc
+        (def.faulted told.entry.names.now told.entry.program.now kind task function pc)) }
 {
-    let line = line_at(names, function, pc);
-    object_of(
+    let line = line_at(told.names, function, pc);
+    let fault = object_of(
         alloc,
         &[
             ("fault", Scalar::Text(fault_word(kind))),
-            ("function", Scalar::Text(name_of(program, function))),
+            ("function", Scalar::Text(name_of(told.program, function))),
             ("line", Scalar::MaybeCount(widened(line))),
             ("outcome", Scalar::Text("fault")),
             ("place", Scalar::Count(pc as u64)),
             ("task", Scalar::Count(task as u64)),
         ],
-    )
+    )?;
+    placed(alloc, told.names, function, pc, fault)
 }
 
-/// The state of a run at its end; a fault with the names of its function and its line.
-fn run(
-    alloc: Global,
-    names: &Names<'_>,
-    program: &Program,
-    state: PlainState,
-) -> Result<Value, AllocError>
-    ensures { IfOk result (λ v. view v ≡ def.run names.now program.now state) }
+/// The state of a run at its end.
+fn run(alloc: Global, told: Told<'_, '_>, state: PlainState) -> Made
+    ensures { IfOk result (λ v. view v
+        ≡ def.run told.entry.names.now told.entry.program.now state) }
 {
     match state {
         PlainState::Running => object_of(alloc, &[("outcome", Scalar::Text("running"))]),
-        PlainState::Ended(end) => ended(alloc, names, end),
+        PlainState::Ended(end) => ended(alloc, told.names, end),
         PlainState::Fault {
             kind,
             task,
             function,
             pc,
-        } => {
-            let fault = faulted(alloc, names, program, kind, task, function, pc)?;
-            placed(alloc, names, function, pc, fault)
-        }
+        } => faulted(alloc, told, kind, task, function, pc),
     }
 }
 
-fn found_end(
-    alloc: Global,
-    names: &Names<'_>,
-    program: &Program,
-    place: usize,
-    found: &Found,
-) -> Result<Value, AllocError>
+fn found_end(alloc: Global, told: Told<'_, '_>, place: usize, found: &Found) -> Made
     requires { place + 1 < 2 ^ 64 }
-    ensures { IfOk result (λ v. view v ≡ def.found_end names.now program.now place found.now) }
+    ensures { IfOk result (λ v. view v
+        ≡ def.found_end told.entry.names.now told.entry.program.now place found.now) }
 {
     let value = object_of(
         alloc,
@@ -106,52 +93,38 @@ fn found_end(
             ("version", Scalar::Count(VERSION)),
         ],
     );
-    with_member(alloc, value, "run", run(alloc, names, program, found.end))
+    with_member(alloc, value, "run", run(alloc, told, found.end))
 }
 
 fn say_found_end(
     alloc: Global,
     out: &mut String,
-    names: &Names<'_>,
-    program: &Program,
+    told: Told<'_, '_>,
     place: usize,
     found: &Found,
-) -> Result<(), AllocError>
+) -> Said
     requires { place + 1 < 2 ^ 64 }
     ensures { OnOk result (string_bytes out.new ≡ string_bytes out.old
-        ++ line (def.found_end names.now program.now place found.now)) }
+        ++ line (def.found_end told.entry.names.now told.entry.program.now place found.now)) }
 {
-    push_made(alloc, out, found_end(alloc, names, program, place, found))
+    push_made(alloc, out, found_end(alloc, told, place, found))
 }
 
 /// Appends the lines of these ends.
-fn say_found(
-    alloc: Global,
-    out: &mut String,
-    names: &Names<'_>,
-    program: &Program,
-    found: &[Found],
-) -> Result<(), AllocError>
+fn say_found(alloc: Global, out: &mut String, told: Told<'_, '_>, found: &[Found]) -> Said
     ensures { OnOk result (string_bytes out.new ≡ string_bytes out.old
-        ++ def.found_lines names.now program.now found.now 0) }
+        ++ def.found_lines told.entry.names.now told.entry.program.now found.now 0) }
 {
     for k in 0..found.len() {
-        say_found_end(alloc, out, names, program, k, &found[k])?;
+        say_found_end(alloc, out, told, k, &found[k])?;
     }
     Ok(())
 }
 
-fn sampled_end(
-    alloc: Global,
-    names: &Names<'_>,
-    program: &Program,
-    place: usize,
-    found: &Found,
-    times: u64,
-) -> Result<Value, AllocError>
+fn sampled_end(alloc: Global, told: Told<'_, '_>, place: usize, found: &Found, times: u64) -> Made
     requires { place + 1 < 2 ^ 64 }
     ensures { IfOk result (λ v. view v
-        ≡ def.sampled_end names.now program.now place found.now times) }
+        ≡ def.sampled_end told.entry.names.now told.entry.program.now place found.now times) }
 {
     let value = object_of(
         alloc,
@@ -162,23 +135,23 @@ fn sampled_end(
             ("version", Scalar::Count(VERSION)),
         ],
     );
-    with_member(alloc, value, "run", run(alloc, names, program, found.end))
+    with_member(alloc, value, "run", run(alloc, told, found.end))
 }
 
 fn say_sampled_end(
     alloc: Global,
     out: &mut String,
-    names: &Names<'_>,
-    program: &Program,
+    told: Told<'_, '_>,
     place: usize,
     found: &Found,
     times: u64,
-) -> Result<(), AllocError>
+) -> Said
     requires { place + 1 < 2 ^ 64 }
     ensures { OnOk result (string_bytes out.new ≡ string_bytes out.old
-        ++ line (def.sampled_end names.now program.now place found.now times)) }
+        ++ line (def.sampled_end
+        told.entry.names.now told.entry.program.now place found.now times)) }
 {
-    let end = sampled_end(alloc, names, program, place, found, times);
+    let end = sampled_end(alloc, told, place, found, times);
     push_made(alloc, out, end)
 }
 
@@ -186,103 +159,86 @@ fn say_sampled_end(
 fn say_sampled(
     alloc: Global,
     out: &mut String,
-    names: &Names<'_>,
-    program: &Program,
+    told: Told<'_, '_>,
     found: &[Found],
     times: &[u64],
-) -> Result<(), AllocError>
+) -> Said
     ensures { OnOk result (string_bytes out.new ≡ string_bytes out.old
-        ++ def.sampled_lines names.now program.now found.now times.now 0) }
+        ++ def.sampled_lines told.entry.names.now told.entry.program.now found.now times.now 0) }
 {
     for k in 0..found.len() {
-        say_sampled_end(alloc, out, names, program, k, &found[k], times_at(times, k))?;
+        say_sampled_end(alloc, out, told, k, &found[k], times_at(times, k))?;
     }
     Ok(())
 }
 
-fn search(
-    alloc: Global,
-    is_refused: bool,
-    number: Option<u32>,
-    ends: &Answer,
-) -> Result<Value, AllocError>
-    ensures { IfOk result (λ v. view v ≡ def.search is_refused ends.now.states ends.now.whole
-        ends.now.by_calls (missing number ends.now.found.items)) }
+/// The last line of a search.
+fn search(alloc: Global, searched: Searched<'_, '_>) -> Made
+    ensures { IfOk result (λ v. view v ≡ def.search searched.entry.is_refused
+        searched.entry.ends.now.states searched.entry.ends.now.whole
+        searched.entry.ends.now.by_calls
+        (missing searched.entry.number searched.entry.ends.now.found.items)) }
 {
-    let no_end = missing(number, ends.found.as_slice());
+    let ends = searched.ends;
+    let no_end = missing(searched.number, ends.found.as_slice());
     object_of(
         alloc,
         &[
             ("all_schedules", Scalar::Flag(ends.whole)),
             ("by_calls", Scalar::MaybeCount(count_of(ends.by_calls))),
             ("no_end", Scalar::MaybeCount(widened(no_end))),
-            ("refused", Scalar::Flag(is_refused)),
+            ("refused", Scalar::Flag(searched.is_refused)),
             ("states", Scalar::Count(ends.states as u64)),
             ("version", Scalar::Count(VERSION)),
         ],
     )
 }
 
-fn sample(
-    alloc: Global,
-    schedules: u32,
-    seed: u32,
-    number: Option<u32>,
-    found: &Sample,
-) -> Result<Value, AllocError>
-    ensures { IfOk result (λ v. view v ≡ def.sample schedules seed found.now.unfinished
-        (missing number found.now.found.items)) }
+/// The last line of random schedules.
+fn sample(alloc: Global, sampled: Sampled<'_, '_>) -> Made
+    ensures { IfOk result (λ v. view v ≡ def.sample sampled.entry.schedules sampled.entry.seed
+        sampled.entry.sample.now.unfinished
+        (missing sampled.entry.number sampled.entry.sample.now.found.items)) }
 {
-    let no_end = missing(number, found.found.as_slice());
+    let no_end = missing(sampled.number, sampled.sample.found.as_slice());
     object_of(
         alloc,
         &[
             ("all_schedules", Scalar::Flag(false)),
-            ("cut_off", Scalar::Count(found.unfinished)),
+            ("cut_off", Scalar::Count(sampled.sample.unfinished)),
             ("no_end", Scalar::MaybeCount(widened(no_end))),
-            ("schedules", Scalar::Count(schedules as u64)),
-            ("seed", Scalar::Count(seed as u64)),
+            ("schedules", Scalar::Count(sampled.schedules as u64)),
+            ("seed", Scalar::Count(sampled.seed as u64)),
             ("version", Scalar::Count(VERSION)),
         ],
     )
 }
 
 /// Appends the lines of a search.
-fn say_search(
-    alloc: Global,
-    out: &mut String,
-    names: &Names<'_>,
-    setting: &Setting,
-    is_refused: bool,
-    number: Option<u32>,
-    ends: &Answer,
-) -> Result<(), AllocError>
-    ensures { OnOk result (string_bytes out.new ≡ string_bytes out.old
-        ++ def.search_lines names.now setting.now is_refused number ends.now.found.items
-        ends.now.states ends.now.whole ends.now.by_calls) }
+fn say_search(alloc: Global, out: &mut String, searched: Searched<'_, '_>) -> Said
+    ensures { OnOk result (string_bytes out.new ≡ string_bytes out.old ++ def.search_lines
+        searched.entry.names.now searched.entry.setting.now searched.entry.is_refused
+        searched.entry.number searched.entry.ends.now.found.items
+        searched.entry.ends.now.states searched.entry.ends.now.whole
+        searched.entry.ends.now.by_calls) }
 {
-    say_found(alloc, out, names, &setting.program, ends.found.as_slice())?;
-    push_made(alloc, out, search(alloc, is_refused, number, ends))
+    let (names, program) = (searched.names, &searched.setting.program);
+    let found = searched.ends.found.as_slice();
+    say_found(alloc, out, Told { program, names }, found)?;
+    push_made(alloc, out, search(alloc, searched))
 }
 
 /// Appends the lines of random schedules.
-fn say_sample(
-    alloc: Global,
-    out: &mut String,
-    names: &Names<'_>,
-    program: &Program,
-    schedules: u32,
-    seed: u32,
-    number: Option<u32>,
-    found: &Sample,
-) -> Result<(), AllocError>
-    ensures { OnOk result (string_bytes out.new ≡ string_bytes out.old
-        ++ def.sample_lines names.now program.now schedules seed number found.now.found.items
-        found.now.times.items found.now.unfinished) }
+fn say_sample(alloc: Global, out: &mut String, sampled: Sampled<'_, '_>) -> Said
+    ensures { OnOk result (string_bytes out.new ≡ string_bytes out.old ++ def.sample_lines
+        sampled.entry.told.names.now sampled.entry.told.program.now sampled.entry.schedules
+        sampled.entry.seed sampled.entry.number sampled.entry.sample.now.found.items
+        sampled.entry.sample.now.times.items sampled.entry.sample.now.unfinished) }
 {
-    let times = found.times.as_slice();
-    say_sampled(alloc, out, names, program, found.found.as_slice(), times)?;
-    push_made(alloc, out, sample(alloc, schedules, seed, number, found))
+    let found = sampled.sample.found.as_slice();
+    let times = sampled.sample.times.as_slice();
+    say_sampled(alloc, out, sampled.told, found, times)?;
+    push_made(alloc, out, sample(alloc, sampled))
 }
 
 /// The line of a fault of a text. Running out of memory is no fault of it.
@@ -306,48 +262,21 @@ impl EndsForm for JsonEnds {
 
     ghost shows = { λ _. json_form };
 
-    fn of_search(
-        &self,
-        alloc: Global,
-        names: &Names<'_>,
-        setting: &Setting,
-        is_refused: bool,
-        number: Option<u32>,
-        ends: &Answer,
-    ) -> Result<Vec<u8>, AllocError> {
+    fn of_search(&self, alloc: Global, search: Searched<'_, '_>) -> Bytes {
         let mut out = String::new(alloc);
-        say_search(alloc, &mut out, names, setting, is_refused, number, ends)?;
+        say_search(alloc, &mut out, search)?;
         Ok(out.into_bytes())
     }
 
-    fn of_sample(
-        &self,
-        alloc: Global,
-        names: &Names<'_>,
-        program: &Program,
-        schedules: u32,
-        seed: u32,
-        number: Option<u32>,
-        sample: &Sample,
-    ) -> Result<Vec<u8>, AllocError> {
+    fn of_sample(&self, alloc: Global, sampled: Sampled<'_, '_>) -> Bytes {
         let mut out = String::new(alloc);
-        say_sample(
-            alloc, &mut out, names, program, schedules, seed, number, sample,
-        )?;
+        say_sample(alloc, &mut out, sampled)?;
         Ok(out.into_bytes())
     }
 
-    fn of_calls(
-        &self,
-        alloc: Global,
-        names: &Names<'_>,
-        program: &Program,
-        is_refused: bool,
-        number: Option<u32>,
-        calls: &CallsFound,
-    ) -> Result<Vec<u8>, AllocError> {
+    fn of_calls(&self, alloc: Global, called: Called<'_, '_>) -> Bytes {
         let mut out = String::new(alloc);
-        say_calls(alloc, &mut out, names, program, is_refused, number, calls)?;
+        say_calls(alloc, &mut out, called)?;
         Ok(out.into_bytes())
     }
 

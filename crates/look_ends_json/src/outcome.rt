@@ -11,14 +11,17 @@ ghost use Rattle.look_ends_json.specs.Outcome as def;
 
 use look_cases::{Scalar, object_of};
 use look_end_lines::has_number;
-use look_names::Names;
+use look_names::{Names, Said};
 use look_views::{push_line, with_name};
 use serde_json::Value;
 use std::alloc::{AllocError, Global};
 use sts_model::End;
 
+/// What a call that makes a value returns: memory may run out.
+pub(crate) type Made = Result<Value, AllocError>;
+
 /// A value or a code, and its name.
-pub(crate) fn ended(alloc: Global, names: &Names<'_>, end: End) -> Result<Value, AllocError>
+pub(crate) fn ended(alloc: Global, names: &Names<'_>, end: End) -> Made
     ensures { IfOk result (λ v. view v ≡ def.ended names.now end) }
 {
     match end {
@@ -47,11 +50,7 @@ pub(crate) fn missing<T>(number: Option<u32>, found: &[T]) -> Option<u32>
 }
 
 /// Appends the line of a value, if it was made.
-pub(crate) fn push_made(
-    alloc: Global,
-    out: &mut String,
-    made: Result<Value, AllocError>,
-) -> Result<(), AllocError>
+pub(crate) fn push_made(alloc: Global, out: &mut String, made: Made) -> Said
     ensures { (d : Data) → Makes d made → has_float d ≡ false
         → OnOk result (string_bytes out.new ≡ string_bytes out.old ++ line d) }
 {

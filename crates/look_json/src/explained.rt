@@ -11,7 +11,7 @@ ghost use Rattle.look_refusal.specs.Output.{IsExplanation};
 ghost use Rattle.look_views.specs.Views.{line};
 ghost use Rattle.look_json.specs.Explained as def;
 
-use crate::lines::text_of;
+use crate::lines::{Said, text_of};
 use look_cases::{Case, answer};
 use look_refusal::{Explanation, explain};
 use look_views::{VERSION, push_line};
@@ -28,7 +28,7 @@ fn said(alloc: Global, words: &[u8]) -> Result<Value, AllocError>
     json!(in alloc; {"says": words, "version": VERSION})
 }
 
-fn say_filled(alloc: Global, out: &mut String, words: &[u8]) -> Result<(), AllocError>
+fn say_filled(alloc: Global, out: &mut String, words: &[u8]) -> Said
     ensures { OnOk result (string_bytes out.new
         ≡ string_bytes out.old ++ line (def.said words.now)) }
 {
@@ -36,7 +36,7 @@ fn say_filled(alloc: Global, out: &mut String, words: &[u8]) -> Result<(), Alloc
     push_line(alloc, out, &value)
 }
 
-fn say_said(alloc: Global, out: &mut String, words: &[u8]) -> Result<(), AllocError>
+fn say_said(alloc: Global, out: &mut String, words: &[u8]) -> Said
     ensures { OnOk result (string_bytes out.new ≡ string_bytes out.old ++ def.said_line words.now) }
 {
     if words.is_empty() {
@@ -46,7 +46,7 @@ fn say_said(alloc: Global, out: &mut String, words: &[u8]) -> Result<(), AllocEr
     }
 }
 
-fn say_each(alloc: Global, out: &mut String, words: &[u8]) -> Result<(), AllocError>
+fn say_each(alloc: Global, out: &mut String, words: &[u8]) -> Said
     ensures { OnOk result (string_bytes out.new
         ≡ string_bytes out.old ++ def.each_said (lines words.now)) }
 {
@@ -59,7 +59,7 @@ fn say_each(alloc: Global, out: &mut String, words: &[u8]) -> Result<(), AllocEr
 }
 
 /// The lines of an explanation, without the first.
-fn say_explained(alloc: Global, out: &mut String, words: &[u8]) -> Result<(), AllocError>
+fn say_explained(alloc: Global, out: &mut String, words: &[u8]) -> Said
     ensures { OnOk result (string_bytes out.new
         ≡ string_bytes out.old ++ def.said_lines (lines words.now)) }
 {

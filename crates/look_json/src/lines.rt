@@ -18,6 +18,9 @@ use std::str;
 use sts_model::Event;
 use sts_text::{cut_at_newline, digits_up_to};
 
+/// What a call that appends lines returns: memory may run out.
+pub(crate) type Said = Result<(), AllocError>;
+
 fn space_in(line: &[u8]) -> Option<usize>
     ensures { result ≡ position is_space line.now }
 {
@@ -107,12 +110,7 @@ fn told(alloc: Global, events: &[Event], line: &[u8]) -> Result<Value, AllocErro
     }
 }
 
-fn say_told(
-    alloc: Global,
-    out: &mut String,
-    events: &[Event],
-    line: &[u8],
-) -> Result<(), AllocError>
+fn say_told(alloc: Global, out: &mut String, events: &[Event], line: &[u8]) -> Said
     ensures { OnOk result (string_bytes out.new
         ≡ string_bytes out.old ++ views.line (def.told events.now line.now)) }
 {
@@ -120,12 +118,7 @@ fn say_told(
     push_line(alloc, out, &value)
 }
 
-fn say_line(
-    alloc: Global,
-    out: &mut String,
-    events: &[Event],
-    line: &[u8],
-) -> Result<(), AllocError>
+fn say_line(alloc: Global, out: &mut String, events: &[Event], line: &[u8]) -> Said
     ensures { OnOk result (string_bytes out.new
         ≡ string_bytes out.old ++ def.story_line events.now line.now) }
 {
@@ -141,12 +134,7 @@ fn say_line(
 /// # Errors
 ///
 /// Memory ran out; `out` may then have a part of them.
-pub(crate) fn say_lines(
-    alloc: Global,
-    out: &mut String,
-    events: &[Event],
-    story: &[u8],
-) -> Result<(), AllocError>
+pub(crate) fn say_lines(alloc: Global, out: &mut String, events: &[Event], story: &[u8]) -> Said
     ensures { OnOk result (string_bytes out.new
         ≡ string_bytes out.old ++ def.story_lines events.now (lines story.now)) }
 {

@@ -9,9 +9,9 @@ ghost use Rattle.sts_output.specs.Output as cli;
 ghost use Rattle.look_tell.specs.Telling.{IsStoryOf};
 ghost use Rattle.look_json.specs.Stories as def;
 
+use crate::asked::StoryOf;
 use crate::explained::{whole, with_status};
 use crate::lines::say_lines;
-use look_options::TellOptions;
 use look_refusal::Explanation;
 use look_tell::tell;
 use look_views::{faulty_text, faulty_trace};
@@ -23,16 +23,12 @@ use sts_output::{Output, TakeError, WriteFailed, failed, written};
 use sts_trace::read_trace;
 
 /// What `tell` prints.
-fn story_of(
-    alloc: Global,
-    options: TellOptions,
-    text: &[u8],
-    trace: &[u8],
-) -> Result<Explanation, AllocError>
-    ensures { IfOk result (λ o. IsStoryOf options text.now trace.now o) }
+fn story_of(alloc: Global, asked: StoryOf<'_>) -> Result<Explanation, AllocError>
+    ensures { IfOk result (λ o.
+        IsStoryOf asked.entry.options asked.entry.text.now asked.entry.trace.now o) }
 {
     let mut bytes = Vec::new(alloc);
-    match tell(alloc, options, text, trace, &mut bytes) {
+    match tell(alloc, asked.options, asked.text, asked.trace, &mut bytes) {
         Ok(status) => Ok(Explanation { bytes, status }),
         Err(_) => Err(AllocError),
     }
@@ -47,46 +43,33 @@ fn said(alloc: Global, events: &[Event], story: &Explanation) -> Result<String, 
 }
 
 /// The story of these events, which the trace spells.
-fn of_events(
-    alloc: Global,
-    options: TellOptions,
-    text: &[u8],
-    trace: &[u8],
-    events: &[Event],
-) -> Result<Output, AllocError>
-    ensures { IfOk result (λ o. def.IsStory options text.now trace.now events.now o) }
+fn of_events(alloc: Global, asked: StoryOf<'_>, events: &[Event]) -> Result<Output, AllocError>
+    ensures { IfOk result (λ o. def.IsStory
+        asked.entry.options asked.entry.text.now asked.entry.trace.now events.now o) }
 {
-    let printed = story_of(alloc, options, text, trace)?;
+    let printed = story_of(alloc, asked)?;
     let story = whole(printed)?;
     let said = said(alloc, events, &story)?;
     Ok(with_status(said, &story))
 }
 
-fn of_trace(
-    alloc: Global,
-    options: TellOptions,
-    text: &[u8],
-    trace: &[u8],
-) -> Result<Output, AllocError>
-    ensures { IfOk result (λ o. def.TellsTrace options text.now trace.now
-        (trace_read trace.now) o) }
+fn of_trace(alloc: Global, asked: StoryOf<'_>) -> Result<Output, AllocError>
+    ensures { IfOk result (λ o. def.TellsTrace
+        asked.entry.options asked.entry.text.now asked.entry.trace.now
+        (trace_read asked.entry.trace.now) o) }
 {
-    match read_trace(alloc, trace) {
-        Ok(events) => of_events(alloc, options, text, trace, events.as_slice()),
+    match read_trace(alloc, asked.trace) {
+        Ok(events) => of_events(alloc, asked, events.as_slice()),
         Err(error) => faulty_trace(alloc, error),
     }
 }
 
-fn told(
-    alloc: Global,
-    options: TellOptions,
-    text: &[u8],
-    trace: &[u8],
-) -> Result<Output, AllocError>
-    ensures { IfOk result (λ o. def.Tells options (judged text.now) text.now trace.now o) }
+fn told(alloc: Global, asked: StoryOf<'_>) -> Result<Output, AllocError>
+    ensures { IfOk result (λ o. def.Tells asked.entry.options (judged asked.entry.text.now)
+        asked.entry.text.now asked.entry.trace.now o) }
 {
-    match assemble(alloc, text) {
-        Ok(_) => of_trace(alloc, options, text, trace),
+    match assemble(alloc, asked.text) {
+        Ok(_) => of_trace(alloc, asked),
         Err(error) => faulty_text(alloc, error),
     }
 }
@@ -101,15 +84,14 @@ fn told(
 /// A write failed.
 pub fn write_stories<W: Write>(
     alloc: Global,
-    options: TellOptions,
-    text: &[u8],
-    trace: &[u8],
+    asked: StoryOf<'_>,
     out: &mut W,
 ) -> Result<u8, WriteFailed>
-    ensures { IfOk result (λ s. (o : cli.Output) × def.AreStoriesOf options text.now trace.now o
+    ensures { IfOk result (λ s. (o : cli.Output) × def.AreStoriesOf
+        asked.entry.options asked.entry.text.now asked.entry.trace.now o
         × cli.Writes (W.contents out.old) (W.contents out.new) s o) }
 {
-    match told(alloc, options, text, trace) {
+    match told(alloc, asked) {
         Ok(output) => written(out, output.text.as_bytes(), output.status),
         Err(_) => failed(TakeError::Memory, out),
     }

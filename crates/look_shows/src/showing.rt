@@ -5,7 +5,7 @@ ghost use Rattle.sts_output.specs.Output.{Output, Writes};
 ghost use Rattle.look_shows.specs.Showing as def;
 
 use look_args::asked::{AskedTell, AskedView};
-use look_json::write_stories;
+use look_json::{StoryOf, write_stories};
 use look_options::DrawOptions;
 use look_picture::{FileNames, draw};
 use look_run::explain_run;
@@ -28,6 +28,13 @@ pub enum Showing<'a> {
         files: FileNames<'a>,
     },
     Story(AskedTell),
+}
+
+/// A text and a trace.
+#[derive(Clone, Copy)]
+struct Given<'t> {
+    text: &'t [u8],
+    trace: &'t [u8],
 }
 
 impl Showing<'_> {
@@ -59,6 +66,42 @@ impl Showing<'_> {
             remark_idle(status, text, trace, remarks);
         }
     }
+
+    /// Writes what is shown of a text and a trace. The views and the story of a run are shown in
+    /// lines or as JSON.
+    fn show<W: Write>(self, alloc: Global, given: Given<'_>, out: &mut W) -> Result<u8, WriteFailed>
+        ensures { IfOk result (λ s. (o : Output)
+            × def.Shows self.entry given.entry.text.now given.entry.trace.now o
+            × Writes (W.contents out.old) (W.contents out.new) s o) }
+    {
+        let (text, trace) = (given.text, given.trace);
+        match self {
+            Showing::View(view) => {
+                if view.json {
+                    write_views(alloc, view.wanted, text, trace, out)
+                } else {
+                    write_view(alloc, view.wanted, text, trace, out)
+                }
+            }
+            Showing::Run => explain_run(alloc, text, trace, out),
+            Showing::Picture { options, files } => {
+                draw(alloc, options, Some(files), text, trace, out)
+            }
+            Showing::Story(story) => {
+                let options = story.wanted;
+                if story.json {
+                    let asked = StoryOf {
+                        options,
+                        text,
+                        trace,
+                    };
+                    write_stories(alloc, asked, out)
+                } else {
+                    tell(alloc, options, text, trace, out)
+                }
+            }
+        }
+    }
 }
 
 /// Adds which event of a trace, which may be in the short form, is the first that did nothing.
@@ -70,63 +113,6 @@ fn remark_idle(status: u8, text: Named<'_>, trace: Named<'_>, remarks: &mut Rema
         }
         Ok(None) => remarks.idle(status, "event", text.text, trace),
         Err(_) => {}
-    }
-}
-
-/// Writes the views of a run, in lines or as JSON.
-fn show_view<W: Write>(
-    alloc: Global,
-    view: AskedView,
-    text: &[u8],
-    trace: &[u8],
-    out: &mut W,
-) -> Result<u8, WriteFailed>
-    ensures { IfOk result (λ s. (o : Output)
-        × def.IsViewed view.json view.wanted text.now trace.now o
-        × Writes (W.contents out.old) (W.contents out.new) s o) }
-{
-    if view.json {
-        write_views(alloc, view.wanted, text, trace, out)
-    } else {
-        write_view(alloc, view.wanted, text, trace, out)
-    }
-}
-
-/// Writes the story of a run, in lines or as JSON.
-fn show_story<W: Write>(
-    alloc: Global,
-    story: AskedTell,
-    text: &[u8],
-    trace: &[u8],
-    out: &mut W,
-) -> Result<u8, WriteFailed>
-    ensures { IfOk result (λ s. (o : Output)
-        × def.IsTold story.json story.wanted text.now trace.now o
-        × Writes (W.contents out.old) (W.contents out.new) s o) }
-{
-    if story.json {
-        write_stories(alloc, story.wanted, text, trace, out)
-    } else {
-        tell(alloc, story.wanted, text, trace, out)
-    }
-}
-
-/// Writes what is shown of a text and a trace.
-fn show<W: Write>(
-    alloc: Global,
-    showing: Showing<'_>,
-    text: &[u8],
-    trace: &[u8],
-    out: &mut W,
-) -> Result<u8, WriteFailed>
-    ensures { IfOk result (λ s. (o : Output) × def.Shows showing.entry text.now trace.now o
-        × Writes (W.contents out.old) (W.contents out.new) s o) }
-{
-    match showing {
-        Showing::View(view) => show_view(alloc, view, text, trace, out),
-        Showing::Run => explain_run(alloc, text, trace, out),
-        Showing::Picture { options, files } => draw(alloc, options, Some(files), text, trace, out),
-        Showing::Story(story) => show_story(alloc, story, text, trace, out),
     }
 }
 
@@ -146,8 +132,11 @@ pub fn show_in_full<W: Write>(
         × Writes (W.contents out.old) (W.contents out.new) s o) }
 {
     match in_full(alloc, trace) {
-        Ok(Some(full)) => show(alloc, showing, text, full.as_slice(), out),
-        Ok(None) => show(alloc, showing, text, trace, out),
+        Ok(Some(full)) => {
+            let trace = full.as_slice();
+            showing.show(alloc, Given { text, trace }, out)
+        }
+        Ok(None) => showing.show(alloc, Given { text, trace }, out),
         Err(_) => failed(TakeError::Memory, out),
     }
 }

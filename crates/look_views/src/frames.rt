@@ -6,6 +6,7 @@ ghost use Rattle.sts_model.specs.Living as living;
 ghost use Rattle.sts_model.specs.World as model;
 ghost use Rattle.look_views.specs.Task as def;
 
+use crate::named::{Listed, Made};
 use look_cases::{Scalar, object_of, with_list};
 use serde_json::Value;
 use std::alloc::{AllocError, Global};
@@ -27,14 +28,14 @@ pub fn integers(alloc: Global, values: &[i64]) -> Result<Vec<Value>, AllocError>
 }
 
 /// Returns the operands, the top last.
-fn operands(alloc: Global, values: &[i64]) -> Result<Vec<Value>, AllocError>
+fn operands(alloc: Global, values: &[i64]) -> Listed
     ensures { IfOk result (λ list. items_view list.items
         ≡ items_of (def.operands (reverse values.now))) }
 {
     integers(alloc, values)
 }
 
-fn binding(alloc: Global, key: u8, value: i64) -> Result<Value, AllocError>
+fn binding(alloc: Global, key: u8, value: i64) -> Made
     ensures { IfOk result (λ v. view v ≡ def.binding key value) }
 {
     object_of(
@@ -47,7 +48,7 @@ fn binding(alloc: Global, key: u8, value: i64) -> Result<Value, AllocError>
 }
 
 /// Returns the bound keys among these, with their values.
-fn bindings(alloc: Global, records: &Records, t: u32, keys: &[u8]) -> Result<Vec<Value>, AllocError>
+fn bindings(alloc: Global, records: &Records, t: u32, keys: &[u8]) -> Listed
     ensures { IfOk result (λ list. items_view list.items
         ≡ items_of (def.bindings records.now t keys.now)) }
 {
@@ -61,7 +62,7 @@ fn bindings(alloc: Global, records: &Records, t: u32, keys: &[u8]) -> Result<Vec
 }
 
 /// Returns the bindings that a task finds, by key.
-fn bound(alloc: Global, records: &Records, t: u32) -> Result<Vec<Value>, AllocError>
+fn bound(alloc: Global, records: &Records, t: u32) -> Listed
     ensures { IfOk result (λ list. items_view list.items ≡ items_of (def.bound records.now t)) }
 {
     let keys = [0, 1, 2, 3, 4, 5, 6, 7, 8, 9, 10, 11, 12, 13, 14, 15];
@@ -73,7 +74,7 @@ fn bound(alloc: Global, records: &Records, t: u32) -> Result<Vec<Value>, AllocEr
 /// # Errors
 ///
 /// Memory was refused.
-pub(crate) fn frame(alloc: Global, records: &Records, t: u32) -> Result<Value, AllocError>
+pub(crate) fn frame(alloc: Global, records: &Records, t: u32) -> Made
     requires born { t < length records.now.tasks }
     requires lives { living.lives (model.task_at records.now t) ≡ true }
     ensures { IfOk result (λ v. view v ≡ def.frame records.now t) }

@@ -10,12 +10,13 @@ use look_names::Names;
 use serde_json::{Map, Value};
 use std::alloc::{AllocError, Global};
 
-fn with_text(
-    alloc: Global,
-    members: Map<String, Value>,
-    key: &str,
-    text: &str,
-) -> Result<Value, AllocError>
+/// What a call that makes a value returns: memory may run out.
+pub type Made = Result<Value, AllocError>;
+
+/// What a call that makes a list of values returns.
+pub(crate) type Listed = Result<Vec<Value>, AllocError>;
+
+fn with_text(alloc: Global, members: Map<String, Value>, key: &str, text: &str) -> Made
     ensures { IfOk result (λ v. view v
         ≡ object (put key.now (string text.now) (members_view members.entries))) }
 {
@@ -26,7 +27,7 @@ fn with_text(
 }
 
 /// Adds a text to an object as a member.
-fn with_member(alloc: Global, value: Value, key: &str, text: &str) -> Result<Value, AllocError>
+fn with_member(alloc: Global, value: Value, key: &str, text: &str) -> Made
     ensures { IfOk result (λ v. view v ≡ def.with_member key.now (string text.now) (view value)) }
 {
     match value {
@@ -40,12 +41,7 @@ fn with_member(alloc: Global, value: Value, key: &str, text: &str) -> Result<Val
 /// # Errors
 ///
 /// Memory ran out.
-pub fn with_name(
-    alloc: Global,
-    value: Value,
-    key: &str,
-    name: Option<&str>,
-) -> Result<Value, AllocError>
+pub fn with_name(alloc: Global, value: Value, key: &str, name: Option<&str>) -> Made
     ensures { IfOk result (λ v. view v
         ≡ def.named key.now (option_map (λ n. n.now) name.entry) (view value)) }
 {
@@ -76,13 +72,7 @@ fn line_name<'t>(names: &Names<'t>, line: Option<u32>) -> Option<&'t str>
 /// # Errors
 ///
 /// Memory ran out.
-pub fn placed(
-    alloc: Global,
-    names: &Names<'_>,
-    function: u32,
-    pc: u32,
-    value: Value,
-) -> Result<Value, AllocError>
+pub fn placed(alloc: Global, names: &Names<'_>, function: u32, pc: u32, value: Value) -> Made
     ensures { IfOk result (λ v. view v ≡ def.placed names.now function pc (view value)) }
 {
     let value = with_name(alloc, value, "function_name", names.function(function))?;

@@ -11,6 +11,7 @@ ghost use Rattle.sts_trace.specs.declared.error.TraceError.TheVariants.{Memory};
 ghost use Rattle.sts_output.specs.Output.{Output as AnyOutput, Writes};
 ghost use Rattle.look_views.specs.Views as def;
 
+use crate::named::Made;
 use crate::views::{JsonViews, VERSION, push_line};
 use look_cases::{Scalar, object_of, text_fault, trace_fault, with_member};
 use look_lines::{Form, Run, view_output, write_run};
@@ -40,7 +41,7 @@ fn faulty(alloc: Global, value: &Value) -> Result<Output, AllocError>
 }
 
 /// Returns a fault with the version of the lines.
-fn versioned(alloc: Global, key: &str, fault: Value) -> Result<Value, AllocError>
+fn versioned(alloc: Global, key: &str, fault: Value) -> Made
     ensures { IfOk result (λ v. view v
         ≡ object (put key.now (view fault) (member (codes "version") def.version no_members))) }
 {
@@ -48,7 +49,7 @@ fn versioned(alloc: Global, key: &str, fault: Value) -> Result<Value, AllocError
     with_member(alloc, line, key, Ok(fault))
 }
 
-fn text_line(alloc: Global, error: AsmError) -> Result<Value, AllocError>
+fn text_line(alloc: Global, error: AsmError) -> Made
     ensures { (read : Result AnyProgram AsmError) → FailsAt error error.kind read
         → IfOk result (λ v. (read ≡ Err error) × (view v ≡ def.text_line error)) }
 {
@@ -56,7 +57,7 @@ fn text_line(alloc: Global, error: AsmError) -> Result<Value, AllocError>
     versioned(alloc, "text_fault", fault)
 }
 
-fn trace_line(alloc: Global, error: TraceError) -> Result<Value, AllocError>
+fn trace_line(alloc: Global, error: TraceError) -> Made
     ensures { IfOk result (λ v. (error ≢ Memory) × (view v ≡ def.trace_line error)) }
 {
     let fault = trace_fault(alloc, error)?;
@@ -102,6 +103,7 @@ impl<'t> Form for ViewsOfText<'t> {
     fn of_run(&self, alloc: Global, run: Run<'_>) -> Result<Output, AllocError> {
         let names = Names::read(alloc, self.text)?;
         let views = JsonViews {
+            alloc,
             wanted: self.wanted,
             names: &names,
         };

@@ -4,18 +4,17 @@ ghost use Rattle.std.specs.Prelude.{◌≡◌, IfOk};
 ghost use Rattle.serde_json.specs.View.{view};
 ghost use Rattle.look_views.specs.Views as def;
 
-use crate::named::{placed, with_name};
+use crate::named::{Made, placed, with_name};
 use look_cases::{Scalar, ended, object_of};
 use look_names::Names;
-use serde_json::Value;
-use std::alloc::{AllocError, Global};
+use std::alloc::Global;
 use sts_code::{Program, name_of};
 use sts_model::End;
 use sts_output::printed::fault_word;
 use sts_plain::{Misstep, PlainState};
 
 /// Returns how a run ended, the steps that it took, and the name of its value or code.
-fn named_end(alloc: Global, names: &Names<'_>, end: End, steps: u64) -> Result<Value, AllocError>
+fn named_end(alloc: Global, names: &Names<'_>, end: End, steps: u64) -> Made
     ensures { IfOk result (λ v. view v ≡ def.named_end names.now end steps) }
 {
     let ended = ended(alloc, end, steps)?;
@@ -26,7 +25,7 @@ fn named_end(alloc: Global, names: &Names<'_>, end: End, steps: u64) -> Result<V
 }
 
 /// Returns a fault with its place, and the steps before it.
-fn fault(alloc: Global, program: &Program, fault: Misstep, steps: u64) -> Result<Value, AllocError>
+fn fault(alloc: Global, program: &Program, fault: Misstep, steps: u64) -> Made
     ensures { IfOk result (λ v. view v ≡ def.fault program.now fault steps) }
 {
     object_of(
@@ -53,7 +52,7 @@ pub(crate) fn run(
     program: &Program,
     state: PlainState,
     steps: u64,
-) -> Result<Value, AllocError>
+) -> Made
     ensures { IfOk result (λ v. view v ≡ def.run names.now program.now state steps) }
 {
     match state {

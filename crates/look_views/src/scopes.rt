@@ -6,11 +6,10 @@ ghost use Rattle.serde_json.specs.View.{view, items_view, items_of};
 ghost use Rattle.sts_model.specs.World as model;
 ghost use Rattle.look_views.specs.Scope as def;
 
-use crate::named::with_name;
+use crate::named::{Listed, Made, with_name};
 use look_cases::{Scalar, object_of, with_list, with_text};
 use look_lines::phase_word;
 use look_names::Names;
-use serde_json::Value;
 use std::alloc::{AllocError, Global};
 use sts_code::{Joiner, Pred};
 use sts_model::{Completion, End};
@@ -32,7 +31,7 @@ fn joiner_text(alloc: Global, joiner: Joiner) -> Result<String, AllocError>
 }
 
 /// Returns an end that a joiner was told of, with its task and the name of its value or code.
-fn told_end(alloc: Global, names: &Names<'_>, told: Completion) -> Result<Value, AllocError>
+fn told_end(alloc: Global, names: &Names<'_>, told: Completion) -> Made
     ensures { IfOk result (λ v. view v ≡ def.told_end names.now told) }
 {
     let task = ("task", Scalar::Count(told.task as u64));
@@ -51,11 +50,7 @@ fn told_end(alloc: Global, names: &Names<'_>, told: Completion) -> Result<Value,
 }
 
 /// Returns the ends that a joiner was told of, in order.
-fn told_ends(
-    alloc: Global,
-    names: &Names<'_>,
-    completions: &[Completion],
-) -> Result<Vec<Value>, AllocError>
+fn told_ends(alloc: Global, names: &Names<'_>, completions: &[Completion]) -> Listed
     ensures { IfOk result (λ list. items_view list.items
         ≡ items_of (def.told_ends names.now completions.now)) }
 {
@@ -66,7 +61,7 @@ fn told_ends(
     Ok(list)
 }
 
-fn brief(alloc: Global, records: &Records, s: u32) -> Result<Value, AllocError>
+fn brief(alloc: Global, records: &Records, s: u32) -> Made
     ensures { IfOk result (λ v. view v ≡ def.brief s (model.scope_at records.now s)) }
 {
     let brief = object_of(
@@ -90,20 +85,14 @@ fn brief(alloc: Global, records: &Records, s: u32) -> Result<Value, AllocError>
 }
 
 /// Returns a scope with the ends that its joiner was told of.
-fn whole(alloc: Global, names: &Names<'_>, records: &Records, s: u32) -> Result<Value, AllocError>
+fn whole(alloc: Global, names: &Names<'_>, records: &Records, s: u32) -> Made
     ensures { IfOk result (λ v. view v ≡ def.whole names.now s (model.scope_at records.now s)) }
 {
     let told = told_ends(alloc, names, records.completions(s));
     with_list(alloc, brief(alloc, records, s), "told", told)
 }
 
-fn scope(
-    alloc: Global,
-    names: &Names<'_>,
-    full: bool,
-    records: &Records,
-    s: u32,
-) -> Result<Value, AllocError>
+fn scope(alloc: Global, names: &Names<'_>, full: bool, records: &Records, s: u32) -> Made
     ensures { IfOk result (λ v. view v
         ≡ def.scope names.now full s (model.scope_at records.now s)) }
 {
@@ -119,12 +108,7 @@ fn scope(
 /// # Errors
 ///
 /// Memory was refused.
-pub(crate) fn scopes(
-    alloc: Global,
-    names: &Names<'_>,
-    full: bool,
-    records: &Records,
-) -> Result<Vec<Value>, AllocError>
+pub(crate) fn scopes(alloc: Global, names: &Names<'_>, full: bool, records: &Records) -> Listed
     ensures { IfOk result (λ list. items_view list.items
         ≡ items_of (def.scopes names.now full records.now records.now.scopes 0)) }
 {
@@ -140,12 +124,7 @@ pub(crate) fn scopes(
 /// # Errors
 ///
 /// Memory was refused.
-pub(crate) fn open_scopes(
-    alloc: Global,
-    names: &Names<'_>,
-    full: bool,
-    records: &Records,
-) -> Result<Vec<Value>, AllocError>
+pub(crate) fn open_scopes(alloc: Global, names: &Names<'_>, full: bool, records: &Records) -> Listed
     ensures { IfOk result (λ list. items_view list.items
         ≡ items_of (def.open_scopes names.now full records.now records.now.scopes 0)) }
 {

@@ -7,24 +7,24 @@ ghost use Rattle.sts_model.specs.World as model;
 ghost use Rattle.look_views.specs.Task as def;
 
 use crate::frames::frame;
-use crate::named::{placed, with_name};
+use crate::named::{Listed, Made, placed, with_name};
 use look_cases::{Scalar, object_of, widened, with_member};
-use look_lines::is_heard;
+use look_lines::{Watch, is_heard};
 use look_names::Names;
 use serde_json::Value;
-use std::alloc::{AllocError, Global};
+use std::alloc::Global;
 use sts_code::{Program, name_of};
 use sts_model::{End, Stand};
 use sts_plain::{can_step, stand_at};
 use sts_world::{Records, World};
 
-fn plain_state(alloc: Global, word: &str) -> Result<Value, AllocError>
+fn plain_state(alloc: Global, word: &str) -> Made
     ensures { IfOk result (λ v. view v ≡ def.plain_state word.now) }
 {
     object_of(alloc, &[("is", Scalar::Text(word))])
 }
 
-fn waits(alloc: Global, word: &str, scope: u32) -> Result<Value, AllocError>
+fn waits(alloc: Global, word: &str, scope: u32) -> Made
     ensures { IfOk result (λ v. view v ≡ def.waits word.now scope) }
 {
     object_of(
@@ -37,7 +37,7 @@ fn waits(alloc: Global, word: &str, scope: u32) -> Result<Value, AllocError>
 }
 
 /// Returns for which scope a task that can't step waits, and where.
-fn waiting(alloc: Global, stand: Stand) -> Result<Value, AllocError>
+fn waiting(alloc: Global, stand: Stand) -> Made
     ensures { IfOk result (λ v. view v ≡ def.waiting stand) }
 {
     match stand {
@@ -49,12 +49,7 @@ fn waiting(alloc: Global, stand: Stand) -> Result<Value, AllocError>
 
 /// Returns how a task ended, whether it is the root or its joiner was told, and the name of its
 /// value or code.
-fn ended(
-    alloc: Global,
-    names: &Names<'_>,
-    is_heard: bool,
-    end: Option<End>,
-) -> Result<Value, AllocError>
+fn ended(alloc: Global, names: &Names<'_>, is_heard: bool, end: Option<End>) -> Made
     ensures { IfOk result (λ v. view v ≡ def.ended names.now is_heard end) }
 {
     let heard = ("heard", Scalar::Flag(is_heard));
@@ -74,7 +69,7 @@ fn ended(
 }
 
 /// Returns the state of a task that doesn't live.
-fn rest(alloc: Global, names: &Names<'_>, world: &World, t: u32) -> Result<Value, AllocError>
+fn rest(alloc: Global, names: &Names<'_>, world: &World, t: u32) -> Made
     ensures { IfOk result (λ v. view v ≡ def.rest names.now world.now t) }
 {
     if world.records().has_started(t) {
@@ -85,13 +80,7 @@ fn rest(alloc: Global, names: &Names<'_>, world: &World, t: u32) -> Result<Value
 }
 
 /// Returns the state of a task: ready, what it waits for, or how it ended.
-fn state(
-    alloc: Global,
-    names: &Names<'_>,
-    program: &Program,
-    world: &World,
-    t: u32,
-) -> Result<Value, AllocError>
+fn state(alloc: Global, names: &Names<'_>, program: &Program, world: &World, t: u32) -> Made
     requires { t < length world.now.tasks }
     ensures { IfOk result (λ v. view v ≡ def.state names.now program.now world.now t) }
 {
@@ -104,13 +93,7 @@ fn state(
     waiting(alloc, stand_at(world, program, t))
 }
 
-fn brief(
-    alloc: Global,
-    names: &Names<'_>,
-    program: &Program,
-    world: &World,
-    t: u32,
-) -> Result<Value, AllocError>
+fn brief(alloc: Global, names: &Names<'_>, program: &Program, world: &World, t: u32) -> Made
     requires { t < length world.now.tasks }
     ensures { IfOk result (λ v. view v ≡ def.brief names.now program.now world.now t) }
 {
@@ -137,13 +120,7 @@ fn brief(
 }
 
 /// Returns a living task with its operands, locals and bindings.
-fn whole(
-    alloc: Global,
-    names: &Names<'_>,
-    program: &Program,
-    world: &World,
-    t: u32,
-) -> Result<Value, AllocError>
+fn whole(alloc: Global, names: &Names<'_>, program: &Program, world: &World, t: u32) -> Made
     requires born { t < length world.now.tasks }
     requires lives { living.lives (model.task_at world.now t) ≡ true }
     ensures { IfOk result (λ v. view v ≡ def.whole names.now program.now world.now t) }
@@ -152,18 +129,13 @@ fn whole(
     with_member(alloc, brief, "frame", frame(alloc, world.records(), t))
 }
 
-fn plain_task(
-    alloc: Global,
-    names: &Names<'_>,
-    program: &Program,
-    full: bool,
-    world: &World,
-    t: u32,
-) -> Result<Value, AllocError>
-    requires { t < length world.now.tasks }
+fn plain_task(alloc: Global, names: &Names<'_>, full: bool, watch: &Watch<'_>, t: u32) -> Made
+    requires { t < length watch.now.last.tasks }
     ensures { IfOk result (λ v. view v
-        ≡ def.plain_task names.now program.now full world.now t) }
+        ≡ def.plain_task names.now watch.now.program full watch.now.last t) }
 {
+    let program = watch.program();
+    let world = watch.world();
     if full && world.records().lives(t) {
         whole(alloc, names, program, world, t)
     } else {
@@ -184,19 +156,13 @@ fn shown_place(records: &Records, t: u32) -> u32
 }
 
 /// Returns a task with the names of its function and its line.
-fn task(
-    alloc: Global,
-    names: &Names<'_>,
-    program: &Program,
-    full: bool,
-    world: &World,
-    t: u32,
-) -> Result<Value, AllocError>
-    requires { t < length world.now.tasks }
-    ensures { IfOk result (λ v. view v ≡ def.task names.now program.now full world.now t) }
+fn task(alloc: Global, names: &Names<'_>, full: bool, watch: &Watch<'_>, t: u32) -> Made
+    requires { t < length watch.now.last.tasks }
+    ensures { IfOk result (λ v. view v
+        ≡ def.task names.now watch.now.program full watch.now.last t) }
 {
-    let task = plain_task(alloc, names, program, full, world, t)?;
-    let records = world.records();
+    let task = plain_task(alloc, names, full, watch, t)?;
+    let records = watch.world().records();
     let place = shown_place(records, t);
     placed(alloc, names, records.function(t), place, task)
 }
@@ -206,19 +172,14 @@ fn task(
 /// # Errors
 ///
 /// Memory was refused.
-pub(crate) fn tasks(
-    alloc: Global,
-    names: &Names<'_>,
-    program: &Program,
-    full: bool,
-    world: &World,
-) -> Result<Vec<Value>, AllocError>
-    ensures { IfOk result (λ list. items_view list.items
-        ≡ items_of (def.tasks names.now program.now full world.now world.now.tasks 0)) }
+pub(crate) fn tasks(alloc: Global, names: &Names<'_>, full: bool, watch: &Watch<'_>) -> Listed
+    ensures { IfOk result (λ list. items_view list.items ≡ items_of
+        (def.tasks names.now watch.now.program full watch.now.last watch.now.last.tasks 0)) }
 {
     let mut list = Vec::new(alloc);
-    for t in 0..world.records().tasks_born() {
-        list.push(task(alloc, names, program, full, world, t as u32)?)?;
+    let records = watch.world().records();
+    for t in 0..records.tasks_born() {
+        list.push(task(alloc, names, full, watch, t as u32)?)?;
     }
     Ok(list)
 }
@@ -231,17 +192,17 @@ pub(crate) fn tasks(
 pub(crate) fn living_tasks(
     alloc: Global,
     names: &Names<'_>,
-    program: &Program,
     full: bool,
-    world: &World,
-) -> Result<Vec<Value>, AllocError>
-    ensures { IfOk result (λ list. items_view list.items
-        ≡ items_of (def.living_tasks names.now program.now full world.now world.now.tasks 0)) }
+    watch: &Watch<'_>,
+) -> Listed
+    ensures { IfOk result (λ list. items_view list.items ≡ items_of
+        (def.living_tasks names.now watch.now.program full watch.now.last watch.now.last.tasks 0)) }
 {
     let mut list = Vec::new(alloc);
-    for t in 0..world.records().tasks_born() {
-        if world.records().lives(t as u32) {
-            list.push(task(alloc, names, program, full, world, t as u32)?)?;
+    let records = watch.world().records();
+    for t in 0..records.tasks_born() {
+        if records.lives(t as u32) {
+            list.push(task(alloc, names, full, watch, t as u32)?)?;
         }
     }
     Ok(list)

@@ -1,18 +1,11 @@
 use Rattle.std.proofs.lemmas.Result.{IfOk-weaker}
+use Rattle.look_ends.proofs.ListingLemmas.{calls_of}
 use Rattle.look_ends.proofs.calling.of_calls.Goals as goal
 
 pub returns : goal.returns
 returns g c =
-    let calls = c.in_ok-calls.calls in
+    let calls = c.in_ok-calls.ensures in
     IfOk-weaker c.shown.result _ _
-    (λ l h. record {
-      found = calls.found.items;
-      states = calls.states;
-      is_cut_off = calls.is_cut_off;
-      is_refused = c.args.is_refused;
-      sound = c.in_ok-calls.ensures.sound;
-      unsearched = c.in_ok-calls.ensures.unsearched;
-      verdict = c.requires;
-      printed = h;
-    })
+    (λ l h. calls_of (g.F.EndsForm.shows c.args.form.now) c.args.names.now c.args.setting.now c.args.number c.args.is_refused
+    c.in_ok-calls.calls l calls.sound calls.unsearched c.requires h)
     c.shown.ensures

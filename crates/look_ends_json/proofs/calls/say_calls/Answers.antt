@@ -5,7 +5,8 @@ use Rattle.look_ends_json.proofs.calls.say_calls.Goals as goal
 
 pub returns : goal.returns
 returns c =
-    let found = c.args.found.now in
+    let called = c.args.called in
+    let found = called.calls.now in
     let ends = rw c.as_slice.ensures.value at c.in_ok-say_call_ends.ensures in
-    let plain = calls_plain c.args.is_refused found.states found.is_cut_off (missing c.args.number found.found.items) in
+    let plain = calls_plain called.is_refused found.states found.is_cut_off (missing called.number found.found.items) in
     lines_then c.push_made.result _ _ _ _ _ ends (c.push_made.ensures _ c.calls.ensures plain)

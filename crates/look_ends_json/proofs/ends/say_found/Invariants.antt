@@ -5,4 +5,4 @@ use Rattle.look_ends_json.proofs.ends.say_found.Given as goal
 
 -- what is written, and the lines of the rest
 abbrev pub invariant-loop-k : goal.invariant-loop-k
-invariant-loop-k l = string_bytes l.out ++ def.found_lines l.names l.program (drop l.k l.found) l.k ≡ string_bytes l.fn.out ++ def.found_lines l.names l.program l.found 0
+invariant-loop-k l = string_bytes l.out ++ def.found_lines l.told.names.now l.told.program.now (drop l.k l.found) l.k ≡ string_bytes l.fn.out ++ def.found_lines l.told.names.now l.told.program.now l.found 0

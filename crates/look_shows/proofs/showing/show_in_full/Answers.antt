@@ -7,7 +7,7 @@ use Rattle.look_shows.proofs.showing.show_in_full.Goals as goal
 
 pub returns-in-Ok-Some : goal.returns-in-Ok-Some
 returns-in-Ok-Some g c =
-    let full = c.as_slice.ensures.value ∙ ap (λ r. unwrap_or r c.args.trace.now) (rw c.in-Ok-Some.field-0-is at c.in-Ok-Some.ensures) in
+    let full = c.as_slice-trace.ensures.value ∙ ap (λ r. unwrap_or r c.args.trace.now) (rw c.in-Ok-Some.field-0-is at c.in-Ok-Some.ensures) in
     IfOk-weaker c.show.result _ _
     (λ s h. (h.0, inl (subst (λ t. def.Shows c.args.showing c.args.text.now t h.0) full h.1), h.2))
     c.show.ensures

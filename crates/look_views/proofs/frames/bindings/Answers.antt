@@ -12,13 +12,14 @@ use Rattle.look_views.proofs.frames.bindings.Goals as goal
 
 pub loop-key-preserved : goal.loop-key-preserved
 loop-key-preserved c =
-    let world = c.args.records.now in
     let old = c.loop-key.list.items in
     let key = get_or c.args.keys.now c.loop-key.key-index 0 in
-    let part = maybe_binding key (read (environment_of (task_at world c.args.t) world) key) in
+    let part = maybe_binding key (read (environment_of (task_at c.args.records.now c.args.t) c.args.records.now) key) in
     next_part view old c.match-read.list.items part _ _ _ c.loop-key.invariant
-    (at_drop_more (bindings world c.args.t) c.args.keys.now c.loop-key.key-index 0 c.loop-key-test.true)
-    (elim c.match-read.branch [
-      | in-Some+in_ok-binding+in_ok-push w ↦ (let fits : SFits w64 w.in-Some.value = search rules in rw w.list-is (one_value view old w.push.new.self.items _ (binding key w.in-Some.value) part (ap (maybe_binding key) (sym c.read.ensures ∙ w.in-Some.is)) (w.in_ok-binding.ensures ∙ ap (binding key) (to_z-of_z w64 w.in-Some.value fits)) w.in_ok-push.ensures.items))
+    (at_drop_more (bindings c.args.records.now c.args.t) c.args.keys.now c.loop-key.key-index 0 c.loop-key-test.true) (elim c.match-read.branch [
+      | in-Some+in_ok-binding+in_ok-push w ↦ (let fits : SFits w64 w.in-Some.value = search rules in
+          let made = w.in_ok-binding.ensures ∙ ap (binding key) (to_z-of_z w64 w.in-Some.value fits) in
+          rw w.list-is (one_value view old w.push.new.self.items _ (binding key w.in-Some.value) part
+          (ap (maybe_binding key) (sym c.read.ensures ∙ w.in-Some.is)) made w.in_ok-push.ensures.items))
       | in_default w ↦ rw w.list-is (no_value view old old part (ap (maybe_binding key) (sym c.read.ensures ∙ w.in_default.is)) refl)
     ])

@@ -10,10 +10,10 @@ use Rattle.look_views.proofs.tasks.tasks.Goals as goal
 pub loop-t-preserved : goal.loop-t-preserved
 loop-t-preserved c =
     let text = c.args.names.now in
-    let program = c.args.program.now in
-    let world = c.args.world.now in
+    let program = c.args.watch.now.program in
+    let world = c.args.watch.now.last in
     let shown = task text program c.args.full world c.loop-t.t in
-    let born = c.tasks_born-t-end.ensures.value ∙ ap (λ (w : World). length w.tasks) c.records.ensures in
+    let born = c.tasks_born-t-end.ensures.value ∙ ap (λ (w : World). length w.tasks) (c.records-records.ensures ∙ c.world.ensures) in
     next_part view c.loop-t.list.items c.push.new.self.items (shown ∷ []) _ _ _ c.loop-t.invariant
     (at_drop_more (λ (xs : List Task). tasks text program c.args.full world xs c.loop-t.t) world.tasks c.loop-t.t no_task
     (omega (arith, born, c.loop-t-test.true)))
