@@ -127,27 +127,9 @@ pub enum Question {
 }
 
 impl Question {
-    /// The counts that are needed for the answer.
+    /// The counts that are needed for the answer: those that were asked for after it.
     fn needs(self, asked: Asked) -> Needs {
-        let needs = Needs::asked(asked);
-        match self {
-            Question::Count(Kind::S) => Needs {
-                successes: true,
-                ..needs
-            },
-            Question::Count(Kind::F) => Needs {
-                failures: true,
-                ..needs
-            },
-            Question::Count(Kind::U) => Needs {
-                unavailable: true,
-                ..needs
-            },
-            Question::Total => Needs {
-                total: true,
-                ..needs
-            },
-        }
+        Needs::asked(self.noted(asked, 0))
     }
 
     /// A scope with more answers than these has too many.

@@ -133,17 +133,7 @@ same_frame n f g function pc operands locals loops entries slots =
     }
 
 pub same_scope : (n : Names) (x y : Scope) → n.tasks x.owner ≡ y.owner → x.joiner ≡ y.joiner → x.timed ≡ y.timed → x.phase ≡ y.phase → x.cancelled ≡ y.cancelled → x.expired ≡ y.expired → y.completions ≡ map (named_completion n) x.completions → IsSameScope n x y
-same_scope n x y owner joiner timed phase cancelled expired completions =
-    λ i. record {
-      owner = sym owner i;
-      joiner = sym joiner i;
-      timed = sym timed i;
-      phase = sym phase i;
-      cancelled = sym cancelled i;
-      expired = sym expired i;
-      completions = completions i;
-      environment = [];
-    }
+same_scope n x y owner joiner timed phase cancelled expired completions = cc
 
 map_reverse : {X : Type 0} (f : X → X) (xs : List X) → map f (reverse xs) ≡ reverse (map f xs)
 map_reverse f [] = refl

@@ -1,47 +1,33 @@
 //! A check that a table is closed under the steps of tasks.
 
-ghost use Rattle.std.specs.Prelude.{◌≡◌, OnOk, IfOk, All, true};
+ghost use Rattle.std.specs.Prelude.{◌≡◌, OnOk, IfOk, All, Some, true};
 ghost use Rattle.ends_table.specs.Led as led;
 ghost use Rattle.laws_calls.specs.declared.table.Held.TheVariants.{Empty};
 ghost use Rattle.laws_calls.specs.Steps as def;
 ghost use Rattle.laws_calls.specs.Tasks as tasks;
+ghost use Rattle.sts_model.specs.declared.event.End.{End};
 
 use crate::around::Around;
 use crate::beginning::{first_state, root_call};
 use crate::reached::is_among;
 use crate::rows::ends;
 use crate::stop::Stop;
-use laws_calls::table::{Call, Held, Outside, Own, Row};
+use laws_calls::table::{Call, Held, Outside, Own, Row, Way};
 use std::alloc::{AllocError, Global};
 use sts_code::{Instr, Program};
 use sts_frames::instr_at;
 use sts_same::same::Same;
 
-/// All that a table owes at a state whose next instruction is this.
-fn check_instr(
-    alloc: Global,
-    program: &Program,
-    outside: Outside,
-    table: &[Row],
-    row: &Row,
-    own: &Own,
-    instr: Instr,
-) -> Result<(), Stop>
-    ensures { OnOk result (led.IsLed program.now outside table.now row.now own.now instr) }
+/// All that a table owes at a state whose next instruction is this. The ways are those of its row.
+fn check_instr(alloc: Global, around: Around<'_>, ways: &[Way], instr: Instr) -> Result<(), Stop>
+    ensures starts { OnOk result (led.StartsOn around.entry instr) }
+    ensures steps { OnOk result (led.LeadsOn around.entry instr) }
+    ensures ends { OnOk result ((e : End) → def.end_by instr around.entry.own.now.frame ≡ Some e
+        → tasks.HasWay ways.now e) }
 {
-    let states = row.states.as_slice();
-    let ways = row.ways.as_slice();
-    let around = Around {
-        program,
-        outside,
-        table,
-        call: &row.call,
-        states,
-        own,
-    };
     around.starts(alloc, instr)?;
     around.steps(alloc, instr)?;
-    ends(ways, own, instr)?;
+    ends(ways, around.own, instr)?;
     Ok(())
 }
 
@@ -63,7 +49,15 @@ pub fn check_state(
     let Some(instr) = instr_at(program, &own.frame) else {
         return Ok(());
     };
-    check_instr(alloc, program, outside, table, row, own, instr)?;
+    let around = Around {
+        program,
+        outside,
+        table,
+        call: &row.call,
+        states: row.states.as_slice(),
+        own,
+    };
+    check_instr(alloc, around, row.ways.as_slice(), instr)?;
     Ok(())
 }
 

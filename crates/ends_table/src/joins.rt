@@ -55,6 +55,15 @@ fn decides(by: Deciding, seen: &Seen, part: &Part, end: End) -> bool
     }
 }
 
+/// A part of the open scope at a place, with its number.
+#[derive(Clone, Copy)]
+struct Known<'a> {
+    place: u32,
+    seen: &'a Seen,
+    i: u32,
+    part: &'a Part,
+}
+
 impl<'a> Around<'a> {
     /// The state after a `join` that gives this answer.
     fn joined(
@@ -102,69 +111,54 @@ impl<'a> Around<'a> {
     }
 
     /// The state after one end of a part decided. The scope is as it is apart from that.
-    fn decided(
-        &self,
-        alloc: Global,
-        place: u32,
-        seen: &Seen,
-        i: u32,
-        part: &Part,
-        end: End,
-        failed: u32,
-    ) -> Result<(), Stop>
-        requires { i < length seen.now.parts }
-        ensures { OnOk result (led.DecidedLeads self.now.states.now self.now.own.now place
-            seen.now failed i part.now end) }
+    fn decided(&self, alloc: Global, known: Known<'_>, end: End, failed: u32) -> Result<(), Stop>
+        requires { known.i < length known.seen.now.parts }
+        ensures { OnOk result (led.DecidedLeads self.now.states.now self.now.own.now
+            known.entry.place known.entry.seen.now failed known.entry.i known.entry.part.now end) }
     {
-        let count = number(seen.parts.len())?;
-        let answer = answer_by(seen.joiner, end, count);
-        let after = with_end(alloc, seen, i, part, end)?;
-        self.joined(alloc, place, after, answer, failed)
+        let count = number(known.seen.parts.len())?;
+        let answer = answer_by(known.seen.joiner, end, count);
+        let after = with_end(alloc, known.seen, known.i, known.part, end)?;
+        self.joined(alloc, known.place, after, answer, failed)
     }
 
     /// The same, if this end may decide.
     fn by_end(
         &self,
         alloc: Global,
-        place: u32,
-        seen: &Seen,
+        known: Known<'_>,
         by: Deciding,
-        i: u32,
-        part: &Part,
         end: End,
         failed: u32,
     ) -> Result<(), Stop>
-        requires { i < length seen.now.parts }
-        ensures { OnOk result (led.decides by seen.now part.now end ≡ true
-            → led.DecidedLeads self.now.states.now self.now.own.now place
-            seen.now failed i part.now end) }
+        requires { known.i < length known.seen.now.parts }
+        ensures { OnOk result (led.decides by known.entry.seen.now known.entry.part.now end ≡ true
+            → led.DecidedLeads self.now.states.now self.now.own.now known.entry.place
+            known.entry.seen.now failed known.entry.i known.entry.part.now end) }
     {
-        if !decides(by, seen, part, end) {
+        if !decides(by, known.seen, known.part, end) {
             return Ok(());
         }
-        self.decided(alloc, place, seen, i, part, end, failed)
+        self.decided(alloc, known, end, failed)
     }
 
     /// The states after one of the ends of this part decided.
     fn by_ends_of(
         &self,
         alloc: Global,
-        place: u32,
-        seen: &Seen,
+        known: Known<'_>,
         by: Deciding,
-        i: u32,
-        part: &Part,
         failed: u32,
     ) -> Result<(), Stop>
-        requires { i < length seen.now.parts }
-        ensures { OnOk result ((e : End) → HasWay part.now.ways e
-            → led.decides by seen.now part.now e ≡ true
-            → led.DecidedLeads self.now.states.now self.now.own.now place
-            seen.now failed i part.now e) }
+        requires { known.i < length known.seen.now.parts }
+        ensures { OnOk result ((e : End) → HasWay known.entry.part.now.ways e
+            → led.decides by known.entry.seen.now known.entry.part.now e ≡ true
+            → led.DecidedLeads self.now.states.now self.now.own.now known.entry.place
+            known.entry.seen.now failed known.entry.i known.entry.part.now e) }
     {
         let mut missing = Missing::new(alloc);
-        for way in part.ways.as_slice() {
-            let step = self.by_end(alloc, place, seen, by, i, part, way.end, failed);
+        for way in known.part.ways.as_slice() {
+            let step = self.by_end(alloc, known, by, way.end, failed);
             missing.note(step)?;
         }
         missing.none()
@@ -189,7 +183,13 @@ impl<'a> Around<'a> {
         let count = number(parts.len())?;
         let mut missing = Missing::new(alloc);
         for i in 0..count {
-            let step = self.by_ends_of(alloc, place, seen, by, i, parts.at(i as usize), failed);
+            let known = Known {
+                place,
+                seen,
+                i,
+                part: parts.at(i as usize),
+            };
+            let step = self.by_ends_of(alloc, known, by, failed);
             missing.note(step)?;
         }
         missing.none()

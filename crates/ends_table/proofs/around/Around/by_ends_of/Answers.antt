@@ -9,15 +9,17 @@ use Rattle.ends_table.proofs.around.Around.by_ends_of.Goals as goal
 
 pub loop-way-preserved : goal.loop-way-preserved
 loop-way-preserved c none =
-    one_more (λ (way : Way). decides c.args.by c.args.seen.now c.args.part.now way.end ≡ true → DecidedLeads c.args.self.now.states.now
-    c.args.self.now.own.now c.args.place c.args.seen.now c.args.failed c.args.i c.args.part.now way.end)
+    let k = c.args.known in
+    one_more (λ (way : Way). decides c.args.by k.seen.now k.part.now way.end ≡ true → DecidedLeads c.args.self.now.states.now
+    c.args.self.now.own.now k.place k.seen.now c.args.failed k.i k.part.now way.end)
     c.as_slice-way-items.result.now c.loop-way.way-index (record { end = Success (pos 0) }) c.loop-way-test.true
     (c.loop-way.invariant (c.in_ok-note.ensures.before none))
     (by_ok c.by_end-step.result (c.in_ok-note.ensures.step none) c.by_end-step.ensures)
 
 pub returns : goal.returns
 returns c =
-    let led = λ (e : End). decides c.args.by c.args.seen.now c.args.part.now e ≡ true → DecidedLeads c.args.self.now.states.now
-    c.args.self.now.own.now c.args.place c.args.seen.now c.args.failed c.args.i c.args.part.now e in
-    on_ok c.none.result c.none.ensures (λ none. each_way led c.as_slice-way-items.result.now c.args.part.now.ways c.loop-way.way-index
+    let k = c.args.known in
+    let led = λ (e : End). decides c.args.by k.seen.now k.part.now e ≡ true → DecidedLeads c.args.self.now.states.now
+    c.args.self.now.own.now k.place k.seen.now c.args.failed k.i k.part.now e in
+    on_ok c.none.result c.none.ensures (λ none. each_way led c.as_slice-way-items.result.now k.part.now.ways c.loop-way.way-index
     c.as_slice-way-items.ensures c.loop-way-test.false (c.loop-way.invariant none))
