@@ -1,6 +1,7 @@
 -- A machine at its beginning.
-use Rattle.std.proofs.Common.{◌≡◌, ℕ, zero, suc, ◌-◌, ◌<◌, [], ◌∷◌, true, Some, refl, sym, ◌∙◌, ap, subst, arith}
+use Rattle.std.proofs.Common.{◌≡◌, ℕ, zero, suc, ◌-◌, ◌<◌, List, [], ◌∷◌, true, Option, Some, None, get_or, refl, sym, ◌∙◌, ap, subst, arith}
 use Rattle.std.proofs.lemmas.Bool.Decides.{nat_tests}
+use Rattle.std.specs.Prelude.{unwrap_or}
 use Rattle.sts_code.specs.Program.{Program}
 use Rattle.sts_rules.specs.declared.budget.Budgets.{Budgets}
 use Rattle.sts_rules.specs.Refusal.{IsBudgetOf}
@@ -44,49 +45,43 @@ root_is_free p owned order = by (live_stand_at p (live_opening p) 0) refl
     by (AtJoin s) e = let never = (owned p (live_opening p) order 0 s (ap (is_stand_at s) e ∙ same_stand s)).stands in cc
     by (AtClose s) e = let never = (owned p (live_opening p) order 0 s (ap (is_stand_at s) e ∙ same_close s)).stands in cc
 
--- what a store doesn't show at the beginning
-abbrev pub begun : Budgets → ℕ → Unseen
-begun b key =
-    record {
-      stands = Some Free ∷ [];
-      task_keys = key ∷ [];
-      scope_keys = [];
-      task_room = b.tasks - 1;
-      frame_room = b.tasks - 1;
-      scope_room = b.scopes;
-      binding_room = b.binds;
-    }
+-- of the parts that the view doesn't show at the beginning: no scope is recorded for the root, and it
+-- has taken its room
+pub record IsBegun (b : Budgets) (u : Unseen) : Type 0 where
+  pub stands : u.stands ≡ Some Free ∷ []
+  pub tasks : u.task_room ≡ b.tasks - 1
+  pub frames : u.frame_room ≡ b.tasks - 1
+  pub scopes : u.scope_room ≡ b.scopes
+  pub binds : u.binding_room ≡ b.binds
 
-stands_free : (p : Program) (b : Budgets) (key : ℕ) → StandsAreOwned → InOrder (live_opening p) → AreStanding p (live_opening p) (begun b key)
-stands_free p b key owned order zero alive = sym (root_is_free p owned order)
-stands_free p b key owned order (suc t) alive = cc
+stands_free : (p : Program) (b : Budgets) (u : Unseen) → IsBegun b u → StandsAreOwned → InOrder (live_opening p) → AreStanding p (live_opening p) u
+stands_free p b u begun owned order zero alive = ap (λ (xs : List (Option Stand)). unwrap_or (get_or xs 0 None) Free) begun.stands ∙ sym (root_is_free p owned order)
+stands_free p b u begun owned order (suc t) alive = cc
 
-has_room : (p : Program) (b : Budgets) (key : ℕ) → 0 < b.tasks → HasRoomOf b (live_opening p) (begun b key)
-has_room p b key some =
+has_room : (p : Program) (b : Budgets) (u : Unseen) → IsBegun b u → 0 < b.tasks → HasRoomOf b (live_opening p) u
+has_room p b u begun some =
     let tasks : live_tasks (live_opening p) ≡ 1 = refl in
     let frames : living_tasks (live_opening p) ≡ 1 = refl in
     let scopes : live_scopes (live_opening p) ≡ 0 = refl in
     let binds : live_bindings (live_opening p) ≡ 0 = refl in
     record {
-      tasks = omega (arith, some, tasks);
-      frames = omega (arith, some, frames);
-      scopes = omega (arith, scopes);
-      binds = omega (arith, binds);
+      tasks = omega (arith, some, tasks, begun.tasks);
+      frames = omega (arith, some, frames, begun.frames);
+      scopes = omega (arith, scopes, begun.scopes);
+      binds = omega (arith, binds, begun.binds);
     }
 
 -- a store with only the root, and room for the rest, is that of a machine
-pub begins : (p : Program) (m : Parts) (b : Budgets) (key : ℕ) → HasLaws p → IsBudgetOf p (main_of p) b → RunIsSeen → StandsAreOwned → live_of m ≡ live_opening p → unseen_of m ≡ begun b key → IsMachine p m 0
-begins p m b key laws printed seen owned view unseen =
+pub begins : (p : Program) (m : Parts) (b : Budgets) → HasLaws p → IsBudgetOf p (main_of p) b → RunIsSeen → StandsAreOwned → live_of m ≡ live_opening p → IsBegun b (unseen_of m) → IsMachine p m 0
+begins p m b laws printed seen owned view begun =
     let order = laws.order [] (live_opening p) 0 (stands_first p seen) in
+    let u = unseen_of m in
     record {
       events = [];
       stands = stands_begun p (live_of m) seen view;
-      standing = there (AreStanding p) (stands_free p b key owned order);
+      standing = subst (λ v. AreStanding p v u) (sym view) (stands_free p b u begun owned order);
       room = λ c is.
           let same : b ≡ c = laws.main.alone b printed ∙ sym (laws.main.alone c is) in
-          there (HasRoomOf c) (subst (λ d. HasRoomOf d (live_opening p) (begun b key)) same (has_room p b key (some_task p b printed)));
+          subst (λ v. HasRoomOf c v u) (sym view) (subst (λ d. HasRoomOf d (live_opening p) u) same (has_room p b u begun (some_task p b printed)));
       laws = laws;
     }
-  where
-    there : (P : Live → Unseen → Type 0) → P (live_opening p) (begun b key) → P (live_of m) (unseen_of m)
-    there P h = subst (λ v. P v (unseen_of m)) (sym view) (subst (P (live_opening p)) (sym unseen) h)

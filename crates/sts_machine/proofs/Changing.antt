@@ -16,14 +16,15 @@ use Rattle.sts_model.specs.Local.{operand}
 use Rattle.sts_model.specs.Misuse.{is_binding, innermost}
 use Rattle.sts_model.specs.Effect.{forked}
 use Rattle.sts_model.specs.Live.{Live, LiveTask, LiveScope, Alive}
-use Rattle.laws_runs.proofs.ListLemmas.{at_more, at_set, past, within}
+use Rattle.laws_runs.proofs.ListLemmas.{at_more, past, within}
 use Rattle.laws_live.specs.Reading.{task_in, no_live_task, no_alive, live_task_at, live_scope_at, alive_at, lives_in, with_alive, with_live_frame}
 use Rattle.laws_live.specs.Effect.{opened_scope, live_open, live_child, live_fork, live_bind, live_unbind, live_ended, live_end}
-use Rattle.laws_accepted.specs.Views.{bindings_in, live_tasks, live_scopes, live_bindings}
+use Rattle.laws_accepted.specs.Views.{bindings_in, open_bindings, live_tasks, live_scopes, live_bindings}
 use Rattle.sts_store.specs.Parts.{Unseen, stand_in, stood_unseen}
 use Rattle.sts_machine.specs.Changing.{Changes}
 use Rattle.sts_machine.specs.Room.{is_living, living_tasks}
 use Rattle.sts_machine.proofs.Lists.{apart, same_sums}
+use Rattle.sts_machine.proofs.LivesLemmas.{lives_changed, lives_written}
 use Rattle.sts_machine.proofs.Quiet.{changed, IsQuiet, quiet-frame, quiet-tell}
 
 -- ---- who lives
@@ -34,25 +35,6 @@ life_is (Some task) = refl
 
 pub lives_quiet : (v x : Live) (i : ℕ) → IsQuiet v x → lives_in x i ≡ lives_in v i
 lives_quiet v x i h = life_is (task_in x i) ∙ (h.tasks i).living ∙ sym (life_is (task_in v i))
-
--- a task lives if and only if it lives with another state of its own
-pub lives_changed : (v : Live) (t : ℕ) (change : Alive → Alive) (i : ℕ) → lives_in (with_alive v t change) i ≡ lives_in v i
-lives_changed v t change i = at_set (λ o. is_some (unwrap_or o no_live_task).alive ≡ lives_in v i) v.tasks t i (option_map over (task_in v t)) None (λ e. rw e (by (task_in v t))) refl
-  where
-    over : LiveTask → LiveTask
-    over task = record task { alive = option_map change task.alive }
-
-    held : (o : Option Alive) → is_some (option_map change o) ≡ is_some o
-    held None = refl
-    held (Some a) = refl
-
-    by : (o : Option LiveTask) → is_some (unwrap_or (option_map over o) no_live_task).alive ≡ is_some (unwrap_or o no_live_task).alive
-    by None = refl
-    by (Some task) = held task.alive
-
--- and at another frame
-pub lives_written : (v : Live) (t : ℕ) (f : Frame) (i : ℕ) → lives_in (with_live_frame v t f) i ≡ lives_in v i
-lives_written v t f i = lives_changed v t (λ alive. record alive { frame = f }) i
 
 -- a living task was born
 pub inside : (v : Live) (t : ℕ) → lives_in v t ≡ true → t < length v.tasks
@@ -299,26 +281,27 @@ module _ (v : Live) (t : ℕ) (l : Living v t) where
   others_live : (u : Unseen) (y : Option LiveTask) (i : ℕ) → (i == t) ≡ false → lives_in (record v { tasks = set v.tasks t y }) i ≡ true → stand_in u i ≡ said v u i
   others_live u y i other lives = still_said v u i (ap (λ o. is_some (unwrap_or o no_live_task).alive) (sym (get_or-set_other v.tasks t i y None (apart i t other))) ∙ lives)
 
-  -- it has another environment
-  bound_anew : (u : Unseen) (change : Alive → Alive) (n : ℕ) → count_by is_binding (change (alive_at v t)).frame.entries + n ≡ count_by is_binding (alive_at v t).frame.entries + u.binding_room → Changes v u (with_alive v t change) (record u { binding_room = n }) t
-  bound_anew u change n room =
+  -- it has another state of its own, or none
+  rewritten : (u : Unseen) (after : Option Alive) (y : Option LiveTask) (root : Option End) (frames bindings : ℕ) → y ≡ having l.task after → cond (is_some after) 1 0 + frames ≡ 1 + u.frame_room → open_bindings after + bindings ≡ count_by is_binding (alive_at v t).frame.entries + u.binding_room
+      → Changes v u (record v { tasks = set v.tasks t y; root_end = root }) (record u { frame_room = frames; binding_room = bindings }) t
+  rewritten u after y root frames bindings written living bound =
       let a = summed (λ o. cond (is_some o) 1 0) y ∙ ap (λ o. live_tasks v + cond (is_some o) 1 0) written in
       let b = summed (λ o. cond (is_living o) 1 0) y ∙ ap (λ o. living_tasks v + cond (is_living o) 1 0) written in
       let d = summed bindings_in y ∙ ap (λ o. live_bindings v + bindings_in o) written in
-      let e : count_by is_binding (change l.alive).frame.entries + n ≡ count_by is_binding l.alive.frame.entries + u.binding_room = subst (λ (q : Alive). count_by is_binding (change q).frame.entries + n ≡ count_by is_binding q.frame.entries + u.binding_room) l.at room in
+      let e : open_bindings after + bindings ≡ count_by is_binding l.alive.frame.entries + u.binding_room = subst (λ (q : Alive). open_bindings after + bindings ≡ count_by is_binding q.frame.entries + u.binding_room) l.at bound in
       record {
         others = others_live u y;
         tasks = omega (arith, a);
-        frames = omega (arith, b);
+        frames = omega (arith, b, living);
         scopes = refl;
         binds = omega (arith, d, e);
       }
-    where
-      y : Option LiveTask
-      y = option_map (changed change) (task_in v t)
 
-      written : y ≡ having l.task (Some (change l.alive))
-      written = ap (option_map (changed change)) lives_there
+  -- it has another environment
+  bound_anew : (u : Unseen) (change : Alive → Alive) (n : ℕ) → count_by is_binding (change (alive_at v t)).frame.entries + n ≡ count_by is_binding (alive_at v t).frame.entries + u.binding_room → Changes v u (with_alive v t change) (record u { binding_room = n }) t
+  bound_anew u change n room =
+      rewritten u (Some (change l.alive)) (option_map (changed change) (task_in v t)) v.root_end u.frame_room n (ap (option_map (changed change)) lives_there) refl
+      (subst (λ (q : Alive). count_by is_binding (change q).frame.entries + n ≡ count_by is_binding (alive_at v t).frame.entries + u.binding_room) l.at room)
 
   pub binds : (u : Unseen) (k : ℕ) → 0 < u.binding_room → Changes v u (live_bind v t (alive_at v t).frame k) (record u { binding_room = u.binding_room - 1 }) t
   binds u k room =
@@ -339,26 +322,10 @@ module _ (v : Live) (t : ℕ) (l : Living v t) where
   -- it ends, with nothing bound
   ended : (u : Unseen) (end : End) → count_by is_binding (alive_at v t).frame.entries ≡ 0 → Changes v u (live_ended v t end) (record u { frame_room = u.frame_room + 1 }) t
   ended u end none =
-      let a = summed (λ o. cond (is_some o) 1 0) y ∙ ap (λ o. live_tasks v + cond (is_some o) 1 0) written in
-      let b = summed (λ o. cond (is_living o) 1 0) y ∙ ap (λ o. living_tasks v + cond (is_living o) 1 0) written in
-      let d = summed bindings_in y ∙ ap (λ o. live_bindings v + bindings_in o) written in
-      let e : count_by is_binding l.alive.frame.entries ≡ 0 = ap (λ (q : Alive). count_by is_binding q.frame.entries) (sym l.at) ∙ none in
-      record {
-        others = others_live u y;
-        tasks = omega (arith, a);
-        frames = omega (arith, b);
-        scopes = refl;
-        binds = omega (arith, d, e);
-      }
+      rewritten u None (option_map over (task_in v t)) (live_ended v t end).root_end (u.frame_room + 1) u.binding_room (ap (option_map over) l.there) (omega arith) (omega (arith, none))
     where
       over : LiveTask → LiveTask
       over task = record task { alive = None }
-
-      y : Option LiveTask
-      y = option_map over (task_in v t)
-
-      written : y ≡ having l.task None
-      written = ap (option_map over) l.there
 
   pub ends : (u : Unseen) (end : End) → count_by is_binding (alive_at v t).frame.entries ≡ 0 → Changes v u (live_end v t end) (record u { frame_room = u.frame_room + 1 }) t
   unfolding live_end

@@ -27,7 +27,8 @@ use Rattle.sts_machine.specs.Changing.{Changes}
 use Rattle.sts_machine.specs.Room.{is_living}
 use Rattle.laws_live.proofs.RestingLemmas.{mapped}
 use Rattle.sts_machine.proofs.Quiet.{quiet-trans, quiet-scope, quiet-cancel, quiet-alive}
-use Rattle.sts_machine.proofs.Changing.{life_is, lives_quiet, lives_written, changes-quiet, then-quiet, stood_before, stood_after}
+use Rattle.sts_machine.proofs.Changing.{life_is, lives_quiet, changes-quiet, then-quiet, stood_before, stood_after}
+use Rattle.sts_machine.proofs.LivesLemmas.{lives_written}
 
 -- ---- the subtasks of s are taken out
 

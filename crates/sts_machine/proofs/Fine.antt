@@ -1,5 +1,5 @@
 -- Facts that an instruction may rely on if it is no misuse.
-use Rattle.std.proofs.Common.{◌≡◌, ℕ, length, Bool, true, false, ◌&&◌, not, Option, refl, sym, ◌∙◌, is_some}
+use Rattle.std.proofs.Common.{◌≡◌, ℕ, ◌<◌, length, Bool, true, false, ◌&&◌, not, Option, refl, sym, ◌∙◌, subst, is_some}
 use Rattle.std.specs.Prelude.{nat_le}
 use Rattle.std.proofs.lemmas.Bool.{not-false}
 use Rattle.sts_code.specs.Program.{Program}
@@ -21,6 +21,8 @@ use Rattle.laws_live.specs.Reading.{lives_in, alive_at, scope_in, live_scope_at,
 use Rattle.laws_live.specs.Effect.{live_effect}
 use Rattle.laws_live.specs.Fine.{IsLiveFine, live_at_own, live_joins_wrongly}
 use Rattle.laws_live.specs.Order.{InOrder}
+use Rattle.sts_store.specs.Parts.{Unseen}
+use Rattle.sts_machine.specs.Room.{HasRoomLeft}
 
 -- a test of the scope that a slot owns
 own_test : (v : Live) (y : Slot) (test : ℕ → LiveScope → Bool) → y ≡ Own (named y) → live_at_own v y test ≡ test (named y) (live_scope_at v (named y))
@@ -40,6 +42,10 @@ module _ (p : Program) (v : Live) (t x : ℕ) (lives : lives_in v t ≡ true) (o
 
   pub fork_own : (g : ℕ) (h : Option ℕ) → IsLiveFine p v t (frame_in v t) (Fork x g h) → slot (frame_in v t) x ≡ Own (scope_at v t x)
   fork_own g h fine = own_slot (slot (frame_in v t) x) (first_no _ _ (first_no _ _ fine.slots)) fine.own
+
+  -- and so there is room for the task
+  pub fork_room : (u : Unseen) (g : ℕ) (h : Option ℕ) (i : Instr) → i ≡ Fork x g h → IsLiveFine p v t (frame_in v t) i → HasRoomLeft u (frame_in v t) i → (0 < u.task_room) × (0 < u.frame_room)
+  fork_room u g h i is fine room = (subst (HasRoomLeft u (frame_in v t)) is room) (scope_at v t x) (fork_own g h (subst (IsLiveFine p v t (frame_in v t)) is fine))
 
   pub fork_stands : (g : ℕ) (h : Option ℕ) → IsLiveFine p v t (frame_in v t) (Fork x g h) → is_some (scope_in v (scope_at v t x)) ≡ true
   fork_stands g h fine = stands (fork_own g h fine)

@@ -1,4 +1,6 @@
 pub mod Lists
+pub mod LivesLemmas
+pub mod MainLemmas
 pub mod Quiet
 pub mod Changing
 pub mod Closing
@@ -8,6 +10,7 @@ pub mod Budgets
 pub mod Beginning
 pub mod CanStep
 pub mod Turning
+pub mod Outside
 pub mod Telling
 pub mod Whole
 pub mod Equals

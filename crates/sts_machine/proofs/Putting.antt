@@ -1,5 +1,6 @@
 -- The slice that a machine gives out, and the machine after a fitting slice was put back.
 use Rattle.std.proofs.Common.{◌≡◌, ℕ, ◌+◌, ◌≤◌, List, ◌++◌, Bool, false, true, Option, Some, None, refl, sym, ◌∙◌, ap, subst, get_or-set_other}
+use Rattle.std.proofs.lemmas.Bool.{false≢true}
 use Rattle.std.specs.Prelude.{option_map, unwrap_or, count_by, is_some, ◌==◌, ◌↔◌, IsTrue}
 use Rattle.sts_code.specs.Program.{Program}
 use Rattle.sts_code.specs.declared.instr.Instr.{Instr}
@@ -49,23 +50,20 @@ module _ (p : Program) (m : Parts) (n : ℕ) (is : IsMachine p m n) where
 
 -- ---- which slices fit
 
-no : false ≡ true → ⊥
-no e = cc
-
 fits_here : {m u : Seen} {s : Cut} → m ≡ u → Fits u s → Fits m s
 fits_here {m} {u} {s} view = subst (λ (x : Seen). Fits x s) (sym view)
 
 -- the questions that a machine asks about a slice: t is its task
 module _ {m u : Seen} {s : Cut} {t : ℕ} (view : m ≡ u) (task : t ≡ s.task) where
   pub of_no_task : {b : Bool} → b ≡ lives_in m.live t → b ≡ false → IsTrue false ↔ Fits u s
-  of_no_task asked off = (λ e. absurd (no e), λ fits. absurd (no (sym off ∙ asked ∙ ap (lives_in m.live) task ∙ (fits_here view fits).lives)))
+  of_no_task asked off = (λ e. absurd (false≢true e), λ fits. absurd (false≢true (sym off ∙ asked ∙ ap (lives_in m.live) task ∙ (fits_here view fits).lives)))
 
   -- its starting frame, and the frame of the task
   module _ {f g : Frame} {b : Bool} (start : f ≡ s.start) (at : g ≡ (alive_at m.live t).frame) (asked : IsTrue b ↔ (f ≡ g)) where
     pub of_no_frame : b ≡ false → IsTrue false ↔ Fits u s
     of_no_frame off = (
-      λ e. absurd (no e),
-      λ fits. absurd (no (sym off ∙ asked.1 (start ∙ (fits_here view fits).start ∙ ap (λ k. (alive_at m.live k).frame) (sym task) ∙ sym at))),
+      λ e. absurd (false≢true e),
+      λ fits. absurd (false≢true (sym off ∙ asked.1 (start ∙ (fits_here view fits).start ∙ ap (λ k. (alive_at m.live k).frame) (sym task) ∙ sym at))),
     )
 
     pub of_code : {l r : Bool} {h : Frame} {q : Program} {is js : List Instr} → l ≡ lives_in m.live t → l ≡ true → b ≡ true

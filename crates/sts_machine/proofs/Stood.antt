@@ -20,8 +20,7 @@ use Rattle.sts_machine.specs.Changing.{Changes, may_wait, may_wait_next}
 use Rattle.sts_machine.specs.Room.{HasRoomOf}
 use Rattle.sts_machine.specs.Standing.{AreStanding, AreStandingBut}
 use Rattle.sts_machine.proofs.Lists.{apart}
-use Rattle.sts_machine.proofs.Quiet.{IsQuiet}
-use Rattle.sts_machine.proofs.Changing.{inside, lives_quiet, changes-quiet, as_are}
+use Rattle.sts_machine.proofs.Changing.{inside}
 
 -- ---- as many tasks are said to stand somewhere as were born
 
@@ -99,15 +98,3 @@ unwaiting p v t i at e = ap (live_stand_at_instr v t) at ∙ by i e
 pub unwaiting_next : (p : Program) (v : Live) (t : ℕ) (o : Option Instr) → instr_at p (alive_at v t).frame ≡ o → may_wait_next o ≡ false → live_stand_at p v t ≡ Free
 unwaiting_next p v t None at e = ap (live_stand_at_instr v t) at
 unwaiting_next p v t (Some i) at e = unwaiting p v t i at e
-
--- ---- from outside
-
-module _ (v x y : Live) (u w : Unseen) (same : y ≡ x) (rest : w ≡ u) (quiet : IsQuiet v x) where
-  pub still_standing : (p : Program) → ((i : ℕ) → IsUnmoved p v x i) → AreStanding p v u → AreStanding p y w
-  still_standing p moved standing =
-      subst (λ (q : Live). AreStanding p q w) (sym same)
-      (subst (λ (q : Unseen). AreStanding p x q) (sym rest)
-      (λ i alive. standing i (sym (lives_quiet v x i quiet) ∙ alive) ∙ sym (moved i).stand))
-
-  pub same_room : (b : Budgets) → HasRoomOf b v u → HasRoomOf b y w
-  same_room b = room_kept v y u w 0 b (as_are v x y u u w 0 same rest (changes-quiet v x u 0 quiet))

@@ -8,7 +8,6 @@ mod effect;
 mod laws;
 mod machine;
 mod opening;
-mod outside;
 mod perform;
 mod runs;
 mod slice;

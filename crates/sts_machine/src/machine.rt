@@ -20,10 +20,9 @@ ghost use Rattle.laws_live.specs.Waiting.{live_can_step};
 
 use crate::laws::laws;
 use crate::opening::main_frame;
-use crate::outside::{expire, interrupt};
 use crate::perform::perform;
 use crate::turned::Turned;
-use laws_live::{run_is_seen, stands_are_owned};
+use laws_live::{expiries_move_none, interrupts_move_none, run_is_seen, stands_are_owned};
 use std::alloc::{AllocError, Global};
 use std::marker::Model;
 use sts_code::{Instr, Program};
@@ -141,13 +140,18 @@ impl<'p> Machine<'p> {
         ensures steps { self.new.steps
             ≡ self.old.steps + live_steps_in self.old.program self.old.live event }
     {
-        let program = self.verified.program();
         match event {
             Event::Step(t) => {
                 self.take_step(t);
             }
-            Event::Interrupt(t) => interrupt(&mut self.store, program, t),
-            Event::Expire(s) => expire(&mut self.store, program, s),
+            Event::Interrupt(t) => {
+                interrupts_move_none();
+                self.store.interrupt(t);
+            }
+            Event::Expire(s) => {
+                expiries_move_none();
+                self.store.expire(s);
+            }
         }
     }
 

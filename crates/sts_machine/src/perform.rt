@@ -70,39 +70,6 @@ fn local_step(store: &mut Store, program: &Program, code: &[Instr], t: u32, inst
     may_wait_next(next)
 }
 
-/// Does the next instruction of a living task, a local one, and answers whether the task can step
-/// then. It must be no misuse.
-#[inline(always)]
-fn perform_local(
-    store: &mut Store,
-    program: &Program,
-    code: &[Instr],
-    t: u32,
-    instr: &Instr,
-) -> bool
-    requires lives { lives_in (live_of store.old) t ≡ true }
-    requires own_code { code.now ≡ world.code program.now (frame_of store.old t) }
-    requires short { length code.now ≤ MAX_INSTRUCTIONS }
-    requires at { instr_at program.now (frame_of store.old t) ≡ Some instr.now }
-    requires fine { IsLiveFine program.now (live_of store.old) t (frame_of store.old t) instr.now }
-    requires order { InOrder (live_of store.old) }
-    requires after { InOrder
-        (live_effect program.now (live_of store.old) t (frame_of store.old t) instr.now) }
-    requires standing { AreStanding program.now (live_of store.old) (unseen_of store.old) }
-    requires is_local { frames.is_local instr.now ≡ true }
-    ensures live { live_of store.new
-        ≡ live_effect program.now (live_of store.old) t (frame_of store.old t) instr.now }
-    ensures standing { AreStanding program.now (live_of store.new) (unseen_of store.new) }
-    ensures room { (b : AnyBudgets) → HasRoomOf b (live_of store.old) (unseen_of store.old)
-        → HasRoomOf b (live_of store.new) (unseen_of store.new) }
-    ensures can_step { result ≡ live_can_step program.now (live_of store.new) t }
-{
-    effects_move_one();
-    idle_stand_free();
-    let is_near = local_step(store, program, code, t, instr);
-    say_stand_if_near(store, program, t, is_near)
-}
-
 /// Does the next instruction of a living task, and answers whether the task can step then. It must
 /// be no misuse, and there must be room for it.
 #[inline(always)]
@@ -130,11 +97,12 @@ pub(crate) fn perform(
         → HasRoomOf b (live_of store.new) (unseen_of store.new) }
     ensures can_step { result ≡ live_can_step program.now (live_of store.new) t }
 {
-    if is_local(*instr) {
-        return perform_local(store, program, code, t, instr);
-    }
     effects_move_one();
     idle_stand_free();
+    if is_local(*instr) {
+        let is_near = local_step(store, program, code, t, instr);
+        return say_stand_if_near(store, program, t, is_near);
+    }
     effect(store, program, code, t, instr);
     if ends_task(instr) {
         return false;

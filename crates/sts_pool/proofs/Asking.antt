@@ -91,7 +91,7 @@ ended_given gives o b p end steps ours has ended =
     }
 
 -- and if its root lives
-pub unfinished_given : {O : Type 0} (gives : O → ℕ → Option Event → O → Type 0) (o : O) (b : BookSeen) (p : Program) → b.program ≡ p → HasGiven gives (Some o) b → ((events : List Event) → MayBe b events → IsUnfinished b.program events) → EndsUnfinished p (IsGiven gives o)
+unfinished_given : {O : Type 0} (gives : O → ℕ → Option Event → O → Type 0) (o : O) (b : BookSeen) (p : Program) → b.program ≡ p → HasGiven gives (Some o) b → ((events : List Event) → MayBe b events → IsUnfinished b.program events) → EndsUnfinished p (IsGiven gives o)
 unfinished_given gives o b p ours has lives =
     record {
       journal = has.events;
@@ -99,10 +99,11 @@ unfinished_given gives o b p ours has lives =
       came = has.given;
     }
 
--- what follows from each error follows from this one
-pub if_unfinished : {R : Type 0} (r : Result R PoolError) (X Y : Type 0) → (X → Y) → OnErr r X → IfErr r (λ e. e ≡ Unfinished → Y)
-if_unfinished (Ok a) X Y more told = tt
-if_unfinished (Err e) X Y more told = λ is. more told
+-- and so if a run ends with that error
+pub error_given : {O R : Type 0} (gives : O → ℕ → Option Event → O → Type 0) (o : O) (b : BookSeen) (p : Program) (r : Result R PoolError) → b.program ≡ p → HasGiven gives (Some o) b
+    → OnErr r ((events : List Event) → MayBe b events → IsUnfinished b.program events) → IfErr r (λ e. e ≡ Unfinished → EndsUnfinished p (IsGiven gives o))
+error_given gives o b p (Ok a) ours has told = tt
+error_given gives o b p (Err e) ours has told = λ is. unfinished_given gives o b p ours has told
 
 -- ---- a book with its outside
 
@@ -145,6 +146,18 @@ module _ {O : Type 0} (gives : O → ℕ → Option Event → O → Type 0) (p :
       (subst (λ k. gives now k (Some e) later) (long ∙ sym journal.may.counted) (subst (λ a. gives now n a later) some gave)))
       is
 
+  -- with the same book
+  still_asked : (b : BookSeen) (now later : O) {s : Bool} (left : Bool) (is : IsAsked gives p w first b now s) → ((o : O) → Gave gives o is.events now → Gave gives o is.events later) → (left ≡ true → HasGiven gives first b) → IsAsked gives p w first b later left
+  still_asked b now later left is goes spent =
+      record {
+        program = is.program;
+        written = is.written;
+        events = is.events;
+        journal = is.journal;
+        gave = if_some first (λ o. Gave gives o is.events now) (λ o. Gave gives o is.events later) goes is.gave;
+        spent = spent;
+      }
+
   has_given : (b : BookSeen) (now : O) (s : Bool) (is : IsAsked gives p w first b now s) → ((o : O) → Gave gives o is.events now → IsGiven gives o is.events) → HasGiven gives first b
   has_given b now s is given =
       record {
@@ -162,35 +175,19 @@ module _ {O : Type 0} (gives : O → ℕ → Option Event → O → Type 0) (p :
   pub nothing_asked : (b : BookSeen) (now later : O) (s : Bool) (n : ℕ) (answer : Option Event) → answer ≡ None → n ≡ b.machine.steps + b.outside → gives now n answer later → IsAsked gives p w first b now s → IsAsked gives p w first b later true
   nothing_asked b now later s n answer none long gave is =
       let here = subst (λ k. gives now k None later) (long ∙ sym is.journal.may.counted) (subst (λ a. gives now n a later) none gave) in
-      record {
-        program = is.program;
-        written = is.written;
-        events = is.events;
-        journal = is.journal;
-        gave = if_some first (λ o. Gave gives o is.events now) (λ o. Gave gives o is.events later) (λ o before. outside.nothing is.events now later before here) is.gave;
-        spent = λ e. nothing_given b now later s n answer none long gave is;
-      }
+      still_asked b now later true is (λ o before. outside.nothing is.events now later before here) (λ e. nothing_given b now later s n answer none long gave is)
 
   -- nor if the book is full
   pub full_given : (b : BookSeen) (now : O) (s : Bool) → b.outside ≡ 4096 → IsAsked gives p w first b now s → HasGiven gives first b
   full_given b now s full is = has_given b now s is (λ o gave. record { left = now; gave = gave; spent = inr (is.journal.may.outside ∙ full) })
 
   pub full_asked : (b : BookSeen) (now : O) (s : Bool) → b.outside ≡ 4096 → IsAsked gives p w first b now s → IsAsked gives p w first b now true
-  full_asked b now s full is =
-      record {
-        program = is.program;
-        written = is.written;
-        events = is.events;
-        journal = is.journal;
-        gave = is.gave;
-        spent = λ e. full_given b now s full is;
-      }
+  full_asked b now s full is = still_asked b now now true is (λ o gave. gave) (λ e. full_given b now s full is)
 
   -- it may have something to give again
   stays_asked : (b x : BookSeen) (now : O) (s : Bool) → x ≡ b → IsAsked gives p w first b now s → IsAsked gives p w first x now false
   stays_asked b x now s same is =
-      subst (λ z. IsAsked gives p w first z now false) (sym same)
-      (record { program = is.program; written = is.written; events = is.events; journal = is.journal; gave = is.gave; spent = λ e. absurd (cc) })
+      subst (λ z. IsAsked gives p w first z now false) (sym same) (still_asked b now now false is (λ o gave. gave) (λ e. absurd (cc)))
 
   -- after a step
   pub stepped_asked : (b x : BookSeen) (now : O) (s : Bool) (t : ℕ) → x.program ≡ b.program → Records b x (Step t ∷ []) → IsAsked gives p w first b now s → IsAsked gives p w first x now false

@@ -1,12 +1,12 @@
 -- Each call keeps the facts of a book.
-use Rattle.std.proofs.Common.{◌≡◌, ℕ, ◌+◌, ◌≤◌, List, [], ◌∷◌, ◌++◌, length, Bool, true, false, not, Option, Some, None, inl, inr, refl, sym, ◌∙◌, subst, cond, is_some, ◌==◌, ◌&&◌, arith, length-append, count_by, filter}
+use Rattle.std.proofs.Common.{◌≡◌, ℕ, ◌+◌, ◌≤◌, ◌<◌, ◌^◌, List, [], ◌∷◌, ◌++◌, length, Bool, true, false, not, Option, Some, None, inl, inr, refl, sym, ◌∙◌, subst, cond, is_some, ◌==◌, ◌&&◌, arith, length-append, count_by, filter}
 use Rattle.std.proofs.lemmas.Bool.{and_parts, and_from, and_left, and_right, cond-true, not-true, not_from_false, not_from_true}
 use Rattle.std.proofs.lemmas.List.{length-replicate}
 use Rattle.std.proofs.lemmas.List.Filters.{length-filter_both}
 use Rattle.std.proofs.lemmas.List.Folds.{sum_by-replicate}
 use Rattle.std.proofs.lemmas.List.Sums.{length-filter}
 use Rattle.std.specs.List.{IsDistinct}
-use Rattle.std.specs.Prelude.{MatchBool, option_map, unwrap_or}
+use Rattle.std.specs.Prelude.{MatchBool, unwrap_or}
 use Rattle.sts_code.specs.Program.{Program}
 use Rattle.sts_rules.specs.declared.budget.Budgets.{Budgets}
 use Rattle.sts_rules.specs.Refusal.{IsBudgetOf}
@@ -14,11 +14,10 @@ use Rattle.sts_model.specs.declared.event.End.{End}
 use Rattle.sts_model.specs.declared.event.Event.{Event}
 use Rattle.sts_model.specs.declared.event.Event.TheVariants as event
 use Rattle.sts_model.specs.declared.record.Frame.{Frame}
-use Rattle.sts_model.specs.Live.{Live, LiveTask, Alive}
+use Rattle.sts_model.specs.Live.{Live, LiveTask}
 use Rattle.sts_model.specs.Run.{after, counts, is_step, taken}
 use Rattle.sts_model.specs.World.{task_at}
 use Rattle.laws_runs.specs.Runs.{In}
-use Rattle.laws_runs.proofs.ListLemmas.{at_set}
 use Rattle.laws_live.specs.Reading.{task_in, no_live_task, lives_in, with_live_frame}
 use Rattle.laws_live.specs.Run.{live_apply, live_steps_in}
 use Rattle.laws_live.specs.Seen.{TurnsAreSeen}
@@ -26,12 +25,15 @@ use Rattle.laws_live.specs.Waiting.{live_can_go, live_can_step, live_stand_at}
 use Rattle.laws_live.specs.Stands.{StandsStay}
 use Rattle.laws_live.specs.Waking.{is_step_of}
 use Rattle.laws_accepted.specs.Accepted.{main_of}
+use Rattle.laws_accepted.specs.EveryRun.{RunsWell}
 use Rattle.laws_accepted.specs.Views.{ViewsAreWithin}
 use Rattle.sts_machine.specs.Laws.{MainBudget}
 use Rattle.sts_machine.specs.Machine.{Seen, Stands}
 use Rattle.sts_machine.specs.Slice.{steps_of}
 use Rattle.sts_machine.specs.Turned.{Picks, turned}
 use Rattle.sts_machine.specs.declared.turned.Turned.TheVariants.{Stepped, Idle}
+use Rattle.sts_machine.proofs.LivesLemmas.{lives_written}
+use Rattle.sts_verify.proofs.BudgetLemmas.{budget_of-one}
 use Rattle.sts_pool.specs.Book.{BookSeen, HasBookRoom, IsBook, is_free}
 use Rattle.sts_pool.specs.Outside.{outside_entries}
 use Rattle.sts_pool.specs.Report.{IsBounded, IsReport, IsUnfinished}
@@ -130,24 +132,6 @@ pub picked : (b : BookSeen) (o : Option ℕ) → Picks (is_free b) o → MatchBo
 picked b (Some t) h = (t, h)
 picked b None h = h
 
--- a task lives if and only if it lives at another frame
-pub lives_at_frame : (v : Live) (t : ℕ) (f : Frame) (q : ℕ) → lives_in (with_live_frame v t f) q ≡ lives_in v q
-lives_at_frame v t f q = at_set (λ o. is_some (unwrap_or o no_live_task).alive ≡ lives_in v q) v.tasks t q (option_map change (task_in v t)) None (λ e. rw e (here (task_in v t))) refl
-  where
-    placed : Alive → Alive
-    placed alive = record alive { frame = f }
-
-    change : LiveTask → LiveTask
-    change task = record task { alive = option_map placed task.alive }
-
-    still : (a : Option Alive) → is_some (option_map placed a) ≡ is_some a
-    still None = refl
-    still (Some alive) = refl
-
-    here : (o : Option LiveTask) → is_some (unwrap_or (option_map change o) no_live_task).alive ≡ is_some (unwrap_or o no_live_task).alive
-    here None = refl
-    here (Some task) = still task.alive
-
 pub back_book : (m x : Seen) (journal : List Event) (out : List ℕ) (n t : ℕ) (f : Frame) → IsBook m journal out → ((events : List Event) → Stands m events → Stands x (events ++ steps_of n t)) → x.live ≡ with_live_frame m.live t f → x.steps ≡ m.steps + n → IsBook x (journal ++ steps_of n t) (without t out)
 back_book m x journal out n t f is stands live steps =
     let none = still_entries journal n t in
@@ -160,7 +144,7 @@ back_book m x journal out n t f is stands live steps =
       counted = omega (arith, none, long, many, counted, steps);
       most = omega (arith, none, most);
       apart = apart_without t out is.apart;
-      living = λ q h. rw live (lives_at_frame m.live t f q ∙ is.living q (was_among t q out h));
+      living = λ q h. rw live (lives_written m.live t f q ∙ is.living q (was_among t q out h));
     }
 
 -- local steps in place leave the tasks that are out as they are
@@ -172,7 +156,7 @@ ran_book m x journal out n t f is stands live steps =
       counted = back.counted;
       most = back.most;
       apart = is.apart;
-      living = λ q h. rw live (lives_at_frame m.live t f q ∙ is.living q h);
+      living = λ q h. rw live (lives_written m.live t f q ∙ is.living q h);
     }
 
 -- ---- room
@@ -204,6 +188,13 @@ room_kept p q j k l n same more most room =
     let out = room.out_room in
     subst (λ z. HasBookRoom z l n) (sym same)
     (record { main = room.main; few = room.few; stay = room.stay; turns = room.turns; within = room.within; journal_room = omega (arith, journal, more); out_room = omega (arith, out, most) })
+
+-- before the first event there is room by this budget of `main`
+pub opening_room : (p q : Program) (budget : Budgets) (out : ℕ) → q ≡ p → IsBudgetOf p (main_of p) budget → ((events : List Event) → RunsWell p budget events) → StandsStay p → TurnsAreSeen p → ViewsAreWithin p → budget.steps < 2 ^ 32 → budget.tasks ≤ out → HasBookRoom q (budget.steps + 4096) out
+opening_room p q budget out same printed runs_well stay turns within few most =
+    let main : MainBudget p = record { budget = budget; printed = printed; alone = λ other is. budget_of-one p (main_of p) other budget is printed; runs_well = runs_well } in
+    subst (λ z. HasBookRoom z (budget.steps + 4096) out) (sym same)
+    (record { main = main; few = few; stay = stay; turns = turns; within = within; journal_room = omega arith; out_room = most })
 
 -- if it is still a book with these entries, the journal had room for them
 pub entries_fit : (m x : Seen) (journal events : List Event) (out : List ℕ) (j k : ℕ) → x.program ≡ m.program → HasBookRoom m.program j k → IsBook x (journal ++ events) out → length journal + length events ≤ j

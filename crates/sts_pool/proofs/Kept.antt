@@ -1,5 +1,5 @@
 -- A book keeps its facts, whether its journal is written or only counted.
-use Rattle.std.proofs.Common.{◌≡◌, ℕ, ◌+◌, ◌≤◌, ◌<◌, ◌^◌, List, [], ◌∷◌, ◌++◌, length, Bool, true, false, Option, Some, None, refl, sym, ap, ◌∙◌, subst, cond, vec_len, vec_capacity, count_by, rules, arith, append-nil}
+use Rattle.std.proofs.Common.{◌≡◌, ℕ, ◌+◌, ◌≤◌, ◌<◌, ◌^◌, List, [], ◌∷◌, ◌++◌, length, Bool, true, false, not, ◌&&◌, Option, Some, None, refl, sym, ap, ◌∙◌, subst, cond, vec_len, vec_capacity, count_by, rules, arith, append-nil}
 use Rattle.std.proofs.lemmas.Bool.{both_ways, cond-true}
 use Rattle.std.proofs.lemmas.List.Folds.{sum_by-replicate}
 use Rattle.std.specs.Prelude.{IfSome, option_map, unwrap_or}
@@ -9,7 +9,7 @@ use Rattle.sts_model.specs.declared.event.Event.{Event}
 use Rattle.sts_model.specs.declared.event.Event.TheVariants as event
 use Rattle.sts_model.specs.declared.record.Frame.{Frame}
 use Rattle.sts_model.specs.Live.{Live}
-use Rattle.sts_model.specs.Run.{after, is_step}
+use Rattle.sts_model.specs.Run.{after, counts, is_step}
 use Rattle.sts_model.specs.World.{task_at}
 use Rattle.laws_runs.specs.Runs.{In}
 use Rattle.laws_live.specs.Reading.{lives_in, with_live_frame}
@@ -17,7 +17,8 @@ use Rattle.laws_live.specs.Run.{live_apply, live_steps_in}
 use Rattle.laws_live.specs.Waiting.{live_can_step}
 use Rattle.sts_machine.specs.Machine.{Seen, Stands}
 use Rattle.sts_machine.specs.Slice.{steps_of}
-use Rattle.sts_pool.specs.Book.{BookSeen, HasBookRoom, IsBook, IsJournal, IsKept, MayBe, OfJournal, Records, book_of, is_free}
+use Rattle.sts_machine.specs.Turned.{turned}
+use Rattle.sts_pool.specs.Book.{BookSeen, HasBookRoom, IsBook, IsJournal, IsKept, MayBe, OfJournal, Records, book_of, is_free, may_turn}
 use Rattle.sts_pool.specs.Journal.{HasRoomFor, Holds, IsRecorded, written}
 use Rattle.sts_pool.specs.Outside.{outside_entries}
 use Rattle.sts_pool.specs.Report.{IsReport}
@@ -111,6 +112,12 @@ pub told : (m : Seen) (j : Journal) (n : ℕ) (out : List ℕ) (k : ℕ) (b : Bo
 told m j n out k b view Q is all =
     subst (λ z. OfJournal z (Q z)) view (of_journal m j n out k (Q (book_of m (written j) n out)) is all)
 
+-- the answer to a step of a task
+pub told_turn : (m : Seen) (j : Journal) (n : ℕ) (out : List ℕ) (k : ℕ) (b : BookSeen) (t : ℕ) (counted : Bool) → book_of m (written j) n out ≡ b → IsKept m j n out k
+    → ((events : List Event) → Stands m events → (counts m.program (after m.program events) (event.Step t) && not (among out t)) ≡ counted) → OfJournal b (λ events. turned counted ≡ turned (may_turn b events t))
+told_turn m j n out k b t counted view is may =
+    told m j n out k b view (λ z events. turned counted ≡ turned (may_turn z events t)) is (λ events known. sym (ap turned (may events known.stands)))
+
 -- an event was recorded
 pub records : (m x : Seen) (j l : Journal) (n c : ℕ) (out left : List ℕ) (more : List Event) (b : BookSeen) → book_of m (written j) n out ≡ b → IsRecorded j l more → x.steps ≡ m.steps + count_by is_step more → c ≡ n + outside_entries more
     → ((events : List Event) → Stands m events → Stands x (events ++ more)) → Records b (book_of x (written l) c left) more
@@ -182,55 +189,46 @@ more_kept m x j l n c out left k more is same recorded entries book =
       room = same_room m x is.journal_room k same is.room;
     }
 
--- a turn of a task that can step and isn't out
-module _ (m x : Seen) (j : Journal) (n : ℕ) (out : List ℕ) (k t : ℕ) (is : IsKept m j n out k) (same : x.program ≡ m.program) (stands : (events : List Event) → Stands m events → Stands x (events ++ event.Step t ∷ [])) (live : x.live ≡ live_apply m.program m.live (event.Step t)) (steps : x.steps ≡ m.steps + live_steps_in m.program m.live (event.Step t)) (can : live_can_step m.program m.live t ≡ true) (absent : among out t ≡ false) where
-  stepped : IsBook x (is.events ++ event.Step t ∷ []) out
-  stepped = stepped_book m x is.events out t is.book is.room.stay stands live steps can absent
+-- the journal has room for these entries, and once they are recorded, the book is kept
+pub record Grows (j : Journal) (more : List Event) (x : Seen) (c : ℕ) (left : List ℕ) (k : ℕ) : Type 0 where
+  pub fits : (count : ℕ) → length more ≡ count → HasRoomFor j count
+  pub kept : (l : Journal) → IsRecorded j l more → IsKept x l c left k
 
-  pub step_fits : HasRoomFor j 1
-  step_fits = more_fits m x j n out out k 1 (event.Step t ∷ []) is same refl stepped
+grows : (m x : Seen) (j : Journal) (n c : ℕ) (out left : List ℕ) (k : ℕ) (more : List Event) (is : IsKept m j n out k) → x.program ≡ m.program → outside_entries (is.events ++ more) ≡ c → IsBook x (is.events ++ more) left → Grows j more x c left k
+grows m x j n c out left k more is same entries book =
+    record {
+      fits = λ count long. more_fits m x j n out left k count more is same long book;
+      kept = λ l recorded. more_kept m x j l n c out left k more is same recorded entries book;
+    }
 
-  pub step_kept : (l : Journal) → IsRecorded j l (event.Step t ∷ []) → IsKept x l n out k
-  step_kept l recorded = more_kept m x j l n n out out k (event.Step t ∷ []) is same recorded (still_entries_one is.events t ∙ is.entries) stepped
+-- by a step of a task that can step and isn't out
+pub step_grows : (m x : Seen) (j : Journal) (n : ℕ) (out : List ℕ) (k t : ℕ) → IsKept m j n out k → x.program ≡ m.program → ((events : List Event) → Stands m events → Stands x (events ++ event.Step t ∷ [])) → x.live ≡ live_apply m.program m.live (event.Step t) → x.steps ≡ m.steps + live_steps_in m.program m.live (event.Step t)
+    → live_can_step m.program m.live t ≡ true → among out t ≡ false → Grows j (event.Step t ∷ []) x n out k
+step_grows m x j n out k t is same stands live steps can absent =
+    grows m x j n n out out k (event.Step t ∷ []) is same (still_entries_one is.events t ∙ is.entries)
+    (stepped_book m x is.events out t is.book is.room.stay stands live steps can absent)
 
--- an event from outside
-module _ (m x : Seen) (j : Journal) (n : ℕ) (out : List ℕ) (k : ℕ) (e : Event) (is : IsKept m j n out k) (few : n + 1 ≤ 4096) (outer : is_step e ≡ false) (same : x.program ≡ m.program) (stands : (events : List Event) → Stands m events → Stands x (events ++ e ∷ [])) (live : x.live ≡ live_apply m.program m.live e) (steps : x.steps ≡ m.steps + live_steps_in m.program m.live e) where
-  entered : IsBook x (is.events ++ e ∷ []) out
-  entered =
-      let entries : outside_entries is.events ≡ n = is.entries in
-      outside_book m x is.events out e is.book is.room.stay stands live steps outer (omega (arith, entries, few))
+-- by an event from outside
+pub event_grows : (m x : Seen) (j : Journal) (n : ℕ) (out : List ℕ) (k : ℕ) (e : Event) → IsKept m j n out k → n + 1 ≤ 4096 → is_step e ≡ false → x.program ≡ m.program → ((events : List Event) → Stands m events → Stands x (events ++ e ∷ [])) → x.live ≡ live_apply m.program m.live e
+    → x.steps ≡ m.steps + live_steps_in m.program m.live e → Grows j (e ∷ []) x (n + 1) out k
+event_grows m x j n out k e is few outer same stands live steps =
+    let more = entries_more is.events (e ∷ []) in
+    let one = one_outside e n outer in
+    let entries : outside_entries is.events ≡ n = is.entries in
+    grows m x j n (n + 1) out out k (e ∷ []) is same (omega (arith, more, one, entries))
+    (outside_book m x is.events out e is.book is.room.stay stands live steps outer (omega (arith, entries, few)))
 
-  pub event_fits : HasRoomFor j 1
-  event_fits = more_fits m x j n out out k 1 (e ∷ []) is same refl entered
+-- by the steps of a task, after which these tasks are out
+steps_grow : (m x : Seen) (j : Journal) (n : ℕ) (out left : List ℕ) (k c t : ℕ) (is : IsKept m j n out k) → x.program ≡ m.program → IsBook x (is.events ++ steps_of c t) left → Grows j (steps_of c t) x n left k
+steps_grow m x j n out left k c t is same book = grows m x j n n out left k (steps_of c t) is same (still_entries is.events c t ∙ is.entries) book
 
-  pub event_kept : (l : Journal) → IsRecorded j l (e ∷ []) → IsKept x l (n + 1) out k
-  event_kept l recorded =
-      let more = entries_more is.events (e ∷ []) in
-      let one = one_outside e n outer in
-      let entries : outside_entries is.events ≡ n = is.entries in
-      more_kept m x j l n (n + 1) out out k (e ∷ []) is same recorded (omega (arith, more, one, entries)) entered
+-- by a slice that came back
+pub back_grows : (m x : Seen) (j : Journal) (n : ℕ) (out : List ℕ) (k c t : ℕ) (f : Frame) → IsKept m j n out k → x.program ≡ m.program → ((events : List Event) → Stands m events → Stands x (events ++ steps_of c t)) → x.live ≡ with_live_frame m.live t f → x.steps ≡ m.steps + c → Grows j (steps_of c t) x n (without t out) k
+back_grows m x j n out k c t f is same stands live steps = steps_grow m x j n out (without t out) k c t is same (back_book m x is.events out c t f is.book stands live steps)
 
--- a slice came back
-module _ (m x : Seen) (j : Journal) (n : ℕ) (out : List ℕ) (k c t : ℕ) (f : Frame) (is : IsKept m j n out k) (same : x.program ≡ m.program) (stands : (events : List Event) → Stands m events → Stands x (events ++ steps_of c t)) (live : x.live ≡ with_live_frame m.live t f) (steps : x.steps ≡ m.steps + c) where
-  back : IsBook x (is.events ++ steps_of c t) (without t out)
-  back = back_book m x is.events out c t f is.book stands live steps
-
-  pub back_fits : length (steps_of c t) ≡ c → HasRoomFor j c
-  back_fits long = more_fits m x j n out (without t out) k c (steps_of c t) is same long back
-
-  pub back_kept : (l : Journal) → IsRecorded j l (steps_of c t) → IsKept x l n (without t out) k
-  back_kept l recorded = more_kept m x j l n n out (without t out) k (steps_of c t) is same recorded (still_entries is.events c t ∙ is.entries) back
-
--- local steps in place
-module _ (m x : Seen) (j : Journal) (n : ℕ) (out : List ℕ) (k c t : ℕ) (f : Frame) (is : IsKept m j n out k) (same : x.program ≡ m.program) (stands : (events : List Event) → Stands m events → Stands x (events ++ steps_of c t)) (live : x.live ≡ with_live_frame m.live t f) (steps : x.steps ≡ m.steps + c) where
-  ran : IsBook x (is.events ++ steps_of c t) out
-  ran = ran_book m x is.events out c t f is.book stands live steps
-
-  pub ran_fits : length (steps_of c t) ≡ c → HasRoomFor j c
-  ran_fits long = more_fits m x j n out out k c (steps_of c t) is same long ran
-
-  pub ran_kept : (l : Journal) → IsRecorded j l (steps_of c t) → IsKept x l n out k
-  ran_kept l recorded = more_kept m x j l n n out out k (steps_of c t) is same recorded (still_entries is.events c t ∙ is.entries) ran
+-- by local steps in place
+pub ran_grows : (m x : Seen) (j : Journal) (n : ℕ) (out : List ℕ) (k c t : ℕ) (f : Frame) → IsKept m j n out k → x.program ≡ m.program → ((events : List Event) → Stands m events → Stands x (events ++ steps_of c t)) → x.live ≡ with_live_frame m.live t f → x.steps ≡ m.steps + c → Grows j (steps_of c t) x n out k
+ran_grows m x j n out k c t f is same stands live steps = steps_grow m x j n out out k c t is same (ran_book m x is.events out c t f is.book stands live steps)
 
 -- nothing was recorded
 pub records_none : (b x : BookSeen) → b ≡ x → Records b x []
@@ -259,10 +257,15 @@ out_kept m j n out k t is absent alive =
       room = is.room;
     }
 
--- a task that is free is taken out
+-- a task that is free can step, and isn't out
+pub free_in : (m : Seen) (j : Journal) (n : ℕ) (out : List ℕ) (t : ℕ) (b : BookSeen) → book_of m (written j) n out ≡ b → is_free b t ≡ true → (live_can_step m.program m.live t ≡ true) × (among out t ≡ false)
+free_in m j n out t b view free =
+    free_parts (live_can_step m.program m.live t) out t (subst (λ (x : BookSeen). is_free x t ≡ true) (sym view) free)
+
+-- it is taken out
 pub claimed : (m : Seen) (j : Journal) (n : ℕ) (out : List ℕ) (k t : ℕ) (b : BookSeen) → book_of m (written j) n out ≡ b → IsKept m j n out k → is_free b t ≡ true → IsKept m j n (out ++ t ∷ []) k
 claimed m j n out k t b view is free =
-    let parts = free_parts (live_can_step m.program m.live t) out t (subst (λ (x : BookSeen). is_free x t ≡ true) (sym view) free) in
+    let parts = free_in m j n out t b view free in
     out_kept m j n out k t is parts.1 (lives m.program m.live t parts.0)
 
 pub out_kept_fits : (m : Seen) (j : Journal) (n : ℕ) (out : List ℕ) (k t : ℕ) → IsKept m j n (out ++ t ∷ []) k → length out + 1 ≤ k

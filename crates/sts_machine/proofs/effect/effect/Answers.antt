@@ -15,7 +15,7 @@ use Rattle.sts_machine.specs.Changing.{ends_task, is_quiet, may_wait}
 use Rattle.sts_machine.specs.Room.{HasRoomLeft}
 use Rattle.sts_machine.proofs.Changing.{as_are, changes-quiet, lives_quiet, living, opens, opener_lives, forks, forker_lives, forker_stands, binds, binder_lives, unbinds, unbinder_lives, ends, ended_dead, none_bound}
 use Rattle.sts_machine.proofs.Closing.{closes, closer_lives}
-use Rattle.sts_machine.proofs.Fine.{scope_at, fork_own, close_stands, close_entry}
+use Rattle.sts_machine.proofs.Fine.{fork_room, close_stands, close_entry}
 use Rattle.sts_machine.proofs.Quiet.{quiet-effect}
 use Rattle.sts_machine.proofs.Stood.{stands_born}
 use Rattle.sts_machine.proofs.effect.effect.Goals as goal
@@ -53,10 +53,8 @@ returns-in-Fork-clause-rest c =
     let u = unseen_of m in
     let t = c.args.t in
     let p = c.args.program.now in
-    let fine = subst (IsLiveFine p v t (frame_of m t)) c.in-Fork.is c.requires.fine in
-    let room = subst (HasRoomLeft u (frame_of m t)) c.in-Fork.is c.requires.room in
-    let own = fork_own p v t c.in-Fork.slot c.requires.lives c.requires.order c.in-Fork.function c.in-Fork.handle fine in
-    let left = room (scope_at v t c.in-Fork.slot) own in
+    let left = fork_room p v t c.in-Fork.slot c.requires.lives c.requires.order u c.in-Fork.function c.in-Fork.handle c.args.instr.now
+    c.in-Fork.is c.requires.fine c.requires.room in
     let q = c.fork.ensures.unseen in
     as_are v _ _ u _ _ t c.fork.ensures.live q.1
     (forks p v u t c.named-s.result c.in-Fork.function _ (u.task_keys ++ q.0 ∷ []) c.requires.lives (stands_born m) left.0 left.1)

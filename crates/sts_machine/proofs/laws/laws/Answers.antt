@@ -2,9 +2,8 @@ use Rattle.std.proofs.Common.{◌≡◌, None, subst}
 use Rattle.sts_code.specs.Checks.{program_fault}
 use Rattle.sts_code.specs.Program.{Program}
 use Rattle.laws_accepted.proofs.RangeLemmas.{some_function}
-use Rattle.sts_verify.proofs.BudgetLemmas.{budget_of-one}
-use Rattle.laws_accepted.specs.Accepted.{main_of}
 use Rattle.sts_machine.proofs.Budgets.{few_tasks, some_task}
+use Rattle.sts_machine.proofs.MainLemmas.{main_budget}
 use Rattle.sts_machine.proofs.laws.laws.Goals as goal
 
 pub returns-clause-some : goal.returns-clause-some
@@ -26,11 +25,5 @@ returns-clause-laws c =
       order = c.seen_in_order.ensures p;
       room = c.views_have_room.ensures;
       limits = c.limits_hold.ensures;
-      main =
-          record {
-            budget = c.every_run.result;
-            printed = c.every_run.ensures.printed;
-            alone = λ b is. budget_of-one p (main_of p) b c.every_run.result is c.every_run.ensures.printed;
-            runs_well = c.every_run.ensures.runs_well;
-          };
+      main = main_budget p c.every_run.result c.every_run.ensures.printed c.every_run.ensures.runs_well;
     }

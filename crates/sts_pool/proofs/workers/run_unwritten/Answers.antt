@@ -1,6 +1,6 @@
 use Rattle.std.proofs.Common.{◌∙◌}
 use Rattle.std.proofs.lemmas.Result.{IfOk-weaker}
-use Rattle.sts_pool.proofs.Asking.{ended_given, if_unfinished, unfinished_given}
+use Rattle.sts_pool.proofs.Asking.{ended_given, error_given}
 use Rattle.sts_pool.proofs.workers.run_unwritten.Goals as goal
 
 pub returns-clause-ending : goal.returns-clause-ending
@@ -19,6 +19,4 @@ pub returns-clause-unfinished : goal.returns-clause-unfinished
 returns-clause-unfinished g c =
     let left = c.in_ok-left in
     let ours = left.ensures.program ∙ c.in-Ok-with_journal.ensures.program in
-    if_unfinished c.ending.result _ _
-    (unfinished_given g.O.Outside.gives c.args.outside left.left.book c.args.verified.now ours left.ensures.given)
-    c.ending.ensures.unfinished
+    error_given g.O.Outside.gives c.args.outside left.left.book c.args.verified.now c.ending.result ours left.ensures.given c.ending.ensures.unfinished

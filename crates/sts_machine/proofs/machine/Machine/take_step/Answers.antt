@@ -1,4 +1,5 @@
-use Rattle.std.proofs.Common.{◌≡◌, ◌+◌, true, refl, sym, ◌∙◌, ap, subst, arith, pos}
+use Rattle.std.proofs.Common.{◌≡◌, ◌+◌, true, Some, get_or, refl, sym, ◌∙◌, ap, subst, arith, pos}
+use Rattle.sts_code.specs.declared.instr.Instr.{Instr}
 use Rattle.sts_code.specs.declared.instr.Instr.TheVariants.{Push}
 use Rattle.sts_model.specs.declared.event.Event.TheVariants as event
 use Rattle.sts_model.specs.World.{code, instr_at}
@@ -9,53 +10,58 @@ use Rattle.laws_live.specs.Order.{InOrder}
 use Rattle.sts_machine.specs.Machine.{Seen}
 use Rattle.sts_machine.proofs.Turning.{asked, has_function, within, at_hand, stepped, one_step, ordered, ordered_after, next, fine, has_room, few_steps, moved}
 use Rattle.sts_machine.proofs.machine.Machine.take_step.Goals as goal
+use Rattle.sts_machine.proofs.machine.Machine.take_step.Goals.{After-program-program, After-code_there-code, After-perform-can_step}
+
+-- the task can step, so it has a next instruction
+can : (c : After-program-program) → live_can_step c.self.inside.verified.now (live_of c.self.inside.store) c.args.t ≡ true
+can c = asked _ _ (event.Step c.args.t) (event.Step c.args.t) c.self.view_is refl c.requires
+
+there : (c : After-program-program) → (i : Instr) × (instr_at c.self.inside.verified.now (frame_of c.self.inside.store c.args.t) ≡ Some i)
+there c = next c.self.inside.verified.now c.self.inside.store c.self.inside.steps c.self.invariant c.args.t (can c)
+
+-- it is the one that is read
+here : (c : After-code_there-code) → instr_at c.self.inside.verified.now (frame_of c.self.inside.store c.args.t) ≡ Some (get_or c.code_there-code.result.now c.frame-frame.result.now.pc (Push (pos 0)))
+here c =
+    at_hand c.self.inside.verified.now _ (frame_of c.self.inside.store c.args.t) _ _ c.program-program.ensures.value c.frame-frame.ensures
+    c.code_there-code.ensures.value (there (goal.at.After-code_there-code c).After-program-program) (Push (pos 0))
+
+-- what the step does to the view
+live : (c : After-perform-can_step) → live_of c.perform-can_step.new.store ≡ live_apply c.self.inside.verified.now (live_of c.self.inside.store) (event.Step c.args.t)
+live c =
+    let known = goal.at.After-perform-can_step c in
+    (rw c.program-program.ensures.value at c.perform-can_step.ensures.live)
+    ∙ sym (stepped c.self.inside.verified.now (live_of c.self.inside.store) c.args.t _ (can known.After-program-program) (here known.After-code_there-code))
 
 pub code_there-code-requires : goal.code_there-code-requires
 code_there-code-requires c =
-    let p = c.self.inside.verified.now in
-    let m = c.self.inside.store in
-    let can : live_can_step p (live_of m) c.args.t ≡ true = asked _ _ (event.Step c.args.t) (event.Step c.args.t) c.self.view_is refl c.requires in
-    let i = next p m c.self.inside.steps c.self.invariant c.args.t can in
-    has_function p _ (frame_of m c.args.t) _ c.program-program.ensures.value c.frame-frame.ensures i
+    has_function c.self.inside.verified.now _ (frame_of c.self.inside.store c.args.t) _ c.program-program.ensures.value c.frame-frame.ensures
+    (there (goal.at.code_there-code-requires c).After-program-program)
 
 pub bounds-code-frame : goal.bounds-code-frame
 bounds-code-frame c =
-    let p = c.self.inside.verified.now in
-    let m = c.self.inside.store in
-    let can : live_can_step p (live_of m) c.args.t ≡ true = asked _ _ (event.Step c.args.t) (event.Step c.args.t) c.self.view_is refl c.requires in
-    let i = next p m c.self.inside.steps c.self.invariant c.args.t can in
-    within p _ (frame_of m c.args.t) _ _ c.program-program.ensures.value c.frame-frame.ensures c.code_there-code.ensures.value i
+    within c.self.inside.verified.now _ (frame_of c.self.inside.store c.args.t) _ _ c.program-program.ensures.value c.frame-frame.ensures
+    c.code_there-code.ensures.value (there (goal.at.bounds-code-frame c).After-program-program)
 
 pub perform-can_step-requires-clause-at : goal.perform-can_step-requires-clause-at
 perform-can_step-requires-clause-at c =
-    let p = c.self.inside.verified.now in
-    let m = c.self.inside.store in
-    let same = c.program-program.ensures.value in
-    let can : live_can_step p (live_of m) c.args.t ≡ true = asked _ _ (event.Step c.args.t) (event.Step c.args.t) c.self.view_is refl c.requires in
-    let i = next p m c.self.inside.steps c.self.invariant c.args.t can in
-    ap (λ r. instr_at r (frame_of m c.args.t)) same
-    ∙ at_hand p _ (frame_of m c.args.t) _ _ same c.frame-frame.ensures c.code_there-code.ensures.value i (Push (pos 0))
+    ap (λ r. instr_at r (frame_of c.self.inside.store c.args.t)) c.program-program.ensures.value
+    ∙ here (goal.at.perform-can_step-requires-clause-at c).After-code_there-code
 
 pub perform-can_step-requires-clause-own_code : goal.perform-can_step-requires-clause-own_code
 perform-can_step-requires-clause-own_code c = c.code_there-code.ensures.value ∙ ap (code c.program-program.result.now) c.frame-frame.ensures
 
 pub perform-can_step-requires-clause-fine : goal.perform-can_step-requires-clause-fine
 perform-can_step-requires-clause-fine c =
-    let p = c.self.inside.verified.now in
-    let m = c.self.inside.store in
-    let can : live_can_step p (live_of m) c.args.t ≡ true = asked _ _ (event.Step c.args.t) (event.Step c.args.t) c.self.view_is refl c.requires in
-    let i = next p m c.self.inside.steps c.self.invariant c.args.t can in
-    let at = at_hand p _ (frame_of m c.args.t) _ _ c.program-program.ensures.value c.frame-frame.ensures c.code_there-code.ensures.value i (Push (pos 0)) in
-    rw c.program-program.ensures.value (fine p m c.self.inside.steps c.self.invariant c.args.t _ can at)
+    let known = goal.at.perform-can_step-requires-clause-fine c in
+    rw c.program-program.ensures.value
+    (fine c.self.inside.verified.now c.self.inside.store c.self.inside.steps c.self.invariant c.args.t _ (can known.After-program-program)
+    (here known.After-code_there-code))
 
 pub perform-can_step-requires-clause-room : goal.perform-can_step-requires-clause-room
 perform-can_step-requires-clause-room c =
-    let p = c.self.inside.verified.now in
-    let m = c.self.inside.store in
-    let can : live_can_step p (live_of m) c.args.t ≡ true = asked _ _ (event.Step c.args.t) (event.Step c.args.t) c.self.view_is refl c.requires in
-    let i = next p m c.self.inside.steps c.self.invariant c.args.t can in
-    let at = at_hand p _ (frame_of m c.args.t) _ _ c.program-program.ensures.value c.frame-frame.ensures c.code_there-code.ensures.value i (Push (pos 0)) in
-    has_room p m c.self.inside.steps c.self.invariant c.args.t _ can at
+    let known = goal.at.perform-can_step-requires-clause-room c in
+    has_room c.self.inside.verified.now c.self.inside.store c.self.inside.steps c.self.invariant c.args.t _ (can known.After-program-program)
+    (here known.After-code_there-code)
 
 pub perform-can_step-requires-clause-order : goal.perform-can_step-requires-clause-order
 perform-can_step-requires-clause-order c = ordered c.self.inside.verified.now c.self.inside.store c.self.inside.steps c.self.invariant
@@ -64,13 +70,10 @@ pub perform-can_step-requires-clause-after : goal.perform-can_step-requires-clau
 perform-can_step-requires-clause-after c =
     let p = c.self.inside.verified.now in
     let m = c.self.inside.store in
-    let t = c.args.t in
-    let can : live_can_step p (live_of m) t ≡ true = asked _ _ (event.Step c.args.t) (event.Step c.args.t) c.self.view_is refl c.requires in
-    let i = next p m c.self.inside.steps c.self.invariant t can in
-    let at = at_hand p _ (frame_of m t) _ _ c.program-program.ensures.value c.frame-frame.ensures c.code_there-code.ensures.value i (Push (pos 0)) in
+    let known = goal.at.perform-can_step-requires-clause-after c in
     rw c.program-program.ensures.value
-    (subst InOrder (stepped p (live_of m) t _ can at)
-    (ordered_after p m c.self.inside.steps c.self.invariant (event.Step t)))
+    (subst InOrder (stepped p (live_of m) c.args.t _ (can known.After-program-program) (here known.After-code_there-code))
+    (ordered_after p m c.self.inside.steps c.self.invariant (event.Step c.args.t)))
 
 pub overflow_add-self : goal.overflow_add-self
 overflow_add-self c =
@@ -80,28 +83,16 @@ overflow_add-self c =
 pub invariant_of-self : goal.invariant_of-self
 invariant_of-self c =
     let p = c.self.inside.verified.now in
-    let m = c.self.inside.store in
-    let t = c.args.t in
-    let same = c.program-program.ensures.value in
-    let can : live_can_step p (live_of m) t ≡ true = asked _ _ (event.Step c.args.t) (event.Step c.args.t) c.self.view_is refl c.requires in
-    let i = next p m c.self.inside.steps c.self.invariant t can in
-    let at = at_hand p _ (frame_of m t) _ _ same c.frame-frame.ensures c.code_there-code.ensures.value i (Push (pos 0)) in
-    moved p m c.self.inside.steps c.self.invariant (event.Step t) c.perform-can_step.new.store (c.self.inside.steps + 1)
-    ((rw same at c.perform-can_step.ensures.live) ∙ sym (stepped p (live_of m) t _ can at))
-    (sym (ap (λ k. c.self.inside.steps + k) (one_step p (live_of m) t can)))
-    (rw same at c.perform-can_step.ensures.standing) c.perform-can_step.ensures.room
+    let n = c.self.inside.steps in
+    let known = goal.at.invariant_of-self c in
+    let one = one_step p (live_of c.self.inside.store) c.args.t (can known.After-program-program) in
+    moved p c.self.inside.store n c.self.invariant (event.Step c.args.t) c.perform-can_step.new.store (n + 1)
+    (live known.After-perform-can_step) (sym (ap (λ k. n + k) one))
+    (rw c.program-program.ensures.value at c.perform-can_step.ensures.standing) c.perform-can_step.ensures.room
 
 pub returns-clause-live : goal.returns-clause-live
 returns-clause-live c =
-    let p = c.self.inside.verified.now in
-    let m = c.self.inside.store in
-    let t = c.args.t in
-    let same = c.program-program.ensures.value in
-    let can : live_can_step p (live_of m) t ≡ true = asked _ _ (event.Step c.args.t) (event.Step c.args.t) c.self.view_is refl c.requires in
-    let i = next p m c.self.inside.steps c.self.invariant t can in
-    let at = at_hand p _ (frame_of m t) _ _ same c.frame-frame.ensures c.code_there-code.ensures.value i (Push (pos 0)) in
-    (rw same at c.perform-can_step.ensures.live) ∙ sym (stepped p (live_of m) t _ can at)
-    ∙ ap (λ (s : Seen). live_apply s.program s.live (event.Step t)) c.self.view_is
+    live (goal.at.returns-clause-live c).After-perform-can_step ∙ ap (λ (s : Seen). live_apply s.program s.live (event.Step c.args.t)) c.self.view_is
 
 pub returns-clause-steps : goal.returns-clause-steps
 returns-clause-steps c = ap (λ (s : Seen). s.steps + 1) c.self.view_is

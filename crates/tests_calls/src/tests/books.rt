@@ -1,8 +1,8 @@
 //! Two books, act by act: what each answers, and what it has recorded at the end.
 
-use crate::journals::one_by_one;
-use crate::rows::compare;
-use crate::texts::{SEVEN, TIMED, TURNS, accepted};
+use super::journals::one_by_one;
+use super::rows::compare;
+use super::texts::{SEVEN, TIMED, TURNS, accepted};
 use std::alloc::Global;
 use std::process::Abort;
 use sts_machine::Turned::{Idle, Stepped};
@@ -58,31 +58,54 @@ struct Row {
 
 const NOTHING: Record = Record(None, &[]);
 
-/// The calls of a row on its first book alone.
+/// A row of calls on its first book alone.
 macro_rules! alone {
-    ($($act:expr,)*) => { &[$((Which::First, $act),)*] };
+    ($name:expr, $text:expr, [$($act:expr,)*], $record:expr) => {
+        Row {
+            name: $name,
+            texts: ($text, SEVEN),
+            acts: &[$((Which::First, $act),)*],
+            first: $record,
+            second: NOTHING,
+        }
+    };
+}
+
+/// Calls on the first book. Then a slice is out of each book, is given to the other, and is given
+/// back.
+macro_rules! swapped {
+    ($($act:expr),*) => {
+        &[
+            $((Which::First, $act),)*
+            (Which::First, Act::Out(Some(0))),
+            (Which::Second, Act::Out(Some(0))),
+            (Which::First, Act::Strange(false)),
+            (Which::Second, Act::Strange(false)),
+            (Which::First, Act::In(true)),
+            (Which::Second, Act::In(true)),
+        ]
+    };
 }
 
 static ROWS: [Row; 7] = [
-    Row {
-        name: "a full book",
-        texts: (SEVEN, SEVEN),
-        acts: alone![
+    alone!(
+        "a full book",
+        SEVEN,
+        [
             Act::Tells(Interrupt(77), 4096, Some(Idle)),
             Act::Tells(Interrupt(0), 1, None),
             Act::Tells(Expire(0), 1, None),
             Act::Turns(0, 2, Stepped),
         ],
-        first: Record(
+        Record(
             Some(End::Success(7)),
             &[(Interrupt(77), 4096), (Step(0), 2)],
-        ),
-        second: NOTHING,
-    },
-    Row {
-        name: "a task that is out takes an interrupt and no turn",
-        texts: (SEVEN, SEVEN),
-        acts: alone![
+        )
+    ),
+    alone!(
+        "a task that is out takes an interrupt and no turn",
+        SEVEN,
+        [
             Act::Out(Some(0)),
             Act::Out(None),
             Act::Turns(0, 1, Idle),
@@ -92,13 +115,12 @@ static ROWS: [Row; 7] = [
             Act::In(true),
             Act::Turns(0, 1, Stepped),
         ],
-        first: Record(Some(End::Success(7)), &[(Interrupt(0), 1), (Step(0), 2)]),
-        second: NOTHING,
-    },
-    Row {
-        name: "a scope expires while a subtask of it is out",
-        texts: (TIMED, SEVEN),
-        acts: alone![
+        Record(Some(End::Success(7)), &[(Interrupt(0), 1), (Step(0), 2)])
+    ),
+    alone!(
+        "a scope expires while a subtask of it is out",
+        TIMED,
+        [
             Act::Turns(0, 2, Stepped),
             Act::Out(Some(1)),
             Act::Local(9, 1),
@@ -107,16 +129,15 @@ static ROWS: [Row; 7] = [
             Act::Turns(1, 1, Stepped),
             Act::Turns(0, 4, Stepped),
         ],
-        first: Record(
+        Record(
             Some(End::Success(2)),
             &[(Step(0), 2), (Expire(0), 1), (Step(1), 2), (Step(0), 4)],
-        ),
-        second: NOTHING,
-    },
-    Row {
-        name: "a task that waits, and tasks and scopes unborn, ended and closed",
-        texts: (TIMED, SEVEN),
-        acts: alone![
+        )
+    ),
+    alone!(
+        "a task that waits, and tasks and scopes unborn, ended and closed",
+        TIMED,
+        [
             Act::Turns(0, 2, Stepped),
             Act::Turns(0, 1, Idle),
             Act::Turns(9, 1, Idle),
@@ -131,7 +152,7 @@ static ROWS: [Row; 7] = [
             Act::Tells(Interrupt(0), 1, Some(Idle)),
             Act::Turns(0, 1, Idle),
         ],
-        first: Record(
+        Record(
             Some(End::Success(1)),
             &[
                 (Step(0), 2),
@@ -144,9 +165,8 @@ static ROWS: [Row; 7] = [
                 (Step(0), 2),
                 (Interrupt(0), 1),
             ],
-        ),
-        second: NOTHING,
-    },
+        )
+    ),
     Row {
         name: "a slice of the other book is taken where the task is out at the same frame",
         texts: (SEVEN, SEVEN),
@@ -167,29 +187,14 @@ static ROWS: [Row; 7] = [
     Row {
         name: "a slice of another program",
         texts: (SEVEN, TURNS),
-        acts: &[
-            (Which::First, Act::Out(Some(0))),
-            (Which::Second, Act::Out(Some(0))),
-            (Which::First, Act::Strange(false)),
-            (Which::Second, Act::Strange(false)),
-            (Which::First, Act::In(true)),
-            (Which::Second, Act::In(true)),
-        ],
+        acts: swapped![],
         first: NOTHING,
         second: NOTHING,
     },
     Row {
         name: "a slice at another frame of the same program",
         texts: (SEVEN, SEVEN),
-        acts: &[
-            (Which::First, Act::Turns(0, 1, Stepped)),
-            (Which::First, Act::Out(Some(0))),
-            (Which::Second, Act::Out(Some(0))),
-            (Which::First, Act::Strange(false)),
-            (Which::Second, Act::Strange(false)),
-            (Which::First, Act::In(true)),
-            (Which::Second, Act::In(true)),
-        ],
+        acts: swapped![Act::Turns(0, 1, Stepped)],
         first: Record(None, &[(Step(0), 1)]),
         second: NOTHING,
     },

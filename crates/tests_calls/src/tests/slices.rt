@@ -2,10 +2,10 @@
 
 ghost use Rattle.std.specs.Prelude.{IfSome};
 
-use crate::outsides::{Open, Weather};
-use crate::paths::{PATHS, ending};
-use crate::rows::compare;
-use crate::texts::{LATE, LOOPS, MANY_ROWS, SHORT_THEN_LONG};
+use super::outsides::{Open, Weather};
+use super::paths::{PATHS, ending};
+use super::rows::compare;
+use super::texts::{LATE, LOOPS, MANY_ROWS, SHORT_THEN_LONG};
 use std::sync::atomic::{AtomicU64, Ordering};
 use std::time::CpuClock;
 use sts_model::{End, Event};
@@ -72,6 +72,16 @@ struct Both {
     missed: AtomicU64,
 }
 
+impl Both {
+    fn new() -> Both {
+        Both {
+            first: AtomicU64::new(0),
+            second: AtomicU64::new(0),
+            missed: AtomicU64::new(0),
+        }
+    }
+}
+
 impl Gate for Both {
     fn enter(&self, _worker: u32, task: u32) {
         if task == 0 || task > 2 {
@@ -93,11 +103,7 @@ impl Gate for Both {
 #[test]
 fn two_slices_are_out_at_once(rt: HostRuntime) {
     for path in PATHS {
-        let both = Both {
-            first: AtomicU64::new(0),
-            second: AtomicU64::new(0),
-            missed: AtomicU64::new(0),
-        };
+        let both = Both::new();
         let ended = ending(&rt, rt.alloc(), path, LOOPS, 2, &both, Weather::Calm);
         let first = both.first.load(Ordering::SeqCst);
         let second = both.second.load(Ordering::SeqCst);
@@ -119,6 +125,17 @@ struct Return {
     entries: AtomicU64,
     has_other: AtomicU64,
     missed: AtomicU64,
+}
+
+impl Return {
+    fn new() -> Return {
+        Return {
+            first: AtomicU64::new(0),
+            entries: AtomicU64::new(0),
+            has_other: AtomicU64::new(0),
+            missed: AtomicU64::new(0),
+        }
+    }
 }
 
 impl Gate for Return {
@@ -145,12 +162,7 @@ impl Gate for Return {
 #[test]
 fn workers_come_back_to_long_subtasks(rt: HostRuntime) {
     for path in PATHS {
-        let back = Return {
-            first: AtomicU64::new(0),
-            entries: AtomicU64::new(0),
-            has_other: AtomicU64::new(0),
-            missed: AtomicU64::new(0),
-        };
+        let back = Return::new();
         let ended = ending(
             &rt,
             rt.alloc(),

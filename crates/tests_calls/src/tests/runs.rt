@@ -1,14 +1,16 @@
 //! Runs with several workers, with a journal and with none.
 
-use crate::outsides::{Open, Weather};
-use crate::paths::{Path, ending};
-use crate::rows::compare;
-use crate::texts::{BOUND, DOUBLES, LATE, LOOPED, ROWS, SEVEN, THOUSAND, TIMED, TURNS};
+use super::outsides::Weather::{Calm, Due, Gust, Storm};
+use super::outsides::{Open, Weather};
+use super::paths::{Path, ending};
+use super::rows::compare;
+use super::texts::{BOUND, DOUBLES, LATE, LOOPED, ROWS, SEVEN, THOUSAND, TIMED, TURNS};
 use std::alloc::Global;
 use std::process::Abort;
 use std::sync::Wait;
 use std::thread::Threads;
 use sts_model::End;
+use sts_model::End::{Failed, Success};
 
 /// The numbers of workers with which each text runs.
 static WORKERS: [u32; 4] = [1, 2, 8, 16];
@@ -18,73 +20,67 @@ static WORKERS: [u32; 4] = [1, 2, 8, 16];
 struct Run(&'static str, Weather, u64, &'static [End], Option<u64>);
 
 static RUNS: [Run; 14] = [
-    Run(SEVEN, Weather::Calm, 0, &[End::Success(7)], Some(2)),
-    Run(DOUBLES, Weather::Calm, 0, &[End::Success(42)], Some(20)),
-    Run(THOUSAND, Weather::Calm, 0, &[End::Success(5)], Some(8004)),
-    Run(BOUND, Weather::Calm, 0, &[End::Success(6)], Some(10)),
-    Run(LOOPED, Weather::Calm, 0, &[End::Success(1)], Some(15)),
-    Run(ROWS, Weather::Calm, 0, &[End::Success(1)], Some(30_367)),
-    Run(TURNS, Weather::Calm, 0, &[End::Success(0)], Some(500_034)),
+    Run(SEVEN, Calm, 0, &[Success(7)], Some(2)),
+    Run(DOUBLES, Calm, 0, &[Success(42)], Some(20)),
+    Run(THOUSAND, Calm, 0, &[Success(5)], Some(8004)),
+    Run(BOUND, Calm, 0, &[Success(6)], Some(10)),
+    Run(LOOPED, Calm, 0, &[Success(1)], Some(15)),
+    Run(ROWS, Calm, 0, &[Success(1)], Some(30_367)),
+    Run(TURNS, Calm, 0, &[Success(0)], Some(500_034)),
     Run(
         TIMED,
-        Weather::Due {
+        Due {
             idle: 0,
             at: 1,
             scope: 0,
         },
         1,
-        &[End::Success(2)],
+        &[Success(2)],
         Some(6),
     ),
     // five entries that are idle and the first step are six
     Run(
         TIMED,
-        Weather::Due {
+        Due {
             idle: 5,
             at: 6,
             scope: 0,
         },
         6,
-        &[End::Success(2)],
+        &[Success(2)],
         Some(6),
     ),
     // it comes while the subtask makes its own steps; a close that waits takes one step more
     Run(
         LATE,
-        Weather::Due {
+        Due {
             idle: 0,
             at: 70_000,
             scope: 0,
         },
         1,
-        &[End::Success(2)],
+        &[Success(2)],
         None,
     ),
-    Run(TIMED, Weather::Gust { task: 0 }, 1, &[End::Failed(0)], None),
+    Run(TIMED, Gust { task: 0 }, 1, &[Failed(0)], None),
     // events that are due when the root ends are recorded after its last step
     Run(
         SEVEN,
-        Weather::Due {
+        Due {
             idle: 0,
             at: 2,
             scope: 0,
         },
         1,
-        &[End::Success(7)],
+        &[Success(7)],
         Some(2),
     ),
+    Run(DOUBLES, Storm { task: 77 }, 4096, &[Success(42)], Some(20)),
     Run(
         DOUBLES,
-        Weather::Storm { task: 77 },
+        Storm { task: 0 },
         4096,
-        &[End::Success(42)],
-        Some(20),
-    ),
-    Run(
-        DOUBLES,
-        Weather::Storm { task: 0 },
-        4096,
-        &[End::Success(42), End::Failed(0)],
+        &[Success(42), Failed(0)],
         None,
     ),
 ];

@@ -2,10 +2,10 @@
 
 ghost use Rattle.std.specs.Prelude.{IfSome};
 
-use crate::outsides::Weather;
-use crate::paths::{PATHS, Path, count, ending};
-use crate::rows::compare;
-use crate::texts::{DOUBLES, GREETED, LOOP, TIMED, WIDE, accepted};
+use super::outsides::Weather;
+use super::paths::{PATHS, Path, count, ending};
+use super::rows::compare;
+use super::texts::{DOUBLES, GREETED, LOOP, TIMED, WIDE, accepted};
 use std::alloc::Global;
 use std::process::Abort;
 use std::sync::Wait;
@@ -26,6 +26,13 @@ struct Meeting {
 }
 
 impl Meeting {
+    fn of(workers: u32) -> Meeting {
+        Meeting {
+            workers,
+            entered: AtomicU64::new(0),
+        }
+    }
+
     fn has_met(&self) -> bool {
         self.entered.load(Ordering::SeqCst).count_ones() >= self.workers
     }
@@ -57,6 +64,18 @@ struct Herald<'g> {
     told: bool,
 }
 
+impl<'g> Herald<'g> {
+    fn new(meeting: &'g Meeting, before: u32, after: u32) -> Herald<'g> {
+        Herald {
+            meeting,
+            before,
+            after,
+            asked: false,
+            told: false,
+        }
+    }
+}
+
 impl Outside for Herald<'_> {
     ghost use Rattle.std.specs.Prelude.{⊤};
 
@@ -86,17 +105,8 @@ impl Outside for Herald<'_> {
 #[test]
 fn two_workers_meet(rt: HostRuntime) {
     let verified = accepted(&rt, rt.alloc(), DOUBLES);
-    let meeting = Meeting {
-        workers: 2,
-        entered: AtomicU64::new(0),
-    };
-    let herald = Herald {
-        meeting: &meeting,
-        before: 76,
-        after: 77,
-        asked: false,
-        told: false,
-    };
+    let meeting = Meeting::of(2);
+    let herald = Herald::new(&meeting, 76, 77);
     let report = run(&rt, rt.alloc(), &verified, 2, &meeting, herald).expect(&rt, "a run");
     let journal = report.journal.as_slice();
     let came = [
@@ -111,17 +121,8 @@ fn two_workers_meet(rt: HostRuntime) {
 #[test]
 fn two_workers_meet_and_the_end_tells_of_it(rt: HostRuntime) {
     for path in PATHS {
-        let meeting = Meeting {
-            workers: 2,
-            entered: AtomicU64::new(0),
-        };
-        let herald = Herald {
-            meeting: &meeting,
-            before: 0,
-            after: 0,
-            asked: false,
-            told: false,
-        };
+        let meeting = Meeting::of(2);
+        let herald = Herald::new(&meeting, 0, 0);
         let ended = ending(&rt, rt.alloc(), path, GREETED, 2, &meeting, herald);
         let found = (meeting.has_met(), ended.end);
         compare(&rt, path, found, (true, End::Success(11)));
@@ -133,10 +134,7 @@ fn two_workers_meet_and_the_end_tells_of_it(rt: HostRuntime) {
 fn all_workers_meet(rt: HostRuntime) {
     for path in PATHS {
         for workers in [1, 2, 3, 5, 16] {
-            let meeting = Meeting {
-                workers,
-                entered: AtomicU64::new(0),
-            };
+            let meeting = Meeting::of(workers);
             let ended = ending(
                 &rt,
                 rt.alloc(),

@@ -2,10 +2,10 @@
 
 ghost use Rattle.std.specs.Prelude.{IfSome};
 
-use crate::outsides::Open;
-use crate::paths::{Outcome, PATHS, Path, ending};
-use crate::rows::compare;
-use crate::texts::SEVEN;
+use super::outsides::Open;
+use super::paths::{Outcome, PATHS, Path, ending};
+use super::rows::compare;
+use super::texts::SEVEN;
 use std::alloc::Global;
 use std::process::Abort;
 use std::sync::Wait;

@@ -1,9 +1,9 @@
 //! A storm of interrupts, counted in the journal and at its source.
 
-use crate::outsides::{Counted, Open, Weather};
-use crate::paths::{Outcome, PATHS, ending};
-use crate::rows::compare;
-use crate::texts::DOUBLES;
+use super::outsides::{Counted, Open, Weather};
+use super::paths::{Outcome, PATHS, ending};
+use super::rows::compare;
+use super::texts::DOUBLES;
 use std::sync::atomic::{AtomicU64, Ordering};
 use sts_model::End;
 

@@ -1,6 +1,6 @@
 //! The two ways of a run: with its journal written, and with none.
 
-use crate::texts::accepted;
+use super::texts::accepted;
 use std::alloc::Global;
 use std::process::Abort;
 use std::sync::Wait;

@@ -1,6 +1,6 @@
 //! The greatest number of open entries in a layout.
 
-use crate::texts::THOUSAND;
+use super::texts::THOUSAND;
 use sts_asm::assemble;
 use sts_budget::lay_out;
 use sts_types::typed_function;
