@@ -6,10 +6,10 @@ ghost use Rattle.sts_code.specs.declared.limits.TheConstants.{MAX_OPERANDS};
 ghost use Rattle.sts_model.specs.Effect as effect;
 ghost use Rattle.sts_model.specs.Living as living;
 ghost use Rattle.sts_model.specs.Local as frames;
-ghost use Rattle.sts_model.specs.Misuse as misuse;
-ghost use Rattle.sts_model.specs.Misuse.{IsFine};
+ghost use Rattle.sts_model.specs.Misuse.{misuse, slot};
 ghost use Rattle.sts_model.specs.Run as run;
 ghost use Rattle.sts_model.specs.World as def;
+ghost use Rattle.sts_plain.specs.Next.{IsNext};
 
 use std::alloc::{AllocError, Global};
 use sts_code::{Instr, Program};
@@ -24,7 +24,7 @@ use sts_world::{Records, World};
 fn at_slot(records: &Records, t: u32, x: u8) -> u32
     requires born { t < length records.now.tasks }
     requires lives { living.lives (def.task_at records.now t) ≡ true }
-    ensures { result ≡ effect.named (misuse.slot (def.task_at records.now t).frame x) }
+    ensures { result ≡ effect.named (slot (def.task_at records.now t).frame x) }
 {
     named(records.frame(t), x)
 }
@@ -61,7 +61,7 @@ fn push_value(world: &mut World, t: u32, n: usize, value: i64)
 pub fn act(world: &mut World, alloc: Global, program: &Program, t: u32) -> Result<(), AllocError>
     requires born { t < length world.old.tasks }
     requires lives { living.lives (def.task_at world.old t) ≡ true }
-    requires fine { misuse.misuse program.now world.old t ≡ None }
+    requires fine { misuse program.now world.old t ≡ None }
     ensures ok { OnOk result (world.new ≡ run.perform program.now world.old t
         (def.task_at world.old t).frame (def.instr_at program.now
         (def.task_at world.old t).frame)) }
@@ -82,12 +82,7 @@ fn perform(
     t: u32,
     instr: Instr,
 ) -> Result<(), AllocError>
-    requires born { t < length world.old.tasks }
-    requires lives { living.lives (def.task_at world.old t) ≡ true }
-    requires at { def.instr_at program.now (def.task_at world.old t).frame ≡ Some instr }
-    requires more { (def.task_at world.old t).frame.pc + 1 < 2 ^ 32 }
-    requires short { length (def.code program.now (def.task_at world.old t).frame) < 2 ^ 32 }
-    requires fine { IsFine program.now world.old t (def.task_at world.old t).frame instr }
+    requires { IsNext program.now world.old t instr }
     ensures ok { OnOk result (world.new ≡ effect.effect program.now world.old t
         (def.task_at world.old t).frame instr) }
     ensures err { OnErr result (world.new ≡ world.old) }
@@ -123,12 +118,7 @@ fn perform(
 
 /// Does an instruction that takes no memory.
 fn change(world: &mut World, program: &Program, t: u32, instr: Instr)
-    requires born { t < length world.old.tasks }
-    requires lives { living.lives (def.task_at world.old t) ≡ true }
-    requires at { def.instr_at program.now (def.task_at world.old t).frame ≡ Some instr }
-    requires more { (def.task_at world.old t).frame.pc + 1 < 2 ^ 32 }
-    requires short { length (def.code program.now (def.task_at world.old t).frame) < 2 ^ 32 }
-    requires fine { IsFine program.now world.old t (def.task_at world.old t).frame instr }
+    requires next { IsNext program.now world.old t instr }
     requires fixed { effect.takes_memory instr ≡ false }
     ensures { world.new ≡ effect.effect program.now world.old t
         (def.task_at world.old t).frame instr }

@@ -1,15 +1,20 @@
 -- Environments that share their bindings, after more links are added.
 use Rattle.std.proofs.Common.{◌≡◌, ◌≢◌, ℕ, zero, suc, ◌<◌, ◌≤◌, List}
 use Rattle.std.proofs.Common.{[], ◌∷◌, ◌++◌, length, Bool, true, false, Option, Some, None, eqb}
-use Rattle.std.proofs.Common.{refl, ap, sym, ◌∙◌, arith}
+use Rattle.std.proofs.Common.{refl, ap, sym, ◌∙◌, arith, get_or}
 use Rattle.std.specs.Prelude.{is_none}
 use Rattle.std.proofs.Math.Seq.{get_or-append_seam}
 use Rattle.std.proofs.lemmas.Bool.{eqb-true, eqb-false, eq-eqb, ne_eqb, ltb-true, lt-ltb}
-use Rattle.std.proofs.lemmas.List.{get_or_append_left, length-append}
+use Rattle.std.proofs.Common.{append_assoc}
+use Rattle.std.proofs.lemmas.List.{get_or_append_left, get_or_default, length-append}
 use Rattle.sts_model.specs.declared.record.Bound.{Bound}
 use Rattle.sts_model.specs.Environment.{read}
 use Rattle.sts_world.specs.declared.chains.BindingLink.{BindingLink}
 use Rattle.sts_world.specs.Chains.{chain, link_at, no_link, bindings_of, is_within, Grows}
+
+-- the link that was read
+pub read_link : (links : List BindingLink) (place : ℕ) (l : BindingLink) → place < length links → l ≡ get_or links place l → l ≡ link_at links place
+read_link links place l bound is = is ∙ get_or_default links place l no_link bound
 
 pub chain_none : (links : List BindingLink) (n : ℕ) → chain links n None ≡ []
 chain_none links zero = refl
@@ -66,6 +71,27 @@ bindings_put links l place e h = rw e (bindings_last links l h)
 pub bindings_found : (links : List BindingLink) (place : ℕ) (bound : Bound) (behind : Option ℕ) → place < length links → link_at links place ≡ record { bound = bound; behind = behind } → is_within place behind ≡ true → bindings_of links (Some place) ≡ bound ∷ bindings_of links behind
 bindings_found links place bound behind h e older =
     chain_link links (length links) place h ∙ rw (e, chain_within links place (length links) behind older (omega arith)) refl
+
+-- ---- an environment in front of another
+
+pub record Extends (old new : List BindingLink) (front rest : Option ℕ) (bounds : List Bound) : Type 0 where
+  pub within : is_within (length new) front ≡ true
+  pub grows : Grows old new
+  pub list : bindings_of new front ≡ bounds ++ bindings_of old rest
+
+grown : (a b c : List BindingLink) → Grows a b → Grows b c → Grows a c
+grown a b c g h = record { more = g.more ++ h.more; same = h.same ∙ ap (λ (l : List BindingLink). l ++ h.more) g.same ∙ append_assoc a g.more h.more }
+
+pub extends_put : {old self new : List BindingLink} {front rest : Option ℕ} {bounds more : List Bound} (place : ℕ) (b : Bound) → Extends old self front rest bounds → more ≡ b ∷ bounds → place < length new → Grows self new → bindings_of new (Some place) ≡ b ∷ bindings_of self front → Extends old new (Some place) rest more
+extends_put {old} {self} {new} {front} {rest} {bounds} {more} place b e more_is less grows list =
+    record {
+      within = lt-ltb place (length new) less;
+      grows = grown old self new e.grows grows;
+      list = list ∙ ap (λ (l : List Bound). b ∷ l) e.list ∙ ap (λ (l : List Bound). l ++ bindings_of old rest) (sym more_is);
+    }
+
+pub extends_same : {old self : List BindingLink} {front rest : Option ℕ} {bounds more : List Bound} → Extends old self front rest bounds → more ≡ bounds → Extends old self front rest more
+extends_same e same = rw same e
 
 -- ---- reading a key from a link on
 

@@ -153,6 +153,24 @@ fn raise_each(tasks: &mut [TaskRecord], s: u32, births: &[u32])
 
 // ---- births
 
+/// A scope to open, and the task that opens it.
+#[derive(Clone, Copy)]
+pub(crate) struct NewScope {
+    pub(crate) owner: u32,
+    pub(crate) slot: u8,
+    pub(crate) joiner: Joiner,
+    pub(crate) timed: bool,
+}
+
+/// A subtask to make in a scope, and the task that makes it.
+#[derive(Clone, Copy)]
+pub(crate) struct NewTask {
+    pub(crate) forker: u32,
+    pub(crate) scope: u32,
+    pub(crate) function: u32,
+    pub(crate) handle: Option<u8>,
+}
+
 impl Records {
     /// The root task alone.
     ///
@@ -178,37 +196,31 @@ impl Records {
     ///
     /// Memory ran out; the records are unchanged.
     #[tactic(auto, unfolding(sts_model::specs::Effect::open_scope))]
-    pub(crate) fn open_scope(
-        &mut self,
-        alloc: Global,
-        t: u32,
-        slot: u8,
-        joiner: Joiner,
-        timed: bool,
-    ) -> Result<(), AllocError>
-        requires born { t < length self.old.tasks }
-        requires lives { living.lives (def.task_at self.old t) ≡ true }
-        requires more { (def.task_at self.old t).frame.pc + 1 < 2 ^ 32 }
+    pub(crate) fn open_scope(&mut self, alloc: Global, opening: NewScope) -> Result<(), AllocError>
+        requires born { opening.owner < length self.old.tasks }
+        requires lives { living.lives (def.task_at self.old opening.owner) ≡ true }
+        requires more { (def.task_at self.old opening.owner).frame.pc + 1 < 2 ^ 32 }
         requires room { length self.old.scopes < MAX_BIRTHS }
-        requires entries { length (def.task_at self.old t).frame.entries < MAX_ENTRIES }
-        ensures ok { OnOk result (self.new ≡ effect.open_scope self.old t
-            (def.task_at self.old t).frame slot joiner timed) }
+        requires entries { length (def.task_at self.old opening.owner).frame.entries < MAX_ENTRIES }
+        ensures ok { OnOk result (self.new ≡ effect.open_scope self.old opening.owner
+            (def.task_at self.old opening.owner).frame opening.slot opening.joiner opening.timed) }
         ensures err { OnErr result (self.new ≡ self.old) }
     {
+        let owner = opening.owner;
         let s = self.scopes.len() as u32;
-        let rest = front_of(&self.scopes, self.tasks[t as usize].scope());
-        let front = self.tasks[t as usize].environment(&mut self.chains, rest)?;
+        let rest = front_of(&self.scopes, self.tasks[owner as usize].scope());
+        let front = self.tasks[owner as usize].environment(&mut self.chains, rest)?;
         self.scopes.push(ScopeRecord {
-            owner: t,
-            joiner,
-            timed,
+            owner,
+            joiner: opening.joiner,
+            timed: opening.timed,
             phase: Phase::Opened,
             cancelled: false,
             expired: false,
             completions: Items::new(alloc),
             front,
         })?;
-        self.tasks[t as usize].leave_open(slot, s, front);
+        self.tasks[owner as usize].leave_open(opening.slot, s, front);
         Ok(())
     }
 
@@ -222,30 +234,28 @@ impl Records {
         &mut self,
         alloc: Global,
         program: &Program,
-        t: u32,
-        s: u32,
-        function: u32,
-        handle: Option<u8>,
+        fork: NewTask,
     ) -> Result<(), AllocError>
-        requires born { t < length self.old.tasks }
-        requires lives { living.lives (def.task_at self.old t) ≡ true }
-        requires more { (def.task_at self.old t).frame.pc + 1 < 2 ^ 32 }
+        requires born { fork.forker < length self.old.tasks }
+        requires lives { living.lives (def.task_at self.old fork.forker) ≡ true }
+        requires more { (def.task_at self.old fork.forker).frame.pc + 1 < 2 ^ 32 }
         requires room { length self.old.tasks < MAX_BIRTHS }
-        requires enough { (routine program.now function).args ≤
-            length (def.task_at self.old t).frame.operands }
-        ensures ok { OnOk result (self.new ≡ effect.fork_task program.now self.old t
-            (def.task_at self.old t).frame s function handle) }
+        requires enough { (routine program.now fork.function).args ≤
+            length (def.task_at self.old fork.forker).frame.operands }
+        ensures ok { OnOk result (self.new ≡ effect.fork_task program.now self.old fork.forker
+            (def.task_at self.old fork.forker).frame fork.scope fork.function fork.handle) }
         ensures err { OnErr result (self.new ≡ self.old) }
     {
+        let (t, s) = (fork.forker, fork.scope);
         let child = self.tasks.len() as u32;
-        let args = args(program, function);
+        let args = args(program, fork.function);
         let started = !self.is_cancelled(s);
-        let task = TaskRecord::subtask(alloc, function, args, self.frame(t), s, started)?;
+        let task = TaskRecord::subtask(alloc, fork.function, args, self.frame(t), s, started)?;
         self.tasks.push(task)?;
         leave_fork(
             self.tasks[t as usize].living(),
             args as usize,
-            handle,
+            fork.handle,
             child,
         );
         Ok(())

@@ -35,33 +35,17 @@ pub fn front_of(scopes: &[ScopeRecord], scope: Option<u32>) -> Option<usize>
     }
 }
 
-/// Were the two scopes opened alike? Environments are not compared.
-fn same_opening(a: &ScopeRecord, b: &ScopeRecord) -> bool
-    ensures owner { result ≡ true → a.now.owner ≡ b.now.owner }
-    ensures joiner { result ≡ true → a.now.joiner ≡ b.now.joiner }
-    ensures timed { result ≡ true → a.now.timed ≡ b.now.timed }
-{
-    a.owner == b.owner && a.joiner == b.joiner && a.timed == b.timed
-}
-
-/// How far a scope is.
-fn same_marks(a: &ScopeRecord, b: &ScopeRecord) -> bool
-    ensures phase { result ≡ true → a.now.phase ≡ b.now.phase }
-    ensures cancelled { result ≡ true → a.now.cancelled ≡ b.now.cancelled }
-    ensures expired { result ≡ true → a.now.expired ≡ b.now.expired }
-    ensures completions { result ≡ true → a.now.completions ≡ b.now.completions }
-{
-    a.phase == b.phase
-        && a.cancelled == b.cancelled
-        && a.expired == b.expired
-        && same_items(&a.completions, &b.completions)
-}
-
 /// Are the two scopes alike? Environments are not compared.
 pub fn same_scope(a: &ScopeRecord, b: &ScopeRecord) -> bool
     ensures { result ≡ true → def.IsAlike a.now b.now }
 {
-    same_opening(a, b) && same_marks(a, b)
+    a.owner == b.owner
+        && a.joiner == b.joiner
+        && a.timed == b.timed
+        && a.phase == b.phase
+        && a.cancelled == b.cancelled
+        && a.expired == b.expired
+        && same_items(&a.completions, &b.completions)
 }
 
 impl Copied for ScopeRecord {

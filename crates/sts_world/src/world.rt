@@ -21,6 +21,7 @@ ghost use Rattle.sts_world.specs.Kept as kept;
 ghost use Rattle.sts_world.specs.LendsWorld.{lends_living};
 ghost use Rattle.sts_world.specs.Lines.{lines};
 
+use crate::changes::{NewScope, NewTask};
 use crate::family::Family;
 use crate::records::Records;
 use std::alloc::{AllocError, Global};
@@ -537,7 +538,13 @@ impl World {
         self.families.reserve(1)?;
         self.tallies.reserve(1)?;
         let scopes = self.standing_scopes();
-        self.records.open_scope(alloc, t, slot, joiner, timed)?;
+        let opening = NewScope {
+            owner: t,
+            slot,
+            joiner,
+            timed,
+        };
+        self.records.open_scope(alloc, opening)?;
         self.families.push(Family::new(alloc))?;
         self.tallies.push(Tally::new(joiner))?;
         self.standing_scopes = scopes + 1;
@@ -575,10 +582,13 @@ impl World {
         let tasks = self.standing_tasks();
         self.was_told.reserve(1)?;
         self.families[s as usize].add(child, started)?;
-        if let Err(error) = self
-            .records
-            .fork_task(alloc, program, t, s, function, handle)
-        {
+        let fork = NewTask {
+            forker: t,
+            scope: s,
+            function,
+            handle,
+        };
+        if let Err(error) = self.records.fork_task(alloc, program, fork) {
             self.families[s as usize].take_back(started);
             return Err(error);
         }

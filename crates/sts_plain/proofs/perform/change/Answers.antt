@@ -1,4 +1,4 @@
-use Rattle.std.proofs.Common.{◌≡◌, ℕ, ◌+◌, ◌-◌, ◌<◌, length, Bool, true, false, Option, List, refl, sym, ap, ◌∙◌, arith, nat_lt}
+use Rattle.std.proofs.Common.{◌≡◌, ℕ, ◌+◌, ◌-◌, ◌<◌, length, true, false, Option, List, refl, sym, ap, ◌∙◌, arith, nat_lt}
 use Rattle.std.proofs.lemmas.Bool.Decides.{nat_tests}
 use Rattle.sts_code.specs.Facts.{pops, pushes}
 use Rattle.sts_code.specs.Program.{Program}
@@ -8,15 +8,15 @@ use Rattle.sts_code.specs.declared.instr.Kind.{Kind}
 use Rattle.sts_code.specs.declared.limits.TheConstants.{MAX_OPERANDS}
 use Rattle.sts_model.specs.Effect.{effect, takes_memory}
 use Rattle.sts_model.specs.Local.{is_local, local}
-use Rattle.sts_model.specs.Misuse.{overflows}
+use Rattle.sts_model.specs.Misuse.{IsFine}
 use Rattle.sts_model.specs.World.{World, code, task_at, with_frame}
 use Rattle.sts_model.specs.declared.record.Frame.{Frame}
 use Rattle.sts_plain.proofs.perform.change.Goals as goal
 
 -- an instruction that pushes one value has room for it
-room : (p : Program) (f : Frame) (i j : Instr) (n : ℕ) → i ≡ j → pops p j ≡ n → pushes j ≡ 1 → overflows p f i ≡ false → length f.operands - n < MAX_OPERANDS
-room p f i j n is pop push fine =
-    let here : nat_lt MAX_OPERANDS (length f.operands - pops p j + pushes j) ≡ false = rw is at fine in
+room : {p : Program} {w : World} {t : ℕ} {f : Frame} {i : Instr} (j : Instr) (n : ℕ) → IsFine p w t f i → i ≡ j → pops p j ≡ n → pushes j ≡ 1 → length f.operands - n < MAX_OPERANDS
+room {p} {w} {t} {f} {i} j n fine is pop push =
+    let here : nat_lt MAX_OPERANDS (length f.operands - pops p j + pushes j) ≡ false = rw is at fine.room in
     let few : nat_lt MAX_OPERANDS (length f.operands - n + 1) ≡ false = rw (pop, push) at here in
     grind (arith, nat_tests)
 
@@ -48,22 +48,22 @@ no_other p w t f Interrupted l m n1 n2 n3 n4 n5 n6 n7 n8 n9 n10 n11 n12 n13 n14 
 no_other p w t f i l m n1 n2 n3 n4 n5 n6 n7 n8 n9 n10 n11 n12 n13 n14 n15 = cc
 
 pub push_value-requires-clause-room : goal.push_value-requires-clause-room
-push_value-requires-clause-room c = room c.args.program.now (task_at c.args.world.now c.args.t).frame c.args.instr (Cancelled c.in-Cancelled.x) 0 c.in-Cancelled.is refl refl c.requires.fine.room
+push_value-requires-clause-room c = room (Cancelled c.in-Cancelled.x) 0 c.requires.next.fine c.in-Cancelled.is refl refl
 
 pub push_value-requires-in-Tally-clause-room : goal.push_value-requires-in-Tally-clause-room
-push_value-requires-in-Tally-clause-room c = room c.args.program.now (task_at c.args.world.now c.args.t).frame c.args.instr (Tally c.in-Tally.x c.in-Tally.kind) 0 c.in-Tally.is refl refl c.requires.fine.room
+push_value-requires-in-Tally-clause-room c = room (Tally c.in-Tally.x c.in-Tally.kind) 0 c.requires.next.fine c.in-Tally.is refl refl
 
 pub push_value-requires-in-Total-clause-room : goal.push_value-requires-in-Total-clause-room
-push_value-requires-in-Total-clause-room c = room c.args.program.now (task_at c.args.world.now c.args.t).frame c.args.instr (Total c.in-Total.x) 0 c.in-Total.is refl refl c.requires.fine.room
+push_value-requires-in-Total-clause-room c = room (Total c.in-Total.x) 0 c.requires.next.fine c.in-Total.is refl refl
 
 pub push_value-requires-in-Read-clause-room : goal.push_value-requires-in-Read-clause-room
-push_value-requires-in-Read-clause-room c = room c.args.program.now (task_at c.args.world.now c.args.t).frame c.args.instr (Read c.in-Read.k) 0 c.in-Read.is refl refl c.requires.fine.room
+push_value-requires-in-Read-clause-room c = room (Read c.in-Read.k) 0 c.requires.next.fine c.in-Read.is refl refl
 
 pub push_value-requires-in-Bound-clause-room : goal.push_value-requires-in-Bound-clause-room
-push_value-requires-in-Bound-clause-room c = room c.args.program.now (task_at c.args.world.now c.args.t).frame c.args.instr (Bound c.in-Bound.k) 0 c.in-Bound.is refl refl c.requires.fine.room
+push_value-requires-in-Bound-clause-room c = room (Bound c.in-Bound.k) 0 c.requires.next.fine c.in-Bound.is refl refl
 
 pub push_value-requires-in-OrElse-clause-room : goal.push_value-requires-in-OrElse-clause-room
-push_value-requires-in-OrElse-clause-room c = room c.args.program.now (task_at c.args.world.now c.args.t).frame c.args.instr (OrElse c.in-OrElse.k) 1 c.in-OrElse.is refl refl c.requires.fine.room
+push_value-requires-in-OrElse-clause-room c = room (OrElse c.in-OrElse.k) 1 c.requires.next.fine c.in-OrElse.is refl refl
 
 pub returns-then-is_local : goal.returns-then-is_local
 returns-then-is_local c =
@@ -78,5 +78,7 @@ returns-then-is_local c =
 pub returns-in_default-2 : goal.returns-in_default-2
 returns-in_default-2 c =
     let n = c.in_default-2 in
-    no_other c.args.program.now c.args.world.now c.args.t (task_at c.args.world.now c.args.t).frame c.args.instr (sym c.is_local.ensures ∙ c.if-is_local.false) c.requires.fixed
-    n.not-Join n.not-Close n.not-Cancelled n.not-Case n.not-Get n.not-Except n.not-Tally n.not-Total n.not-Forget n.not-Bind n.not-Unbind n.not-Read n.not-Bound n.not-OrElse n.not-Interrupted
+    let other = sym c.is_local.ensures ∙ c.if-is_local.false in
+    no_other c.args.program.now c.args.world.now c.args.t (task_at c.args.world.now c.args.t).frame c.args.instr other c.requires.fixed
+    n.not-Join n.not-Close n.not-Cancelled n.not-Case n.not-Get n.not-Except n.not-Tally n.not-Total n.not-Forget n.not-Bind
+    n.not-Unbind n.not-Read n.not-Bound n.not-OrElse n.not-Interrupted

@@ -11,6 +11,7 @@ use Rattle.sts_model.specs.declared.record.Task.{Task}
 use Rattle.sts_world.specs.Chains.{bindings_of}
 use Rattle.sts_world.specs.Scopes.{front_of, shown}
 use Rattle.sts_world.proofs.Scoping.{shown_grown, within_grown, within_push, opened}
+use Rattle.sts_world.proofs.records.Records.open_scope.Goals.{After-index-arg-2-1, After-index_mut, After-self}
 use Rattle.sts_world.proofs.records.Records.open_scope.Goals as goal
 
 pub returns-in_err-front-clause-err : goal.returns-in_err-front-clause-err
@@ -38,49 +39,67 @@ invariant_of-self-2 c =
           c.environment.new.chains c.self.inside.scopes.items c.self.invariant.2 c.environment.ensures.grows) c.in_ok-front.ensures.within),
     )
 
-pub returns-clause-ok : goal.returns-clause-ok
-returns-clause-ok c =
-    let bound : c.args.t < length c.self.inside.tasks.items = subst (λ (w : World). c.args.t < length w.tasks) (sym c.self.view_is) c.requires.born in
-    let first : c.index.result.now ≡ slice_index_or c.self.inside.tasks.items c.args.t no_task = c.index.ensures ∙ get_or_default c.self.inside.tasks.items c.args.t _ no_task bound in
-    let second : c.index-2.result.now ≡ slice_index_or c.self.inside.tasks.items c.args.t no_task = c.index-2.ensures ∙ get_or_default c.self.inside.tasks.items c.args.t _ no_task bound in
-    let third : c.index_mut.result.now ≡ slice_index_or c.self.inside.tasks.items c.args.t no_task = c.index_mut.ensures.value ∙ get_or_default c.self.inside.tasks.items c.args.t _ no_task bound in
-    let rest : c.front_of-rest.result ≡ front_of c.self.inside.scopes.items (slice_index_or c.self.inside.tasks.items c.args.t no_task).scope = rw (c.front_of-rest.ensures, c.deref.ensures.value, c.scope.ensures, first) refl in
-    let list : bindings_of c.environment.new.chains c.in_ok-front.front ≡ own_bindings c.index-2.result.now ++ bindings_of c.self.inside.chains c.front_of-rest.result = c.in_ok-front.ensures.list in
-    let born : c.len-s.result ≡ length c.self.inside.scopes.items = omega (arith, c.len-s.ensures, c.self.inside.scopes.ok) in
-    rw (← c.self.view_is, c.in_ok-push.ensures.items, c.new.ensures, c.leave_open.ensures, third)
-    (opened c.self.inside.tasks.items c.self.inside.chains c.environment.new.chains c.self.inside.scopes.items c.args.t c.len-s.result c.args.slot c.args.joiner c.args.timed c.in_ok-front.front c.front_of-rest.result c.self.invariant.2 c.environment.ensures.grows born rest (rw second at list))
-
-pub index-requires : goal.index-requires
-index-requires c = let born : c.args.t < length c.self.inside.tasks.items = subst (λ (w : World). c.args.t < length w.tasks)
-    (sym c.self.view_is) c.requires.born in omega (arith, born)
-
-pub index-requires-2 : goal.index-requires-2
-index-requires-2 c = let born : c.args.t < length c.self.inside.tasks.items = subst (λ (w : World). c.args.t < length w.tasks)
-    (sym c.self.view_is) c.requires.born in omega (arith, born)
-
-pub index_mut-requires : goal.index_mut-requires
-index_mut-requires c = let born : c.args.t < length c.self.inside.tasks.items = subst (λ (w : World). c.args.t < length w.tasks)
-    (sym c.self.view_is) c.requires.born in omega (arith, born)
+-- the task was born, and it is read and written at its birth
+born : (c : After-self) → c.args.opening.owner < length c.self.inside.tasks.items
+born c = subst (λ (w : World). c.args.opening.owner < length w.tasks) (sym c.self.view_is) c.requires.born
 
 own : (tasks : List Task) (t : ℕ) (here : Task) → t < length tasks → here ≡ get_or tasks t here → here ≡ slice_index_or tasks t no_task
 own tasks t here born is = is ∙ get_or_default tasks t here no_task born
 
+pub index-requires : goal.index-requires
+index-requires c = let b = born (goal.at.index-requires c).After-self in omega (arith, b)
+
+pub index-requires-2 : goal.index-requires-2
+index-requires-2 c = let b = born (goal.at.index-requires-2 c).After-self in omega (arith, b)
+
+-- the innermost binding that the task inherited
+rest : (c : After-index-arg-2-1)
+    → c.front_of-rest.result ≡ front_of c.self.inside.scopes.items (slice_index_or c.self.inside.tasks.items c.args.opening.owner no_task).scope
+rest c =
+    let b = born (goal.at.index-requires-2 c).After-self in
+    let here = own c.self.inside.tasks.items c.args.opening.owner c.index.result.now b c.index.ensures in
+    rw (c.front_of-rest.ensures, c.deref.ensures.value, c.scope.ensures, here) refl
+
+pub index_mut-requires : goal.index_mut-requires
+index_mut-requires c = let b = born (goal.at.index_mut-requires c).After-self in omega (arith, b)
+
+-- the task as it was, and what is known of it
+written : (c : After-index_mut) → c.index_mut.result.now ≡ slice_index_or c.self.inside.tasks.items c.args.opening.owner no_task
+written c =
+    let b = born (goal.at.leave_open-requires-clause-lives c).After-self in
+    own c.self.inside.tasks.items c.args.opening.owner c.index_mut.result.now b c.index_mut.ensures.value
+
 pub leave_open-requires-clause-lives : goal.leave_open-requires-clause-lives
 leave_open-requires-clause-lives c =
-    let born = subst (λ (w : World). c.args.t < length w.tasks) (sym c.self.view_is) c.requires.born in
-    let is = own c.self.inside.tasks.items c.args.t c.index_mut.result.now born c.index_mut.ensures.value in
-    ap lives is ∙ subst (λ (w : World). lives (task_at w c.args.t) ≡ true) (sym c.self.view_is) c.requires.lives
+    let path = (goal.at.leave_open-requires-clause-lives c).After-index_mut in
+    ap lives (written path) ∙ subst (λ (w : World). lives (task_at w c.args.opening.owner) ≡ true) (sym c.self.view_is) c.requires.lives
 
 pub leave_open-requires-clause-more : goal.leave_open-requires-clause-more
 leave_open-requires-clause-more c =
-    let born = subst (λ (w : World). c.args.t < length w.tasks) (sym c.self.view_is) c.requires.born in
-    let is = own c.self.inside.tasks.items c.args.t c.index_mut.result.now born c.index_mut.ensures.value in
-    subst (λ (k : Task). k.frame.pc + 1 < 2 ^ 32) (sym is)
-    (subst (λ (w : World). (task_at w c.args.t).frame.pc + 1 < 2 ^ 32) (sym c.self.view_is) c.requires.more)
+    let path = (goal.at.leave_open-requires-clause-more c).After-index_mut in
+    subst (λ (k : Task). k.frame.pc + 1 < 2 ^ 32) (sym (written path))
+    (subst (λ (w : World). (task_at w c.args.opening.owner).frame.pc + 1 < 2 ^ 32) (sym c.self.view_is) c.requires.more)
 
 pub leave_open-requires-clause-entries : goal.leave_open-requires-clause-entries
 leave_open-requires-clause-entries c =
-    let born = subst (λ (w : World). c.args.t < length w.tasks) (sym c.self.view_is) c.requires.born in
-    let is = own c.self.inside.tasks.items c.args.t c.index_mut.result.now born c.index_mut.ensures.value in
-    subst (λ (k : Task). length k.frame.entries < MAX_ENTRIES) (sym is)
-    (subst (λ (w : World). length (task_at w c.args.t).frame.entries < MAX_ENTRIES) (sym c.self.view_is) c.requires.entries)
+    let path = (goal.at.leave_open-requires-clause-entries c).After-index_mut in
+    subst (λ (k : Task). length k.frame.entries < MAX_ENTRIES) (sym (written path))
+    (subst (λ (w : World). length (task_at w c.args.opening.owner).frame.entries < MAX_ENTRIES) (sym c.self.view_is) c.requires.entries)
+
+-- the environment of the scope
+list : (c : goal.After-self-1)
+    → bindings_of c.environment.new.chains c.in_ok-front.front
+    ≡ own_bindings (slice_index_or c.self.inside.tasks.items c.args.opening.owner no_task) ++ bindings_of c.self.inside.chains c.front_of-rest.result
+list c =
+    let b = born (goal.at.returns-clause-ok c).After-self in
+    let here = own c.self.inside.tasks.items c.args.opening.owner c.index-2.result.now b c.index-2.ensures in
+    rw here at c.in_ok-front.ensures.list
+
+pub returns-clause-ok : goal.returns-clause-ok
+returns-clause-ok c =
+    let path = goal.at.returns-clause-ok c in
+    let birth : c.len-s.result ≡ length c.self.inside.scopes.items = omega (arith, c.len-s.ensures, c.self.inside.scopes.ok) in
+    rw (← c.self.view_is, c.in_ok-push.ensures.items, c.new.ensures, c.leave_open.ensures, written path.After-index_mut)
+    (opened c.self.inside.tasks.items c.self.inside.chains c.environment.new.chains c.self.inside.scopes.items c.args.opening.owner c.len-s.result
+    c.args.opening.slot c.args.opening.joiner c.args.opening.timed c.in_ok-front.front c.front_of-rest.result c.self.invariant.2 c.environment.ensures.grows
+    birth (rest path.After-index-arg-2-1) (list c))

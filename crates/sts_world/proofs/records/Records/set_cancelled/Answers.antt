@@ -5,7 +5,6 @@ use Rattle.sts_world.proofs.records.Records.set_cancelled.Goals as goal
 
 pub returns-then-s-len : goal.returns-then-s-len
 returns-then-s-len c =
-    rw (← c.self.view_is)
-    (shown_changed c.self.inside.chains c.self.inside.tasks.items c.self.inside.scopes.items c.args.s c.index_mut.result.now
-    (record c.index_mut.result.now { cancelled = true }) _ (λ (x : Scope). record x { cancelled = true })
+    rw (← c.self.view_is) (shown_changed c.self.inside.chains c.self.inside.tasks.items c.self.inside.scopes.items c.args.s
+    c.index_mut.result.now (record c.index_mut.result.now { cancelled = true }) _ (λ (x : Scope). record x { cancelled = true })
     (omega (arith, c.self.inside.scopes.ok)) c.index_mut.ensures.value refl)
