@@ -1,6 +1,6 @@
 //! The end of each task.
 
-ghost use Rattle.std.specs.Prelude.{◌≡◌, ◌++◌, OnOk};
+ghost use Rattle.std.specs.Prelude.{◌≡◌, ◌++◌, [], OnOk, if◌then◌else◌};
 ghost use Rattle.look_tell.specs.Telling as def;
 
 use crate::words::Told;
@@ -53,12 +53,8 @@ impl Told<'_, '_, '_, '_> {
         say(out, "\n")
     }
 
-    /// Appends a line for each task, with its end.
-    ///
-    /// # Errors
-    ///
-    /// Memory ran out; `out` may then have a part of them.
-    pub(crate) fn say_end_lines(self, alloc: Global, out: &mut Vec<u8>) -> Said
+    /// A line for each task, with its end.
+    fn say_end_lines(self, alloc: Global, out: &mut Vec<u8>) -> Said
         ensures { OnOk result (out.new.items ≡ out.old.items
             ++ def.end_lines self.entry.names.now self.entry.story.now
             self.entry.story.now.watched.last.tasks 0) }
@@ -67,5 +63,22 @@ impl Told<'_, '_, '_, '_> {
             self.say_end_line(alloc, out, t as u32)?;
         }
         Ok(())
+    }
+
+    /// Appends a line for each task, with its end, if the story is strict.
+    ///
+    /// # Errors
+    ///
+    /// Memory ran out; `out` may then have a part of them.
+    pub(crate) fn say_strict_ends(self, alloc: Global, out: &mut Vec<u8>, strict: bool) -> Said
+        ensures { OnOk result (out.new.items ≡ out.old.items
+            ++ (if strict then def.end_lines self.entry.names.now self.entry.story.now
+            self.entry.story.now.watched.last.tasks 0 else [])) }
+    {
+        if strict {
+            self.say_end_lines(alloc, out)
+        } else {
+            Ok(())
+        }
     }
 }

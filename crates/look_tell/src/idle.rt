@@ -1,16 +1,16 @@
 //! The line of an event that doesn't count.
 
-ghost use Rattle.std.specs.Prelude.{◌≡◌, ◌++◌, OnOk};
+ghost use Rattle.std.specs.Prelude.{◌≡◌, ◌++◌, OnOk, codes};
 ghost use Rattle.sts_plain.specs.Seen.{shown};
 ghost use Rattle.look_tell.specs.Line as def;
 
-use crate::line::say_event_number;
 use crate::story::Story;
 use crate::words::{Told, say_numbered};
 use look_names::Said;
 use look_text::say;
 use std::alloc::Global;
 use sts_model::Event;
+use sts_output::printed;
 use sts_plain::PlainState;
 
 /// Why a task can't step, or why it can't be interrupted.
@@ -18,13 +18,7 @@ fn rest_words(story: &Story<'_>, t: u32) -> &'static str
     ensures { result.now ≡ def.rest_words story.now t }
 {
     let records = story.records();
-    if records.lives(t) {
-        " waits"
-    } else if records.has_started(t) {
-        " has ended"
-    } else {
-        " never starts"
-    }
+    printed::rest_words(records.lives(t), records.has_started(t))
 }
 
 fn has_task(story: &Story<'_>, t: u32) -> bool
@@ -95,18 +89,12 @@ impl Told<'_, '_, '_, '_> {
         }
     }
 
-    /// Appends the line of an event that doesn't count.
-    pub(crate) fn say_idle(
-        self,
-        alloc: Global,
-        out: &mut Vec<u8>,
-        number: usize,
-        event: Event,
-    ) -> Said
+    /// Appends the line of an event that doesn't count, without its number.
+    pub(crate) fn say_idle(self, alloc: Global, out: &mut Vec<u8>, event: Event) -> Said
         ensures { OnOk result (out.new.items ≡ out.old.items
-            ++ def.idle_line self.entry.names.now number self.entry.story.now event) }
+            ++ (def.idle_by self.entry.names.now self.entry.story.now
+            (shown self.entry.story.now.watched.state) event ++ codes "\n")) }
     {
-        say_event_number(alloc, out, number)?;
         self.say_idle_by(alloc, out, event)?;
         say(out, "\n")
     }

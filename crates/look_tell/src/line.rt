@@ -3,8 +3,9 @@
 ghost use Rattle.std.specs.Prelude.{◌≡◌, ◌++◌, ◌<◌, OnOk, fold, length, true};
 ghost use Rattle.sts_model.specs.Living as living;
 ghost use Rattle.sts_model.specs.World as model;
+ghost use Rattle.look_tell.specs.Deed as deeds;
 ghost use Rattle.look_tell.specs.Line as def;
-ghost use Rattle.look_tell.specs.Story.{next};
+ghost use Rattle.look_tell.specs.Story.{next, program_of, world_of};
 
 use crate::deed::{Deed, next_deed};
 use crate::story::Story;
@@ -130,24 +131,6 @@ impl Told<'_, '_, '_, '_> {
         say(out, " cancels it")?;
         self.say_interrupts(alloc, out, s)
     }
-
-    /// An expiry of a scope that was cancelled before or not.
-    fn say_expired(
-        self,
-        alloc: Global,
-        out: &mut Vec<u8>,
-        number: usize,
-        s: u32,
-        was_cancelled: bool,
-    ) -> Said
-        ensures { OnOk result (out.new.items ≡ out.old.items
-            ++ def.expired_line self.entry.names.now number self.entry.story.now s was_cancelled) }
-    {
-        say_event_number(alloc, out, number)?;
-        say_numbered(alloc, out, "expiry of scope ", s)?;
-        self.say_expired_words(alloc, out, s, was_cancelled)?;
-        say(out, "\n")
-    }
 }
 
 /// The number of an event, the names of its text, and the events and steps that get lines.
@@ -182,19 +165,14 @@ impl Telling<'_, '_> {
 
     /// A step of a task, if it has a line.
     #[tactic(auto, unfolding(crate::specs::Line::told_step))]
-    fn say_told_step(
-        self,
-        alloc: Global,
-        out: &mut Vec<u8>,
-        story: &mut Story<'_>,
-        t: u32,
-        deed: Deed,
-    ) -> Said
+    fn say_if_told(self, alloc: Global, out: &mut Vec<u8>, story: &mut Story<'_>, t: u32) -> Said
         ensures after { OnOk result (story.new
             ≡ next self.entry.options.strict story.old (Event.Step t)) }
         ensures said { OnOk result (out.new.items ≡ out.old.items ++ def.told_step
-            self.entry.names.now self.entry.options self.entry.number story.old story.new t deed) }
+            self.entry.names.now self.entry.options self.entry.number story.old story.new t
+            (deeds.next_deed (program_of story.old) (world_of story.old) t)) }
     {
+        let deed = next_deed(story.world(), story.program(), t);
         if is_told(self.options, deed) {
             self.say_step_line(alloc, out, story, t, deed)
         } else {
@@ -210,8 +188,7 @@ impl Telling<'_, '_> {
             self.entry.names.now self.entry.options self.entry.number story.old story.new t) }
     {
         let names = self.names;
-        let deed = next_deed(story.world(), story.program(), t);
-        self.say_told_step(alloc, out, story, t, deed)?;
+        self.say_if_told(alloc, out, story, t)?;
         Told { names, story }.say_wait(alloc, out, self.number, t)
     }
 
@@ -224,31 +201,10 @@ impl Telling<'_, '_> {
         let names = self.names;
         let was_cancelled = story.records().is_cancelled(s);
         story.apply(alloc, self.options.strict, Event::Expire(s))?;
-        Told { names, story }.say_expired(alloc, out, self.number, s, was_cancelled)
-    }
-
-    /// An event that counts.
-    fn say_counted(
-        self,
-        alloc: Global,
-        out: &mut Vec<u8>,
-        story: &mut Story<'_>,
-        event: Event,
-    ) -> Said
-        ensures after { OnOk result (story.new
-            ≡ next self.entry.options.strict story.old event) }
-        ensures said { OnOk result (out.new.items ≡ out.old.items ++ def.counted_block
-            self.entry.names.now self.entry.options self.entry.number story.old event) }
-    {
-        let names = self.names;
-        match event {
-            Event::Step(t) => self.say_step(alloc, out, story, t),
-            Event::Interrupt(t) => {
-                Told { names, story }.say_interrupt(alloc, out, self.number, t)?;
-                story.apply(alloc, self.options.strict, event)
-            }
-            Event::Expire(s) => self.say_expiry(alloc, out, story, s),
-        }
+        say_event_number(alloc, out, self.number)?;
+        say_numbered(alloc, out, "expiry of scope ", s)?;
+        Told { names, story }.say_expired_words(alloc, out, s, was_cancelled)?;
+        say(out, "\n")
     }
 
     /// Appends the lines of an event, whether it counts or not, and goes on by it.
@@ -270,30 +226,42 @@ impl Telling<'_, '_> {
     {
         let names = self.names;
         if story.is_idle(event) {
-            Told { names, story }.say_idle(alloc, out, self.number, event)?;
-            story.apply(alloc, self.options.strict, event)
-        } else {
-            self.say_counted(alloc, out, story, event)
+            say_event_number(alloc, out, self.number)?;
+            Told { names, story }.say_idle(alloc, out, event)?;
+            return story.apply(alloc, self.options.strict, event);
+        }
+        match event {
+            Event::Step(t) => self.say_step(alloc, out, story, t),
+            Event::Interrupt(t) => {
+                Told { names, story }.say_interrupt(alloc, out, self.number, t)?;
+                story.apply(alloc, self.options.strict, event)
+            }
+            Event::Expire(s) => self.say_expiry(alloc, out, story, s),
         }
     }
+}
 
+/// An event, and what is to be told of it.
+#[derive(Clone, Copy)]
+struct Happening<'a, 't> {
+    telling: Telling<'a, 't>,
+    event: Event,
+}
+
+impl Happening<'_, '_> {
     /// An event, if it is among those with lines.
-    fn say_if_asked(
-        self,
-        alloc: Global,
-        out: &mut Vec<u8>,
-        story: &mut Story<'_>,
-        event: Event,
-    ) -> Said
+    fn say_if_asked(self, alloc: Global, out: &mut Vec<u8>, story: &mut Story<'_>) -> Said
         ensures after { OnOk result (story.new
-            ≡ next self.entry.options.strict story.old event) }
+            ≡ next self.entry.telling.options.strict story.old self.entry.event) }
         ensures said { OnOk result (out.new.items ≡ out.old.items ++ def.asked_block
-            self.entry.names.now self.entry.options self.entry.number story.old event) }
+            self.entry.telling.names.now self.entry.telling.options self.entry.telling.number
+            story.old self.entry.event) }
     {
-        if story.has_stopped() || !is_asked(self.options, self.number) {
-            story.apply(alloc, self.options.strict, event)
+        let telling = self.telling;
+        if story.has_stopped() || !is_asked(telling.options, telling.number) {
+            story.apply(alloc, telling.options.strict, self.event)
         } else {
-            self.say_event(alloc, out, story, event)
+            telling.say_event(alloc, out, story, self.event)
         }
     }
 }
@@ -323,7 +291,8 @@ pub(crate) fn say_events(
             options,
             number,
         };
-        telling.say_if_asked(alloc, out, story, events[i])?;
+        let event = events[i];
+        Happening { telling, event }.say_if_asked(alloc, out, story)?;
     }
     Ok(())
 }

@@ -9,28 +9,13 @@ ghost use Rattle.look_tell.specs.Outcome as def;
 
 use crate::deed::Deed;
 use crate::words::{Told, say_if, say_numbered, say_shown};
-use look_names::{Names, Said, say_place};
+use look_names::{Said, say_place};
 use look_run::say_end;
 use look_text::say;
 use std::alloc::Global;
 use sts_code::Joiner;
 use sts_model::{Completion, End, Phase};
 use sts_output::printed::fault_word;
-
-/// A line of the text.
-#[tactic(auto, unfolding(crate::specs::Outcome::shown_place))]
-fn say_shown_place(
-    alloc: Global,
-    out: &mut Vec<u8>,
-    names: &Names<'_>,
-    function: u32,
-    pc: u32,
-) -> Said
-    ensures { OnOk result (out.new.items ≡ out.old.items
-        ++ def.shown_place names.now function pc) }
-{
-    say_place(alloc, out, names, function, pc)
-}
 
 fn any_failure(ends: &[Completion]) -> bool
     ensures { result ≡ list_any (λ (c : AnyCompletion). joining.is_failure c.end) ends.now }
@@ -93,14 +78,9 @@ impl Told<'_, '_, '_, '_> {
         ensures { OnOk result (out.new.items ≡ out.old.items
             ++ def.goes_words self.entry.names.now self.entry.story.now t) }
     {
+        let story = self.story;
         say(out, ", goes on at ")?;
-        say_shown_place(
-            alloc,
-            out,
-            self.names,
-            self.story.function_of(t),
-            self.story.pc_of(t),
-        )
+        say_place(alloc, out, self.names, story.function_of(t), story.pc_of(t))
     }
 
     fn say_forks(self, alloc: Global, out: &mut Vec<u8>, t: u32) -> Said

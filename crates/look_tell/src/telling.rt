@@ -1,21 +1,20 @@
 //! Tells the story of a text's run of a trace.
 
-ghost use Rattle.std.specs.Prelude.{◌≡◌, ◌++◌, IfOk, OnOk, fold, take};
+ghost use Rattle.std.specs.Prelude.{◌≡◌, IfOk, take};
 ghost use Rattle.sts_asm.specs.Text.{judged};
 ghost use Rattle.sts_trace.specs.Reading.{trace_read};
 ghost use Rattle.sts_output.specs.Output as cli;
 ghost use Rattle.look_refusal.specs.Stops.{Prints};
-ghost use Rattle.look_tell.specs.Story.{next};
 ghost use Rattle.look_tell.specs.Telling as def;
 
 use crate::line::say_events;
 use crate::story::Story;
 use crate::words::Told;
-use look_names::{Names, Said};
+use look_names::Names;
 use look_options::TellOptions;
-use look_refusal::{ExplainError, Explanation, program_of, write_explained};
+use look_refusal::{ExplainError, Explanation, Made, program_of, write_explained};
 use look_run::trace_fault;
-use std::alloc::{AllocError, Global};
+use std::alloc::Global;
 use std::io::Write;
 use sts_code::Program;
 use sts_model::Event;
@@ -43,64 +42,42 @@ fn up_to(events: &[Event], last: u32) -> &[Event]
     }
 }
 
-/// Appends the lines of these events, and applies them. A strict story ends with the end of each
-/// task.
-fn say_story(
-    alloc: Global,
-    out: &mut Vec<u8>,
-    names: &Names<'_>,
+/// What is told of a program, with the names of its text.
+#[derive(Clone, Copy)]
+struct Asked<'a, 't> {
     options: TellOptions,
-    story: &mut Story<'_>,
-    events: &[Event],
-) -> Said
-    ensures after { OnOk result (story.new
-        ≡ fold (next options.strict) story.old events.now) }
-    ensures said { OnOk result (out.new.items ≡ out.old.items
-        ++ def.told_lines names.now options story.old story.new events.now) }
-{
-    say_events(alloc, out, names, options, story, events)?;
-    if options.strict {
-        Told { names, story }.say_end_lines(alloc, out)
-    } else {
-        Ok(())
+    names: &'a Names<'t>,
+    program: &'a Program,
+}
+
+impl Asked<'_, '_> {
+    /// The story of these events. A strict story ends with the end of each task.
+    fn of_events(self, alloc: Global, events: &[Event]) -> Made
+        ensures { IfOk result (λ o. o ≡ def.story_output self.entry.names.now self.entry.options
+            self.entry.program.now events.now) }
+    {
+        let names = self.names;
+        let told = up_to(events, self.options.last);
+        let mut story = Story::begun(alloc, self.program)?;
+        let mut bytes = Vec::new(alloc);
+        say_events(alloc, &mut bytes, names, self.options, &mut story, told)?;
+        let story = &story;
+        Told { names, story }.say_strict_ends(alloc, &mut bytes, self.options.strict)?;
+        Ok(Explanation {
+            bytes,
+            status: status_of(story),
+        })
     }
-}
 
-/// The story of these events.
-fn of_events(
-    alloc: Global,
-    options: TellOptions,
-    names: &Names<'_>,
-    program: &Program,
-    events: &[Event],
-) -> Result<Explanation, AllocError>
-    ensures { IfOk result (λ o. o
-        ≡ def.story_output names.now options program.now events.now) }
-{
-    let told = up_to(events, options.last);
-    let mut story = Story::begun(alloc, program)?;
-    let mut bytes = Vec::new(alloc);
-    say_story(alloc, &mut bytes, names, options, &mut story, told)?;
-    Ok(Explanation {
-        bytes,
-        status: status_of(&story),
-    })
-}
-
-/// The story of a program with these lines.
-fn of_trace(
-    alloc: Global,
-    options: TellOptions,
-    names: &Names<'_>,
-    program: &Program,
-    trace: &[u8],
-) -> Result<Explanation, AllocError>
-    ensures { IfOk result (λ o. o ≡ def.traced_output options program.now names.now trace.now
-        (trace_read trace.now)) }
-{
-    match read_trace(alloc, trace) {
-        Ok(events) => of_events(alloc, options, names, program, events.as_slice()),
-        Err(error) => trace_fault(alloc, trace, error),
+    /// The story of the events with these lines.
+    fn of_trace(self, alloc: Global, trace: &[u8]) -> Made
+        ensures { IfOk result (λ o. o ≡ def.traced_output self.entry.options
+            self.entry.program.now self.entry.names.now trace.now (trace_read trace.now)) }
+    {
+        match read_trace(alloc, trace) {
+            Ok(events) => self.of_events(alloc, events.as_slice()),
+            Err(error) => trace_fault(alloc, trace, error),
+        }
     }
 }
 
@@ -111,12 +88,17 @@ fn of_program(
     program: &Program,
     text: &[u8],
     trace: &[u8],
-) -> Result<Explanation, AllocError>
+) -> Made
     ensures { IfOk result (λ o. o ≡ def.traced_output options program.now text.now trace.now
         (trace_read trace.now)) }
 {
     let names = Names::read(alloc, text)?;
-    of_trace(alloc, options, &names, program, trace)
+    let asked = Asked {
+        options,
+        names: &names,
+        program,
+    };
+    asked.of_trace(alloc, trace)
 }
 
 fn story_of(

@@ -47,20 +47,6 @@ fn say_shown_function(
     say_function(out, names, program, function)
 }
 
-#[tactic(auto, unfolding(crate::specs::Words::shown_sentence))]
-fn say_shown_sentence(
-    alloc: Global,
-    out: &mut Vec<u8>,
-    names: &Names<'_>,
-    function: u32,
-    pc: u32,
-) -> Said
-    ensures { OnOk result (out.new.items ≡ out.old.items
-        ++ def.shown_sentence names.now function pc) }
-{
-    say_sentence(alloc, out, names, function, pc)
-}
-
 /// Appends words, if `holds` is true.
 pub(crate) fn say_if(out: &mut Vec<u8>, holds: bool, words: &str) -> Said
     ensures { OnOk result (out.new.items ≡ out.old.items
@@ -113,15 +99,10 @@ impl Told<'_, '_, '_, '_> {
         ensures { OnOk result (out.new.items ≡ out.old.items
             ++ def.place_words self.entry.names.now self.entry.story.now t) }
     {
+        let story = self.story;
         self.say_task(alloc, out, t)?;
         say(out, ", ")?;
-        say_shown_sentence(
-            alloc,
-            out,
-            self.names,
-            self.story.function_of(t),
-            self.story.pc_of(t),
-        )
+        say_sentence(alloc, out, self.names, story.function_of(t), story.pc_of(t))
     }
 
     /// A task that lives, with these words before it.
