@@ -1,6 +1,6 @@
 -- What is printed of ends, whether their trace is written or not.
 use Rattle.std.proofs.Common.{ℕ, List, refl}
-use Rattle.std.specs.Prelude.{option_map}
+use Rattle.std.specs.Prelude.{option_map, ⊤}
 use Rattle.sts_output.specs.Output.{Output, Writes, file_output}
 use Rattle.sts_output.specs.declared.taking.TakeError.TheVariants.{Read}
 use Rattle.sts_output.specs.Streams.{Written, no_trace, whole}
@@ -13,6 +13,11 @@ use Rattle.look.specs.Ending.{IsPrinted, IsWritten, listed, printed, without_fil
 pub written_of : (r : Listing) (P : Type 0) (w : Written) (s : ℕ) → P → ListingWrites w s r → (o : Output) × IsWritten r P o × Writes w.out_old w.out_new s o
 written_of r P w s spares (whole trace out) = (r.output, printed spares refl, out)
 written_of r P w s spares (no_trace out) = (file_output, without_file Read refl, out)
+
+-- the same, where the file of the trace is another file
+pub beside : (r : Listing) (P : Type 0) (o : Output) → P → IsWritten r ⊤ o → IsWritten r P o
+beside r P o spares (printed none same) = printed spares same
+beside r P o spares (without_file e same) = without_file e same
 
 -- what is written of a listing is printed of its text
 pub printed_of : (ends : AskedEnds) (P : Type 0) (text : List ℕ) (r : Listing) (o : Output) → IsListingIn (form_of ends.json) ends.wanted (option_map (λ k. k.number) ends.kept) text r

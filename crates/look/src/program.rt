@@ -1,7 +1,7 @@
 //! The program `look`, except its `main`: opens the files that a command line names, and writes the
 //! output.
 
-ghost use Rattle.std.specs.Prelude.{◌≡◌, IfOk, map};
+ghost use Rattle.std.specs.Prelude.{◌≡◌, IfOk, map, ⊤};
 ghost use Rattle.sts_output.specs.Output.{Output, Writes};
 ghost use Rattle.sts_output.specs.Streams.{same_file};
 ghost use Rattle.look_cases.specs.Lines.{IsRepliesTo};
@@ -119,64 +119,25 @@ fn on_explain<S: Sources, W: Write>(
     }
 }
 
-/// Writes what was found of the ends of a text. No end has the number that was asked for, so no file
-/// of a trace is made.
-fn on_listing_alone<S: Sinks, W: Write>(
-    alloc: Global,
-    sinks: &mut S,
-    path: &str,
-    file: &str,
+/// Writes what was found of the ends of a text, and the trace of one of them.
+fn on_kept<T: Write, W: Write>(
     listing: &Listing,
+    file: &str,
+    trace: &mut T,
     out: &mut W,
     notes: &mut Notes,
 ) -> Result<u8, WriteFailed>
-    ensures { IfOk result (λ s. (o : Output)
-        × def.IsWritten listing.now
-        (def.SparesFile (same_file (S.same sinks.old) (S.said_yes sinks.old) (S.said_yes sinks.new))
-        path.now file.now) o
+    ensures { IfOk result (λ s. (o : Output) × def.IsWritten listing.now ⊤ o
         × Writes (W.contents out.old) (W.contents out.new) s o) }
 {
-    match spared(sinks, file, path, None) {
-        Ok(()) => {
-            // (no event is written)
-            let mut trace: Vec<u8> = Vec::new(alloc);
-            let mut failure = None;
-            let status = write_listing(listing, &mut trace, out, &mut failure)?;
-            Ok(status)
-        }
-        Err(error) => file_failed(error, out, notes),
-    }
-}
-
-/// Writes what was found of the ends of a text, and the trace of one to its file.
-fn on_listing_and_trace<S: Sinks, W: Write>(
-    alloc: Global,
-    sinks: &mut S,
-    path: &str,
-    file: &str,
-    listing: &Listing,
-    out: &mut W,
-    notes: &mut Notes,
-) -> Result<u8, WriteFailed>
-    ensures { IfOk result (λ s. (o : Output)
-        × def.IsWritten listing.now
-        (def.SparesFile (same_file (S.same sinks.old) (S.said_yes sinks.old) (S.said_yes sinks.new))
-        path.now file.now) o
-        × Writes (W.contents out.old) (W.contents out.new) s o) }
-{
-    match made(alloc, sinks, file, path, None) {
-        Ok(mut trace) => {
-            let mut failure = None;
-            let status = write_listing(listing, &mut trace, out, &mut failure)?;
-            notes.written(file, failure);
-            Ok(status)
-        }
-        Err(error) => file_failed(error, out, notes),
-    }
+    let mut failure = None;
+    let status = write_listing(listing, trace, out, &mut failure)?;
+    notes.written(file, failure);
+    Ok(status)
 }
 
 /// Writes what was found of the ends of a text. If one has the number that was asked for, its trace
-/// is written to the file.
+/// is written to the file; if none has, no file is made.
 fn on_listing<S: Sinks, W: Write>(
     alloc: Global,
     sinks: &mut S,
@@ -193,9 +154,15 @@ fn on_listing<S: Sinks, W: Write>(
         × Writes (W.contents out.old) (W.contents out.new) s o) }
 {
     if listing.trace.is_empty() {
-        on_listing_alone(alloc, sinks, path, file, listing, out, notes)
+        match spared(sinks, file, path, None) {
+            Ok(()) => on_kept(listing, file, &mut Vec::new(alloc), out, notes),
+            Err(error) => file_failed(error, out, notes),
+        }
     } else {
-        on_listing_and_trace(alloc, sinks, path, file, listing, out, notes)
+        match made(alloc, sinks, file, path, None) {
+            Ok(mut trace) => on_kept(listing, file, &mut trace, out, notes),
+            Err(error) => file_failed(error, out, notes),
+        }
     }
 }
 
@@ -431,7 +398,6 @@ pub fn start<R: Env + Files + Input, P: Progress, W: Write, E: Write>(
         remarks.unwritten(out.failure());
     }
     // (the output and the status are the same if no line can be written)
-    let _told = err.write_all(remarks.notes.lines());
-    let _told = err.write_all(remarks.lines());
+    remarks.write(err);
     status.unwrap_or(STATUS_OUTSIDE)
 }

@@ -29,15 +29,15 @@ returns-in-Ok-clause-joined c =
 pub returns-in-Ok-clause-asked : goal.returns-in-Ok-clause-asked
 returns-in-Ok-clause-asked c =
     let more : 1 < length (map (λ w. w.now) c.args.words.now) = simp length-map (omega arith) in
-    let program_is = c.in_ok-command.ensures in
-    let found = found_in program _ _ _ program_is (c.in-Ok.ensures.matches (ap is_simple program_is)).1 (c.in-Ok.ensures.kinds (ap is_simple_and_free program_is)) in
+    let is = c.in_ok-command.ensures in
+    let found = found_in program _ _ _ is (c.in-Ok.ensures.matches (ap is_simple is)).1 (c.in-Ok.ensures.kinds (ap is_simple_and_free is)) in
     IfOk-weaker c.chosen.result _ _ (λ l h. commanded more found.1 (subst (λ s. IsLineOf s l) found.0 h)) c.chosen.ensures.asked
 
 pub returns-in-Ok-clause-refused : goal.returns-in-Ok-clause-refused
 returns-in-Ok-clause-refused c =
     let more : 1 < length (map (λ w. w.now) c.args.words.now) = simp length-map (omega arith) in
-    let program_is = c.in_ok-command.ensures in
-    let found = found_in program _ _ _ program_is (c.in-Ok.ensures.matches (ap is_simple program_is)).1 (c.in-Ok.ensures.kinds (ap is_simple_and_free program_is)) in
+    let is = c.in_ok-command.ensures in
+    let found = found_in program _ _ _ is (c.in-Ok.ensures.matches (ap is_simple is)).1 (c.in-Ok.ensures.kinds (ap is_simple_and_free is)) in
     IfErr-weaker c.chosen.result _ _
     (λ e h. refuses_blamed (map (λ w. w.now) c.args.words.now) e more found.1 (subst (λ s. BlamesUnless (is_whole s) e) found.0 h))
     c.chosen.ensures.lacks
