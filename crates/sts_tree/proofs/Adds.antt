@@ -2,7 +2,8 @@
 use Rattle.std.proofs.Common.{◌≡◌, ℕ, ◌+◌, ◌-◌, ◌<◌, ◌≤◌, List, [], ◌∷◌, ◌++◌, length, Option, Some, None, sym, ◌∙◌, ap, arith, get_or, set, false, cond}
 use Rattle.std.proofs.lemmas.List.{map-append, length-map}
 use Rattle.std.specs.Prelude.{option_map}
-use Rattle.sts_links.specs.Lists.{BecomesList}
+use Rattle.laws_words.specs.Keys.{NotIn}
+use Rattle.sts_links.specs.Lists.{IsList, BecomesList}
 use Rattle.sts_links.specs.declared.links.Ends.{Ends}
 use Rattle.sts_tree.specs.Births.{births}
 use Rattle.sts_tree.specs.Stored.{task_of, tasks_of, link_at}
@@ -11,7 +12,19 @@ use Rattle.sts_tree.specs.declared.record.TaskNode.{TaskNode}
 use Rattle.sts_tree.specs.declared.record.TaskRecord.{TaskRecord}
 use Rattle.sts_tree.proofs.BirthLemmas.{births_few}
 use Rattle.sts_tree.proofs.ForkLemmas.{added}
-use Rattle.sts_tree.proofs.Stores.{Stored, fresh, rekeyed, ready_is}
+use Rattle.sts_tree.proofs.Stores.{Stored, fresh, fresh_key, rekeyed, ready_is}
+
+-- the lists of a scope have no task of the next birth
+pub record WithoutNext (slots new : List (Option TaskRecord)) (s n : ℕ) (f : Family) : Type 0 where
+  pub forks : IsList (link_at new 0) f.forks (births (is_of s) 0 (tasks_of slots)) × NotIn n (births (is_of s) 0 (tasks_of slots))
+  pub living : IsList (link_at new 1) f.living (births (lives_in s) 0 (tasks_of slots)) × NotIn n (births (lives_in s) 0 (tasks_of slots))
+
+pub without_next : (slots new : List (Option TaskRecord)) (families : List (Option Family)) (ready : Ends) (room s n : ℕ) (f : Family) (r : TaskRecord) → Stored slots families ready room → get_or families s None ≡ Some f → n ≡ length slots → new ≡ slots ++ Some r ∷ [] → WithoutNext slots new s n f
+without_next slots new families ready room s n f r i is birth pushed =
+    record {
+      forks = fresh_key slots new n r 0 f.forks (births (is_of s) 0 (tasks_of slots)) birth pushed (i.forks s f is);
+      living = fresh_key slots new n r 1 f.living (births (lives_in s) 0 (tasks_of slots)) birth pushed (i.living s f is);
+    }
 
 -- a subtask was appended
 pub record Added (slots new : List (Option TaskRecord)) (families : List (Option Family)) (ready : Ends) (room s : ℕ) (g : Family) (y : TaskNode) : Type 0 where

@@ -1,5 +1,5 @@
 -- Readings of the lists.
-use Rattle.std.proofs.Common.{◌≡◌, ◌≢◌, ℕ, ◌<◌, ◌≤◌, List, [], ◌∷◌, ◌++◌, length, Option, Some, None, refl, sym, ◌∙◌, ap, arith, get_or, false}
+use Rattle.std.proofs.Common.{◌≡◌, ◌≢◌, ℕ, zero, suc, ◌<◌, ◌≤◌, List, [], ◌∷◌, ◌++◌, length, Option, Some, None, refl, sym, ◌∙◌, ap, arith, get_or, false}
 use Rattle.std.proofs.lemmas.List.{length-map}
 use Rattle.std.specs.Prelude.{option_map}
 use Rattle.sts_links.specs.Lists.{first_or, IsList}
@@ -9,6 +9,7 @@ use Rattle.sts_model.specs.Living.{is_in}
 use Rattle.sts_tree.specs.Births.{births}
 use Rattle.sts_tree.specs.Stored.{task_of, tasks_of, link_at}
 use Rattle.sts_tree.specs.Forest.{is_of, lives_in, families_of, family_of}
+use Rattle.sts_tree.specs.Layers.{listed, list_in}
 use Rattle.sts_tree.specs.declared.record.TaskNode.{TaskNode}
 use Rattle.sts_tree.specs.declared.record.TaskRecord.{TaskRecord}
 use Rattle.sts_tree.specs.declared.record.ScopeRecord.{ScopeRecord}
@@ -54,18 +55,25 @@ no_middle : (front : List ℕ) (key : ℕ) (back : List ℕ) → [] ≡ front ++
 no_middle [] key back e = cc
 no_middle (x ∷ front) key back e = cc
 
+-- the births in the list of a scope without a record, in either layer
+pub none_in : {E : Type 0} → (m : ℕ) (slots : List (Option TaskRecord)) (rows : List (Option (ScopeRecord E))) (ready : Ends) (room s : ℕ) → Stored slots (families_of rows) ready room → get_or rows s None ≡ None → births (listed m s) 0 (tasks_of slots) ≡ []
+none_in zero slots rows ready room s i none = no_subtasks slots rows ready room s i none
+none_in (suc m) slots rows ready room s i none = no_living slots rows ready room s i none
+
+pub other_list : {E : Type 0} → (m : ℕ) (row : ScopeRecord E) → m ≢ 0 → row.living ≡ list_in m row
+other_list zero row ne = absurd (ne refl)
+other_list (suc m) row ne = refl
+
+-- the list of a scope with a record
+pub row_in : {E : Type 0} → (m : ℕ) (slots : List (Option TaskRecord)) (rows : List (Option (ScopeRecord E))) (ready : Ends) (room s : ℕ) (row : ScopeRecord E) → m < 2 → Stored slots (families_of rows) ready room → get_or rows s None ≡ Some row → IsList (link_at slots m) (list_in m row) (births (listed m s) 0 (tasks_of slots))
+row_in zero slots rows ready room s row less i is = i.forks s (family_of row) (family_at rows s row is)
+row_in (suc zero) slots rows ready room s row less i is = i.living s (family_of row) (family_at rows s row is)
+row_in (suc (suc m)) slots rows ready room s row less i is = absurd (omega (arith, less))
+
 -- the list of a subtask's scope
-list_there : {E : Type 0} → (rows : List (Option (ScopeRecord E))) (s t : ℕ) (keys front back : List ℕ) (Is : Ends → List ℕ → Type 0) (list : ScopeRecord E → Ends) → (get_or rows s None ≡ None → keys ≡ []) → ((row : ScopeRecord E) → get_or rows s None ≡ Some row → Is (list row) keys) → keys ≡ front ++ t ∷ back → (l : Ends) × Is l (front ++ t ∷ back)
-list_there {E} rows s t keys front back Is list none some e = by (get_or rows s None) refl
+pub list_of : {E : Type 0} → (m : ℕ) (slots : List (Option TaskRecord)) (rows : List (Option (ScopeRecord E))) (ready : Ends) (room s t : ℕ) (front back : List ℕ) → m < 2 → Stored slots (families_of rows) ready room → births (listed m s) 0 (tasks_of slots) ≡ front ++ t ∷ back → (list : Ends) × IsList (link_at slots m) list (front ++ t ∷ back)
+list_of {E} m slots rows ready room s t front back less i e = by (get_or rows s None) refl
   where
-    by : (o : Option (ScopeRecord E)) → get_or rows s None ≡ o → (l : Ends) × Is l (front ++ t ∷ back)
-    by None q = absurd (no_middle front t back (sym (none q) ∙ e))
-    by (Some row) q = (list row, rw (← e) (some row q))
-
--- that of a living one
-pub lists_living : {E : Type 0} → (slots : List (Option TaskRecord)) (rows : List (Option (ScopeRecord E))) (ready : Ends) (room s t : ℕ) (front back : List ℕ) → Stored slots (families_of rows) ready room → births (lives_in s) 0 (tasks_of slots) ≡ front ++ t ∷ back → (list : Ends) × IsList (link_at slots 1) list (front ++ t ∷ back)
-lists_living slots rows ready room s t front back i = list_there rows s t _ front back (IsList (link_at slots 1)) (λ row. row.living) (no_living slots rows ready room s i) (λ row q. i.living s (family_of row) (family_at rows s row q))
-
--- that of its forks
-pub lists_forks : {E : Type 0} → (slots : List (Option TaskRecord)) (rows : List (Option (ScopeRecord E))) (ready : Ends) (room s t : ℕ) (front back : List ℕ) → Stored slots (families_of rows) ready room → births (is_of s) 0 (tasks_of slots) ≡ front ++ t ∷ back → (list : Ends) × IsList (link_at slots 0) list (front ++ t ∷ back)
-lists_forks slots rows ready room s t front back i = list_there rows s t _ front back (IsList (link_at slots 0)) (λ row. row.forks) (no_subtasks slots rows ready room s i) (λ row q. i.forks s (family_of row) (family_at rows s row q))
+    by : (o : Option (ScopeRecord E)) → get_or rows s None ≡ o → (list : Ends) × IsList (link_at slots m) list (front ++ t ∷ back)
+    by None q = absurd (no_middle front t back (sym (none_in m slots rows ready room s i q) ∙ e))
+    by (Some row) q = (list_in m row, rw (← e) (row_in m slots rows ready room s row less i q))

@@ -4,6 +4,9 @@ use Rattle.std.proofs.lemmas.List.{map-set, map-append}
 use Rattle.std.specs.Prelude.{option_map}
 use Rattle.std.proofs.lemmas.Option.{same_Some}
 use Rattle.sts_tree.specs.Forest.{Forest, family_of, scope_of, families_of, scopes_of}
+use Rattle.sts_tree.specs.Marks.{with_mark}
+use Rattle.sts_tree.specs.declared.record.Mark.{Mark}
+use Rattle.sts_tree.specs.declared.record.Mark.TheVariants.{Cancelled, Expired}
 use Rattle.sts_tree.specs.declared.record.ScopeNode.{ScopeNode}
 use Rattle.sts_tree.specs.declared.record.ScopeRecord.{ScopeRecord}
 use Rattle.sts_tree.proofs.HoldingLemmas.{map_at, unseen}
@@ -36,6 +39,15 @@ module _ {E : Type 0} where
   -- a field of a scope is written
   pub seen_field : (rows : List (Option (ScopeRecord E))) (s : ℕ) (r q : ScopeRecord E) (x y : ScopeNode E) → get_or rows s None ≡ Some r → get_or (scopes_of rows) s None ≡ Some x → (r.scope ≡ x → q.scope ≡ y) → scopes_of (set rows s (Some q)) ≡ set (scopes_of rows) s (Some y)
   seen_field rows s r q x y is e change = seen_row rows s q ∙ ap (λ z. set (scopes_of rows) s (Some z)) (change (own_row rows s r x is e))
+
+  -- a mark changes neither the lists of a scope nor its owner
+  pub marked_family : (m : Mark) (r : ScopeRecord E) → family_of (record r { scope = with_mark m r.scope }) ≡ family_of r
+  marked_family Cancelled r = refl
+  marked_family Expired r = refl
+
+  pub marked_owner : (m : Mark) (c : ScopeNode E) → (with_mark m c).owner ≡ c.owner
+  marked_owner Cancelled c = refl
+  marked_owner Expired c = refl
 
   pub no_scope_there : (rows : List (Option (ScopeRecord E))) (s : ℕ) (x : ScopeNode E) → get_or rows s None ≡ None → get_or (scopes_of rows) s None ≡ Some x → ⊥
   no_scope_there rows s x none is = let e = map_at scope_of rows s ∙ ap (option_map scope_of) none in cc

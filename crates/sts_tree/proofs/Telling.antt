@@ -1,8 +1,8 @@
 -- The joiner was told of one end more.
-use Rattle.std.proofs.Common.{◌≡◌, ℕ, ◌+◌, ◌≤◌, List, length, Option, Some, None, refl, sym, ◌∙◌, ap, arith, get_or, set, get_or-set_same, Bool, true, false, cond}
+use Rattle.std.proofs.Common.{◌≡◌, ℕ, ◌+◌, ◌≤◌, List, ◌++◌, length, Option, Some, None, refl, sym, ◌∙◌, ap, arith, get_or, set, get_or-set_same, Bool, true, false, cond}
 use Rattle.std.proofs.lemmas.List.{set-set, set-get_or}
 use Rattle.sts_joiners.specs.Tallied.{ends_told, with_end}
-use Rattle.sts_links.specs.Lists.{IsList}
+use Rattle.sts_links.specs.Lists.{IsList, BecomesList}
 use Rattle.sts_links.specs.declared.links.Link.{Link}
 use Rattle.sts_links.specs.declared.links.Ends.{Ends}
 use Rattle.sts_model.specs.declared.event.End.{End}
@@ -17,7 +17,7 @@ use Rattle.sts_tree.specs.declared.record.TaskRecord.{TaskRecord}
 use Rattle.sts_tree.specs.declared.record.ScopeNode.{ScopeNode}
 use Rattle.sts_tree.proofs.ForkLemmas.{stays_some}
 use Rattle.sts_tree.proofs.HoldingLemmas.{inside_of}
-use Rattle.sts_tree.proofs.Removing.{EndsIn}
+use Rattle.sts_tree.proofs.Removing.{Ending, EndsIn, ends_in, fewer, spared}
 use Rattle.sts_tree.proofs.StepLemmas.{at_set}
 use Rattle.sts_joiners.proofs.TellLemmas.{one_told}
 
@@ -37,10 +37,14 @@ told_one at tasks families ready keys room s f g i there forks count living fits
     }
 
 -- a subtask has ended, and the joiner of its scope was told of it
-pub tells_in : (slots new : List (Option TaskRecord)) (families : List (Option Family)) (ready : Ends) (room t s : ℕ) (f g h : Family) (y : TaskNode) → EndsIn slots new families ready room t s g y → get_or families s None ≡ Some f → h.forks ≡ g.forks → h.fork_count ≡ g.fork_count → h.living ≡ g.living → h.ends + length (births (lives_in s) 0 (tasks_of new)) ≤ length (births (is_of s) 0 (tasks_of new)) → EndsIn slots new families ready room t s h y
-tells_in slots new families ready room t s f g h y a is forks count living fits =
-    let there : get_or (set families s (Some g)) s None ≡ Some g = get_or-set_same families s (Some g) None (inside_of families s (λ n. let q : Some f ≡ None = sym is ∙ n in cc)) in
-    let one = told_one (link_at new) (tasks_of new) (set families s (Some g)) ready (ready_of new ready) room s g h a.is there forks count living fits in
+pub tells_in : {slots new : List (Option TaskRecord)} {families : List (Option Family)} {ready : Ends} {room t s : ℕ} {r q : TaskRecord} {f : Family} (e : Ending slots families ready room t s r q f) (living : Ends) (h : Family) → BecomesList (link_at (set slots t (Some q))) (link_at new) 1 living ((fewer e).front ++ (fewer e).back) → tasks_of new ≡ tasks_of (set slots t (Some q)) → h.forks ≡ f.forks → h.fork_count ≡ f.fork_count → h.living ≡ living → h.ends ≤ f.ends + 1 → EndsIn slots new families ready room t s h q.task
+tells_in {slots} {new} {families} {ready} {room} {t} {s} {r} {q} {f} e living h list tasks forks count same more =
+    let g : Family = record f { living = living } in
+    let a = ends_in e new living list tasks in
+    let there : get_or (set families s (Some g)) s None ≡ Some g = get_or-set_same families s (Some g) None (inside_of families s (λ n. let no : Some f ≡ None = sym e.there ∙ n in cc)) in
+    let fits = spared e in
+    let told : h.ends + length (births (lives_in s) 0 (tasks_of new)) ≤ length (births (is_of s) 0 (tasks_of new)) = rw a.tasks (omega (arith, fits, more)) in
+    let one = told_one (link_at new) (tasks_of new) (set families s (Some g)) ready (ready_of new ready) room s g h a.is there forks count same told in
     record { is = rw (set-set families s (Some g) (Some h)) at one; tasks = a.tasks; keys_are = a.keys_are }
 
 module _ {E : Type 0} where

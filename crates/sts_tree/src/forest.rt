@@ -12,7 +12,7 @@ ghost use Rattle.laws_words.specs.Keys.{NotIn};
 ghost use Rattle.sts_tree.specs.declared.record.TaskNode.{TaskNode as AnyTask};
 
 use crate::ending::{Ended, tell};
-use crate::record::{ScopeNode, ScopeRecord, TaskNode, TaskRecord};
+use crate::record::{Mark, ScopeNode, ScopeRecord, TaskNode, TaskRecord};
 use crate::tasks::Tasks;
 use std::alloc::{AllocError, Global};
 use std::marker::Model;
@@ -105,8 +105,11 @@ fn remove_all(tasks: &mut Tasks, list: Ends, count: u32)
 
 impl<E: Drop> Forest<E> {
     ghost use Rattle.sts_tree.specs.Forest.{closed, opened, subtask, any_lives};
-    ghost use Rattle.sts_tree.specs.Forest.{is_marked, lives_in, is_of, root};
-    ghost use Rattle.sts_tree.specs.Steps.{is_over};
+    ghost use Rattle.sts_tree.specs.Forest.{is_marked, is_of};
+    ghost use Rattle.sts_tree.specs.Adding.{root_alone, with_opened};
+    ghost use Rattle.sts_tree.specs.Layers.{listed};
+    ghost use Rattle.sts_tree.specs.Marks.{with_mark};
+    ghost use Rattle.sts_tree.specs.Steps.{is_over, with_scope};
     ghost use Rattle.sts_tree.specs.Births.{births};
     ghost use Rattle.sts_links.specs.Lists.{first_or};
     ghost use Rattle.sts_joiners.specs.Tallied.{ends_told};
@@ -122,15 +125,7 @@ impl<E: Drop> Forest<E> {
     pub fn with_room(alloc: Global, tasks: u32, scopes: u32) -> Result<Forest<E>, AllocError>
         requires some { 0 < tasks }
         requires few { tasks ≤ 65536 }
-        ensures value { IfOk result (λ f. f ≡ record {
-          tasks = Some root ∷ [];
-          scopes = [];
-          ready = 0 ∷ [];
-          task_keys = f.task_keys;
-          scope_keys = [];
-          task_room = tasks - 1;
-          scope_room = scopes;
-        }) }
+        ensures value { IfOk result (λ f. f ≡ root_alone f.task_keys tasks scopes) }
         ensures keys { IfOk result (λ f. (key : ℕ) × (f.task_keys ≡ key ∷ [])) }
     {
         let mut held = Held::with_room(alloc, tasks)?;
@@ -296,11 +291,8 @@ impl<E: Drop> Forest<E> {
         requires room { 0 < self.old.scope_room }
         requires born { length self.old.scopes < 1000000 }
         ensures birth { result ≡ length self.old.scopes }
-        ensures opened { self.new ≡ record self.old {
-          scopes = self.old.scopes ++ Some (opened owner joiner timed environment) ∷ [];
-          scope_keys = self.new.scope_keys;
-          scope_room = self.old.scope_room - 1;
-        } }
+        ensures opened { self.new ≡
+            with_opened self.old (opened owner joiner timed environment) self.new.scope_keys }
         ensures keys { (key : ℕ) × (self.new.scope_keys ≡ self.old.scope_keys ++ key ∷ []) }
     {
         let scope = ScopeNode {
@@ -366,26 +358,13 @@ impl<E: Drop> Forest<E> {
         self.scopes.at(s as usize).scope.phase = phase;
     }
 
-    /// Marks a scope as cancelled.
-    pub fn mark_cancelled(&mut self, s: u32)
+    /// Marks a scope.
+    pub fn mark(&mut self, s: u32, mark: Mark)
         requires { slice_index_or self.old.scopes s None ≢ None }
         ensures { (x : AnyScope E) → slice_index_or self.old.scopes s None ≡ Some x →
-            self.new ≡ record self.old {
-              scopes = slice_set self.old.scopes s (Some (record x { cancelled = true }));
-            } }
+            self.new ≡ with_scope self.old s (with_mark mark x) }
     {
-        self.scopes.at(s as usize).scope.cancelled = true;
-    }
-
-    /// Marks a scope as expired.
-    pub fn mark_expired(&mut self, s: u32)
-        requires { slice_index_or self.old.scopes s None ≢ None }
-        ensures { (x : AnyScope E) → slice_index_or self.old.scopes s None ≡ Some x →
-            self.new ≡ record self.old {
-              scopes = slice_set self.old.scopes s (Some (record x { expired = true }));
-            } }
-    {
-        self.scopes.at(s as usize).scope.expired = true;
+        self.scopes.at(s as usize).scope.mark(mark);
     }
 
     /// Ends a task: it leaves the living subtasks of its scope. Unless the scope is cancelled, the
@@ -517,44 +496,30 @@ impl<E: Drop> Forest<E> {
         }
     }
 
-    /// The first living subtask in fork order.
-    pub fn living_front(&self, s: u32) -> Option<u32>
-        ensures { result ≡ first_or (births (lives_in s) 0 self.now.tasks) None }
+    /// The first subtask of a scope in the list of this layer: in layer 0 of all its subtasks, in
+    /// layer 1 of those that live. The list is in fork order.
+    #[inline(always)]
+    pub fn front_in(&self, layer: u8, s: u32) -> Option<u32>
+        requires { layer < 2 }
+        ensures { result ≡ first_or (births (listed layer s) 0 self.now.tasks) None }
     {
         match self.scopes.get(s as usize) {
             None => None,
-            Some(row) => small(row.living.first),
+            Some(row) => small(row.list(layer).first),
         }
     }
 
-    /// The next living subtask of its scope in fork order.
-    pub fn living_after(&self, t: u32) -> Option<u32>
-        requires { (s : ℕ) × (front : List ℕ) × (back : List ℕ)
-            × (births (lives_in s) 0 self.now.tasks ≡ front ++ t ∷ back) }
+    /// The next subtask of its scope in the list of this layer.
+    #[inline(always)]
+    pub fn after_in(&self, layer: u8, t: u32) -> Option<u32>
+        requires layer { layer < 2 }
+        requires list { (s : ℕ) × (front : List ℕ) × (back : List ℕ)
+            × (births (listed layer s) 0 self.now.tasks ≡ front ++ t ∷ back) }
         ensures { (s : ℕ) (front back : List ℕ) →
-            births (lives_in s) 0 self.now.tasks ≡ front ++ t ∷ back → result ≡ first_or back None }
+            births (listed layer s) 0 self.now.tasks ≡ front ++ t ∷ back →
+            result ≡ first_or back None }
     {
-        small(after(&self.tasks, 1, t as usize))
-    }
-
-    /// The first subtask in fork order.
-    pub fn fork_front(&self, s: u32) -> Option<u32>
-        ensures { result ≡ first_or (births (is_of s) 0 self.now.tasks) None }
-    {
-        match self.scopes.get(s as usize) {
-            None => None,
-            Some(row) => small(row.forks.first),
-        }
-    }
-
-    /// The next subtask of its scope in fork order.
-    pub fn fork_after(&self, t: u32) -> Option<u32>
-        requires { (s : ℕ) × (front : List ℕ) × (back : List ℕ)
-            × (births (is_of s) 0 self.now.tasks ≡ front ++ t ∷ back) }
-        ensures { (s : ℕ) (front back : List ℕ) →
-            births (is_of s) 0 self.now.tasks ≡ front ++ t ∷ back → result ≡ first_or back None }
-    {
-        small(after(&self.tasks, 0, t as usize))
+        small(after(&self.tasks, layer, t as usize))
     }
 
     /// The next of the ready list.

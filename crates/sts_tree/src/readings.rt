@@ -204,7 +204,7 @@ impl<E: Drop> Tree<E> {
     pub fn fork_front(&self, s: u32) -> Option<u32>
         ensures { result ≡ first_or (births (is_of s) 0 self.now.tasks) None }
     {
-        self.forest.fork_front(s)
+        self.forest.front_in(0, s)
     }
 
     /// The next subtask of its scope in fork order.
@@ -214,14 +214,14 @@ impl<E: Drop> Tree<E> {
         ensures { (s : ℕ) (front back : List ℕ) →
             births (is_of s) 0 self.now.tasks ≡ front ++ t ∷ back → result ≡ first_or back None }
     {
-        self.forest.fork_after(t)
+        self.forest.after_in(0, t)
     }
 
     /// The first living subtask in fork order.
     pub fn living_front(&self, s: u32) -> Option<u32>
         ensures { result ≡ first_or (births (lives_in s) 0 self.now.tasks) None }
     {
-        self.forest.living_front(s)
+        self.forest.front_in(1, s)
     }
 
     /// The next living subtask of its scope in fork order.
@@ -231,7 +231,7 @@ impl<E: Drop> Tree<E> {
         ensures { (s : ℕ) (front back : List ℕ) →
             births (lives_in s) 0 self.now.tasks ≡ front ++ t ∷ back → result ≡ first_or back None }
     {
-        self.forest.living_after(t)
+        self.forest.after_in(1, t)
     }
 
     /// The key of a task's record, if it exists.

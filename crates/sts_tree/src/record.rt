@@ -1,5 +1,9 @@
 //! The records of tasks and of scopes.
 
+ghost use Rattle.std.specs.Prelude.{◌≡◌};
+ghost use Rattle.sts_tree.specs.Layers.{list_in};
+ghost use Rattle.sts_tree.specs.Marks.{with_mark};
+
 use sts_joiners::Tally;
 use sts_links::{Ends, Link};
 use sts_model::{End, Phase, Stand};
@@ -38,6 +42,26 @@ pub struct ScopeNode<E> {
     pub environment: E,
 }
 
+/// A mark of a scope. It is never taken back.
+#[derive(Clone, Copy)]
+pub enum Mark {
+    Cancelled,
+    Expired,
+}
+
+impl<E: Drop> ScopeNode<E> {
+    /// Marks the scope.
+    #[inline(always)]
+    pub(crate) fn mark(&mut self, mark: Mark)
+        ensures { self.new ≡ with_mark mark self.old }
+    {
+        match mark {
+            Mark::Cancelled => self.cancelled = true,
+            Mark::Expired => self.expired = true,
+        }
+    }
+}
+
 /// A scope with the lists of its subtasks.
 #[derive(Drop)]
 pub(crate) struct ScopeRecord<E> {
@@ -45,4 +69,14 @@ pub(crate) struct ScopeRecord<E> {
     pub(crate) forks: Ends,
     pub(crate) fork_count: u32,
     pub(crate) living: Ends,
+}
+
+impl<E: Drop> ScopeRecord<E> {
+    /// Returns the list in a layer: of all subtasks in layer 0, of the living ones in layer 1.
+    #[inline(always)]
+    pub(crate) fn list(&self, layer: u8) -> Ends
+        ensures { result ≡ list_in layer self.now }
+    {
+        if layer == 0 { self.forks } else { self.living }
+    }
 }

@@ -8,10 +8,12 @@ ghost use Rattle.sts_tree.specs.declared.record.TaskNode.{TaskNode as AnyTask};
 ghost use Rattle.sts_links.specs.Lists.{AreDistinct, first_or};
 ghost use Rattle.sts_model.specs.declared.event.Stand.TheVariants.{Free};
 ghost use Rattle.sts_tree.specs.Ending.{asks_ended, ended};
+ghost use Rattle.sts_tree.specs.Marks.{with_mark};
 ghost use Rattle.sts_tree.specs.Steps as steps;
 ghost use Rattle.sts_tree.specs.Steps.{seen, with_task, with_scope, stands_at};
 
 use crate::forest::Forest;
+use crate::record::Mark;
 use crate::settling::{Place, can_go, settle, settle_at, settle_waiting};
 use std::alloc::{AllocError, Global};
 use std::marker::Model;
@@ -167,8 +169,7 @@ impl<E: Drop> Tree<E> {
         ensures { (x : AnyTask) → slice_index_or self.old.tasks t None ≡ Some x →
             seen self.new ≡ seen (with_task self.old t (record x { flag = true })) }
     {
-        self.forest.set_flag(t, true);
-        settle(&mut self.forest, t);
+        self.set_flag(t, true);
     }
 
     /// Clears a task's flag.
@@ -177,7 +178,17 @@ impl<E: Drop> Tree<E> {
         ensures { (x : AnyTask) → slice_index_or self.old.tasks t None ≡ Some x →
             seen self.new ≡ seen (with_task self.old t (record x { flag = false })) }
     {
-        self.forest.set_flag(t, false);
+        self.set_flag(t, false);
+    }
+
+    /// Sets or clears a task's flag.
+    #[inline(always)]
+    fn set_flag(&mut self, t: u32, flag: bool)
+        requires { slice_index_or self.old.tasks t None ≢ None }
+        ensures { (x : AnyTask) → slice_index_or self.old.tasks t None ≡ Some x →
+            seen self.new ≡ seen (with_task self.old t (record x { flag = flag })) }
+    {
+        self.forest.set_flag(t, flag);
         settle(&mut self.forest, t);
     }
 
@@ -236,9 +247,7 @@ impl<E: Drop> Tree<E> {
         ensures { (c : AnyScope E) → slice_index_or self.old.scopes s None ≡ Some c →
             seen self.new ≡ seen (with_scope self.old s (record c { cancelled = true })) }
     {
-        let owner = self.forest.scope_node(s).owner;
-        self.forest.mark_cancelled(s);
-        settle(&mut self.forest, owner);
+        self.mark(s, Mark::Cancelled);
     }
 
     /// Marks a scope as expired, and wakes its owner.
@@ -247,8 +256,18 @@ impl<E: Drop> Tree<E> {
         ensures { (c : AnyScope E) → slice_index_or self.old.scopes s None ≡ Some c →
             seen self.new ≡ seen (with_scope self.old s (record c { expired = true })) }
     {
+        self.mark(s, Mark::Expired);
+    }
+
+    /// Marks a scope, and wakes its owner.
+    #[inline(always)]
+    fn mark(&mut self, s: u32, mark: Mark)
+        requires { slice_index_or self.old.scopes s None ≢ None }
+        ensures { (c : AnyScope E) → slice_index_or self.old.scopes s None ≡ Some c →
+            seen self.new ≡ seen (with_scope self.old s (with_mark mark c)) }
+    {
         let owner = self.forest.scope_node(s).owner;
-        self.forest.mark_expired(s);
+        self.forest.mark(s, mark);
         settle(&mut self.forest, owner);
     }
 

@@ -1,4 +1,4 @@
-use Rattle.std.proofs.Common.{◌≡◌, ◌&&◌, refl, sym, ◌∙◌, ap, subst}
+use Rattle.std.proofs.Common.{◌≡◌, Bool, ◌&&◌, refl, sym, ◌∙◌, ap, subst}
 use Rattle.std.proofs.lemmas.Option.{same_Some}
 use Rattle.sts_model.specs.declared.event.Stand.{Stand}
 use Rattle.sts_tree.specs.Forest.{Forest}
@@ -8,15 +8,17 @@ use Rattle.sts_tree.proofs.SeeingLemmas.{same_steps}
 use Rattle.sts_tree.proofs.tree.Tree.stands.Goals as goal
 use Rattle.sts_tree.proofs.tree.Tree.stands.Goals.{then-was, else-was}
 
-pub invariant_of-self : goal.invariant_of-self
-invariant_of-self g c =
+-- the stand was there before: nothing changes
+unchanged : (g : _) (c : goal.Then-is_same g) → c.swap_stand-is_same.new.self ≡ c.self.inside.forest
+unchanged g c =
     let f = c.self.inside.forest in
     let x = c.swap_stand-is_same.result.0 in
-    let kept : with_task f c.args.t (record x { stand = c.args.stand }) ≡ f =
-    ap (λ (q : Stand). with_task f c.args.t (record x { stand = q })) (sym (c.swap_stand-is_same.ensures.same c.if-is_same.true))
+    c.swap_stand-is_same.ensures.set
+    ∙ ap (λ (q : Stand). with_task f c.args.t (record x { stand = q })) (sym (c.swap_stand-is_same.ensures.same c.if-is_same.true))
     ∙ same_task f c.args.t x c.swap_stand-is_same.ensures.was
-    in
-    subst IsTree (sym (c.swap_stand-is_same.ensures.set ∙ kept)) c.self.invariant
+
+pub invariant_of-self : goal.invariant_of-self
+invariant_of-self g c = subst IsTree (sym (unchanged g c)) c.self.invariant
 
 pub returns-then-is_same-clause-seen : goal.returns-then-is_same-clause-seen
 returns-then-is_same-clause-seen g c x is =
@@ -25,14 +27,7 @@ returns-then-is_same-clause-seen g c x is =
 
 pub returns-then-is_same-clause-can_step : goal.returns-then-is_same-clause-can_step
 returns-then-is_same-clause-can_step g c =
-    let f = c.self.inside.forest in
-    let x = c.swap_stand-is_same.result.0 in
-    let kept : with_task f c.args.t (record x { stand = c.args.stand }) ≡ f =
-    ap (λ (q : Stand). with_task f c.args.t (record x { stand = q })) (sym (c.swap_stand-is_same.ensures.same c.if-is_same.true))
-    ∙ same_task f c.args.t x c.swap_stand-is_same.ensures.was
-    in
-    c.swap_stand-is_same.ensures.ready ∙ c.self.invariant.ready c.args.t
-    ∙ sym (ap (λ h. can_step h c.args.t) (c.swap_stand-is_same.ensures.set ∙ kept))
+    c.swap_stand-is_same.ensures.ready ∙ c.self.invariant.ready c.args.t ∙ sym (ap (λ h. can_step h c.args.t) (unchanged g c))
 
 pub invariant_of-self-2 : goal.invariant_of-self-2
 invariant_of-self-2 g c =
@@ -50,13 +45,11 @@ pub returns-clause-can_step : goal.returns-clause-can_step
 returns-clause-can_step g c =
     let x = c.swap_stand-is_same.result.0 in
     let mid = c.swap_stand-is_same.new.self in
-    let own : can_step mid c.args.t ≡ (x.lives && can_go mid x.flag c.args.stand) =
-    rw c.swap_stand-is_same.ensures.set (steps_own c.self.inside.forest c.args.t x (record x { stand = c.args.stand }) c.swap_stand-is_same.ensures.was)
-    in
-    let is : c.if-was.can_step ≡ (x.lives && can_go mid x.flag c.args.stand) =
-    elim c.if-was.branch [
-      | then-was w ↦ let s = ap (λ b. b && can_go mid x.flag c.args.stand) w.if-was.true in cc (s, w.can_step-is, w.can_go-can_step.ensures)
-      | else-was w ↦ let s = ap (λ b. b && can_go mid x.flag c.args.stand) w.if-was.false in cc (s, w.can_step-is)
-    ]
-    in
+    let go = λ (b : Bool). b && can_go mid x.flag c.args.stand in
+    let own : can_step mid c.args.t ≡ go x.lives =
+    rw c.swap_stand-is_same.ensures.set (steps_own c.self.inside.forest c.args.t x (record x { stand = c.args.stand }) c.swap_stand-is_same.ensures.was) in
+    let is : c.if-was.can_step ≡ go x.lives = elim c.if-was.branch [
+      | then-was w ↦ let s = ap go w.if-was.true in cc (s, w.can_step-is, w.can_go-can_step.ensures)
+      | else-was w ↦ let s = ap go w.if-was.false in cc (s, w.can_step-is)
+    ] in
     is ∙ sym own ∙ sym (same_steps c.settle_at.new.forest mid c.settle_at.ensures.seen c.args.t)
