@@ -8,23 +8,12 @@ ghost use Rattle.laws_calls.specs.declared.table.Way.{Way};
 ghost use Rattle.sts_plain.specs.declared.misstep.PlainState.TheVariants as plain;
 
 use ends_plain::config::{Found, Setting};
+use ends_plain::ends::is_found;
 use ends_table::closing::closed_table;
 use laws_calls::ends_are_ways;
 use laws_calls::table::{Outside, Way};
 use std::alloc::{AllocError, Global};
 use sts_plain::PlainState;
-
-/// Is the end among these?
-fn is_found(found: &[Found], end: PlainState) -> bool
-    ensures { result ≡ true → Contains (ends_of found.now) end }
-{
-    for one in found {
-        if one.end == end {
-            return true;
-        }
-    }
-    false
-}
 
 /// Is the end of each way among these?
 fn have_ways(found: &[Found], ways: &[Way]) -> bool

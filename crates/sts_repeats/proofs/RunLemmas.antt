@@ -143,6 +143,14 @@ count_more p runs i d less = ap (count_by p) (spread_more runs i d less) ∙ sum
         by true = omega arith
         by false = omega arith
 
+-- a count goes on by what counts of one run
+pub count_on : {X : Type 0} (p : X → Bool) (runs : List (Run X)) (i : ℕ) (run : Run X) {count here : ℕ} {passes : Bool} → i < length runs → run ≡ get_or runs i run → count ≡ count_by p (spread (take i runs))
+    → here ≡ cond passes (run.more + 1) 0 → passes ≡ p run.value → count + here ≡ count_by p (spread (take (i + 1) runs))
+count_on {X} p runs i run {count} {here} {passes} less is so_far counts agrees =
+    ap (λ n. n + here) so_far
+    ∙ ap (λ n. count_by p (spread (take i runs)) + n) (counts ∙ ap (λ b. cond b (run.more + 1) 0) agrees ∙ ap (λ (r : Run X). cond (p r.value) (r.more + 1) 0) is)
+    ∙ sym (count_more p runs i run less)
+
 -- ---- tests and changes of each value
 
 all_equal : {X : Type 0} (p : X → Bool) (m : ℕ) (v : X) (xs : List X) → p v ≡ true → list_all p (replicate m v ++ xs) ≡ list_all p xs

@@ -1,10 +1,10 @@
-use Rattle.std.proofs.Common.{◌≡◌, ◌+◌, ◌<◌, refl, sym, ◌∙◌, ap, arith, length, take, cond}
+use Rattle.std.proofs.Common.{◌≡◌, ◌<◌, refl, ◌∙◌, ap, arith, length, take}
 use Rattle.std.specs.Prelude.{count_by}
 use Rattle.std.specs.Fn.{FnReturnsAt}
 use Rattle.std.proofs.lemmas.Fn.{says_at}
 use Rattle.std.proofs.lemmas.List.{take_all}
 use Rattle.sts_repeats.specs.Spread.{spread}
-use Rattle.sts_repeats.proofs.RunLemmas.{count_more, length_more, fits}
+use Rattle.sts_repeats.proofs.RunLemmas.{count_on, length_more, fits}
 use Rattle.sts_repeats.proofs.runs.count.Goals as goal
 
 pub loop-run-init : goal.loop-run-init
@@ -32,9 +32,8 @@ loop-run-preserved g c =
     let same = ap (λ r. r.more) c.run-item.is in
     let at : FnReturnsAt g.F.Fn c.args.test run.value c.test-passes.result = says_at g.F.Fn c.test-passes.ensures refl in (
       omega (arith, longer, same, c.counted-count.ensures.few, c.loop-run.invariant.0),
-      λ p agree. ap (λ n. n + c.counted-count.result) (c.loop-run.invariant.1 p agree)
-          ∙ ap (λ n. count_by p (spread (take i runs)) + n) (c.counted-count.ensures.number ∙ ap (λ b. cond b (run.more + 1) 0) (agree run.value c.test-passes.result at) ∙ ap (λ r. cond (p r.value) (r.more + 1) 0) c.run-item.is)
-          ∙ sym (count_more p runs i run less),
+      λ p agree. count_on p runs i run less c.run-item.is (c.loop-run.invariant.1 p agree) c.counted-count.ensures.number
+          (agree run.value c.test-passes.result at),
     )
 
 pub returns : goal.returns
