@@ -1,5 +1,5 @@
 -- Instructions that only pop and push, and go on to the next place (this project's own).
-use Rattle.std.specs.Prelude.{Bool, true, false, ◌&&◌, ℕ, ◌≡◌, ◌+◌, ◌-◌, ◌≤◌, None}
+use Rattle.std.specs.Prelude.{Bool, true, false, ◌&&◌, ◌||◌, ℕ, ◌≡◌, ◌+◌, ◌-◌, ◌≤◌, None}
 use Rattle.sts_code.specs.Facts.{pops, pushes}
 use Rattle.sts_code.specs.Program.{Program}
 use Rattle.sts_code.specs.declared.limits.TheConstants.{MAX_OPERANDS}
@@ -9,6 +9,13 @@ use Rattle.sts_code.specs.declared.instr.Instr.{Instr}
 use Rattle.sts_code.specs.declared.instr.Instr.TheVariants.{Bound, OrElse, Interrupted, Div, Jmp, Jz}
 use Rattle.sts_code.specs.declared.instr.Instr.TheVariants.{Times, Next, Join, Case, Ret, Fail}
 use Rattle.sts_model.specs.Local.{is_local}
+
+-- the instruction asks for a binding or an interrupt, and can't fail
+abbrev pub only_asks : Instr → Bool
+only_asks (Bound k) = true
+only_asks (OrElse k) = true
+only_asks Interrupted = true
+only_asks _ = false
 
 -- the instruction only goes on to the next place, and begins and ends no loop
 abbrev pub is_straight : Instr → Bool
@@ -23,13 +30,9 @@ is_straight Ret = false
 is_straight Fail = false
 is_straight _ = true
 
--- a local instruction like that, or one that asks the environment or for an interrupt: it only pops
--- and pushes
+-- the instruction only pops and pushes, and goes on to the next place
 abbrev pub is_simple : Instr → Bool
-is_simple (Bound k) = true
-is_simple (OrElse k) = true
-is_simple Interrupted = true
-is_simple i = is_local i && is_straight i
+is_simple i = only_asks i || (is_local i && is_straight i)
 
 -- the instruction only pops and pushes, no cause holds, and afterwards there are this many operands
 pub record IsShort (p : Program) (f pc : ℕ) (i : Instr) (s : TypeState) (n : ℕ) : Type 0 where
