@@ -1,10 +1,9 @@
 //! A word of a trace in the short form.
 
 ghost use Rattle.std.specs.Prelude.{◌≡◌, IfSome, ◌<◌, ◌^◌};
-ghost use Rattle.std.specs.List.{after_first, before_first, position};
 ghost use Rattle.look_traces.specs.Short as def;
 
-use sts_text::numeral;
+use sts_text::{cut_at, numeral};
 
 /// The most events that a trace in the short form may mean.
 pub const MOST_EVENTS: u32 = 1_000_000;
@@ -18,42 +17,6 @@ pub enum Part {
     Interrupt(u32),
     /// An expiry of a scope.
     Expire(u32),
-}
-
-fn star_in(word: &[u8]) -> Option<usize>
-    ensures { result ≡ position def.is_star word.now }
-{
-    word.iter().position(|b| *b == b'*')
-}
-
-/// The parts before and after the first star, or the whole word and nothing.
-#[tactic(auto, using(sts_text::proofs::WordLemmas::positions))]
-fn cut_at_star(word: &[u8]) -> (&[u8], &[u8])
-    ensures front { result.0.now ≡ before_first def.is_star word.now }
-    ensures back { result.1.now ≡ after_first def.is_star word.now }
-{
-    match star_in(word) {
-        Some(end) => (&word[..end], &word[end + 1..]),
-        None => (word, &[]),
-    }
-}
-
-fn dot_in(tasks: &[u8]) -> Option<usize>
-    ensures { result ≡ position def.is_dot tasks.now }
-{
-    tasks.iter().position(|b| *b == b'.')
-}
-
-/// The parts before and after the first dot, or all bytes and nothing.
-#[tactic(auto, using(sts_text::proofs::WordLemmas::positions))]
-fn cut_at_dot(tasks: &[u8]) -> (&[u8], &[u8])
-    ensures front { result.0.now ≡ before_first def.is_dot tasks.now }
-    ensures back { result.1.now ≡ after_first def.is_dot tasks.now }
-{
-    match dot_in(tasks) {
-        Some(end) => (&tasks[..end], &tasks[end + 1..]),
-        None => (tasks, &[]),
-    }
 }
 
 /// The task after one more dot, or the first one if nothing follows.
@@ -70,7 +33,7 @@ fn last_of(first: u32, rest: &[u8]) -> Option<u32>
 fn steps_of(tasks: &[u8], times: &[u8]) -> Option<Part>
     ensures { result ≡ def.steps_of tasks.now times.now }
 {
-    let (front, back) = cut_at_dot(tasks);
+    let (front, back) = cut_at(tasks, b'.');
     let first = numeral(front)?;
     let last = last_of(first, back)?;
     let times = numeral(times)?;
@@ -85,7 +48,7 @@ pub(crate) fn part_of(word: &[u8]) -> Option<Part>
         [b'i', digits @ ..] => Some(Part::Interrupt(numeral(digits)?)),
         [b'x', digits @ ..] => Some(Part::Expire(numeral(digits)?)),
         _ => {
-            let (tasks, times) = cut_at_star(word);
+            let (tasks, times) = cut_at(word, b'*');
             steps_of(tasks, times)
         }
     }

@@ -1,7 +1,7 @@
 -- Reading a trace or outside events line by line, with the first fault that is met (this project's
 -- own).
-use Rattle.std.specs.Prelude.{◌≡◌, ⊤, ℕ, ◌+◌, List, [], ◌∷◌, Option, Some, None, Result, Ok, Err}
-use Rattle.std.specs.Prelude.{Bool, ◌&&◌, ◌||◌, nat_lt, if◌then◌else◌, codes}
+use Rattle.std.specs.Prelude.{◌≡◌, ⊤, ℕ, ◌+◌, ◌<◌, List, [], ◌∷◌, length, Option, Some, None, Result, Ok}
+use Rattle.std.specs.Prelude.{Err, Bool, ◌&&◌, ◌||◌, nat_lt, if◌then◌else◌, codes}
 use Rattle.std.specs.Str.{bytes_eq}
 use Rattle.sts_code.specs.declared.limits.TheConstants.{MAX_OUTSIDE}
 use Rattle.sts_model.specs.declared.event.Event.{Event}
@@ -86,6 +86,14 @@ lines_read said at (rest ∷ []) = if is_filled rest then Err NoNewline else Ok 
 lines_read said at (line ∷ next ∷ more) =
     said at line >>= λ first. lines_read said (at + 1) (next ∷ more)
     >>= λ others. Ok (first ∷ others)
+
+-- This is what the first line says, and the text after it.
+pub record IsFirst {A : Type 0} (said : ℕ → List ℕ → Result A TraceError) (at : ℕ)
+    (text : List ℕ) (told : Result A TraceError) (after : List ℕ) : Type 0 where
+  pub line : List ℕ
+  pub cut : lines text ≡ line ∷ lines after
+  pub says : Gives (λ x. x) told (said at line)
+  pub shorter : length after < length text
 
 -- the events that a text spells, or its first fault
 abbrev pub trace_read : List ℕ → Result (List Event) TraceError

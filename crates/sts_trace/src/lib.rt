@@ -4,6 +4,7 @@
 mod error;
 mod fields;
 mod outside;
+mod reading;
 mod trace;
 mod writing;
 

@@ -7,6 +7,7 @@ ghost use Rattle.sts_trace.specs.Reading.{Gives, due_line, due_said, outside_rea
 
 use crate::error::TraceError;
 use crate::fields::{event_of, numeral_at};
+use crate::reading::{Line, read_lines};
 use std::alloc::Global;
 use sts_code::MAX_OUTSIDE;
 use sts_model::Event;
@@ -69,24 +70,12 @@ fn due_said(
     Ok(Due { at: time, event })
 }
 
-// A function of its own, since the further clauses of `read_outside` are laws about its result.
-#[tactic(auto, using(crate::proofs::Lines::reads))]
-fn read_dues(alloc: Global, text: &[u8]) -> Result<Vec<Due>, TraceError>
-    ensures { Gives (λ dues. dues.items) result (outside_read text.now) }
-{
-    let mut dues = Vec::new(alloc);
-    let mut rest = text;
-    let mut at: u64 = 1;
-    while let Some((line, after)) = cut_at_newline(rest) {
-        let due = due_line(at, line)?;
-        dues.push(due)?;
-        rest = after;
-        at += 1;
-    }
-    if rest.is_empty() {
-        Ok(dues)
-    } else {
-        Err(TraceError::NoNewline)
+impl Line for Due {
+    ghost said = { due_line };
+
+    fn first(at: u64, text: &[u8]) -> Option<(Result<Due, TraceError>, &[u8])> {
+        let (line, after) = cut_at_newline(text)?;
+        Some((due_line(at, line), after))
     }
 }
 
@@ -113,5 +102,5 @@ pub fn read_outside(alloc: Global, text: &[u8]) -> Result<Vec<Due>, TraceError>
     // What is wrong is the first fault.
     ensures exact { Gives (λ dues. dues.items) result (outside_read text.now) }
 {
-    read_dues(alloc, text)
+    read_lines(alloc, text)
 }

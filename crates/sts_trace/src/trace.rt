@@ -12,6 +12,7 @@ ghost use Rattle.sts_trace.specs.Reading.{Gives, bytes_of, event_line, event_sai
 
 use crate::error::TraceError;
 use crate::fields::event_of;
+use crate::reading::{Line, read_lines};
 use std::alloc::Global;
 use sts_model::Event;
 use sts_text::{cut_at_newline, cut_at_space};
@@ -140,24 +141,13 @@ fn event_in(at: u64, task: Option<u32>, line: &[u8]) -> Result<Event, TraceError
     }
 }
 
-// A function of its own, since the further clauses of `read_trace` are laws about its result.
-#[tactic(auto, using(crate::proofs::Lines::reads))]
-fn read_events(alloc: Global, text: &[u8]) -> Result<Vec<Event>, TraceError>
-    ensures { Gives (λ events. events.items) result (trace_read text.now) }
-{
-    let mut events = Vec::new(alloc);
-    let mut rest = text;
-    let mut at: u64 = 1;
-    while let Some((line, task, after)) = first_line(rest) {
-        let event = event_in(at, task, line)?;
-        events.push(event)?;
-        rest = after;
-        at += 1;
-    }
-    if rest.is_empty() {
-        Ok(events)
-    } else {
-        Err(TraceError::NoNewline)
+impl Line for Event {
+    ghost said = { event_line };
+
+    #[inline(always)]
+    fn first(at: u64, text: &[u8]) -> Option<(Result<Event, TraceError>, &[u8])> {
+        let (line, task, after) = first_line(text)?;
+        Some((event_in(at, task, line), after))
     }
 }
 
@@ -183,5 +173,5 @@ pub fn read_trace(alloc: Global, text: &[u8]) -> Result<Vec<Event>, TraceError>
     // What is wrong is the first fault.
     ensures exact { Gives (λ events. events.items) result (trace_read text.now) }
 {
-    read_events(alloc, text)
+    read_lines(alloc, text)
 }
