@@ -10,7 +10,7 @@ use look_text::{
 };
 use std::alloc::{AllocError, Global};
 use sts_asm::{AsmError, AsmKind, Outline};
-use sts_code::CodeError;
+use sts_code::{CodeError, Program};
 use sts_rules::Cause;
 
 /// Why a text has a problem, as its code says it.
@@ -18,6 +18,22 @@ use sts_rules::Cause;
 pub(crate) enum Problem {
     Fault(AsmKind),
     Refusal(Cause),
+}
+
+/// A problem, and the line where it is.
+#[derive(Clone, Copy)]
+pub(crate) struct Finding {
+    pub(crate) line: u32,
+    pub(crate) problem: Problem,
+}
+
+/// What a refusal is about: the place of an instruction in a program, and why it is refused.
+#[derive(Clone, Copy)]
+pub(crate) struct Refusal<'p> {
+    pub(crate) program: &'p Program,
+    pub(crate) function: u32,
+    pub(crate) pc: u32,
+    pub(crate) cause: Cause,
 }
 
 /// The line of a failed check.

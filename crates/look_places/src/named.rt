@@ -4,15 +4,16 @@ ghost use Rattle.std.specs.Prelude.{◌≡◌, ◌++◌, IfOk, OnOk, false};
 ghost use Rattle.std.specs.List.{before_first, position};
 ghost use Rattle.sts_output.specs.Output as cli;
 ghost use Rattle.sts_text.specs.Words.{lines};
+ghost use Rattle.look_refusal.specs.Stops.{Prints};
 ghost use Rattle.look_places.specs.Named as def;
 
 use crate::explained::explained;
 use look_names::{Names, Said};
-use look_refusal::Explanation;
+use look_refusal::{ExplainError, Explanation, write_explained};
 use look_text::say;
 use std::alloc::{AllocError, Global};
 use std::io::Write;
-use sts_output::{TakeError, WriteFailed, failed, written};
+use sts_output::WriteFailed;
 use sts_text::{Words, cut_at_newline, digits_up_to};
 
 /// The status for a fault of a text.
@@ -152,11 +153,11 @@ fn named_if(alloc: Global, text: &[u8], told: Explanation) -> Result<Explanation
     }
 }
 
-fn named_of(alloc: Global, text: &[u8]) -> Result<Explanation, AllocError>
-    ensures { IfOk result (def.IsNamed text.now) }
+fn named_of(alloc: Global, text: &[u8]) -> Result<Explanation, ExplainError>
+    ensures { Prints result (def.IsNamed text.now) }
 {
     let told = explained(alloc, text)?;
-    named_if(alloc, text, told)
+    Ok(named_if(alloc, text, told)?)
 }
 
 /// Writes what is wrong with a text, if anything is, with the names of the lines that it mentions,
@@ -171,8 +172,5 @@ pub fn write_named<W: Write>(alloc: Global, text: &[u8], out: &mut W) -> Result<
     ensures { IfOk result (λ s. (o : cli.Output) × def.IsNamedExplanation text.now o
         × cli.Writes (W.contents out.old) (W.contents out.new) s o) }
 {
-    match named_of(alloc, text) {
-        Ok(output) => written(out, output.bytes.as_slice(), output.status),
-        Err(_) => failed(TakeError::Memory, out),
-    }
+    write_explained(named_of(alloc, text), out)
 }

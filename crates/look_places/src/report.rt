@@ -9,38 +9,37 @@ ghost use Rattle.sts_output.specs.Output as cli;
 ghost use Rattle.sts_rules.specs.Refusal.{IsAccepted, IsRefusal};
 ghost use Rattle.sts_text.specs.Words.{lines};
 ghost use Rattle.look_text.specs.Lines.{fault_lines as lines_of_fault};
+ghost use Rattle.look_refusal.specs.Stops.{Prints};
 ghost use Rattle.look_places.specs.Faults.{code, refusal_code};
 ghost use Rattle.look_places.specs.Marks.{line_of};
 ghost use Rattle.look_places.specs.Reports as def;
 
 use crate::explained::explained;
-use crate::faults::{Problem, fault_line};
+use crate::faults::{Finding, Problem, Refusal, fault_line};
 use crate::marks::Source;
-use look_accepted::{Note, all_notes};
+use look_accepted::all_notes;
 use look_names::{Names, outline_of};
-use look_refusal::Explanation;
+use look_refusal::{ExplainError, Explanation, write_explained};
 use look_text::fault_lines;
 use std::alloc::{AllocError, Global};
 use std::io::Write;
 use sts_asm::{AsmError, AsmKind, assemble};
 use sts_code::Program;
-use sts_output::{STATUS_OUTSIDE, TakeError, WriteFailed, failed, written};
-use sts_rules::Cause;
+use sts_output::{STATUS_OUTSIDE, WriteFailed};
 use sts_verify::{VerifyError, verify};
 
 /// The lines of a problem whose explanation is known.
 fn problem_lines(
     alloc: Global,
     source: &Source<'_, '_>,
-    line: u32,
-    problem: Problem,
+    found: Finding,
     explained: &[u8],
 ) -> Result<Vec<u8>, AllocError>
     ensures { IfOk result (λ b. b.items
-        ≡ def.reported source.now line (code problem) (lines explained.now)) }
+        ≡ def.reported source.now found.line (code found.problem) (lines explained.now)) }
 {
     let mut bytes = Vec::new(alloc);
-    source.say_reported(alloc, &mut bytes, line, problem, explained)?;
+    source.say_reported(alloc, &mut bytes, found, explained)?;
     Ok(bytes)
 }
 
@@ -62,14 +61,9 @@ fn fault_report(
     ensures { IfOk result (λ b. b.items ≡ def.fault_bytes source.now error) }
 {
     let line = fault_line(alloc, source, error)?;
+    let problem = Problem::Fault(error.kind);
     let words = fault_words(alloc, error, source.text())?;
-    problem_lines(
-        alloc,
-        source,
-        line,
-        Problem::Fault(error.kind),
-        words.as_slice(),
-    )
+    problem_lines(alloc, source, Finding { line, problem }, words.as_slice())
 }
 
 /// The report of a fault of a text. Running out of memory is no fault of it.
@@ -104,70 +98,38 @@ fn whole(told: Explanation) -> Result<Explanation, AllocError>
 fn refusal_lines(
     alloc: Global,
     source: &Source<'_, '_>,
-    function: u32,
-    pc: u32,
-    cause: Cause,
+    refusal: &Refusal<'_>,
     told: &Explanation,
 ) -> Result<Vec<u8>, AllocError>
     ensures { IfOk result (λ b. b.items ≡ def.reported source.now
-        (line_of source.now function pc) (refusal_code cause) (lines told.now.bytes)) }
+        (line_of source.now refusal.now.function refusal.now.pc) (refusal_code refusal.now.cause)
+        (lines told.now.bytes)) }
 {
-    let line = source.line_of(function, pc);
-    let problem = Problem::Refusal(cause);
-    problem_lines(alloc, source, line, problem, told.bytes.as_slice())
+    let line = source.line_of(refusal.function, refusal.pc);
+    let problem = Problem::Refusal(refusal.cause);
+    problem_lines(
+        alloc,
+        source,
+        Finding { line, problem },
+        told.bytes.as_slice(),
+    )
 }
 
-/// The same, and the notes on two ways that meet.
-fn refusal_report(
-    alloc: Global,
-    source: &Source<'_, '_>,
-    program: &Program,
-    function: u32,
-    pc: u32,
-    cause: Cause,
-    told: &Explanation,
-) -> Result<Vec<u8>, AllocError>
-    requires { IsRefusal program.now function pc cause }
-    ensures { IfOk result (λ b. def.AddsWays source.now program.now function pc cause
-        (def.reported source.now (line_of source.now function pc) (refusal_code cause)
-        (lines told.now.bytes)) b.items) }
-{
-    let mut bytes = refusal_lines(alloc, source, function, pc, cause, told)?;
-    source.say_ways(alloc, &mut bytes, program, function, pc, cause)?;
-    Ok(bytes)
-}
-
-/// The report of a refusal.
+/// The report of a refusal: the lines of its explanation, and the notes on two ways that meet.
 fn refused(
     alloc: Global,
     source: &Source<'_, '_>,
-    program: &Program,
-    function: u32,
-    pc: u32,
-    cause: Cause,
+    refusal: &Refusal<'_>,
 ) -> Result<Explanation, AllocError>
-    requires { IsRefusal program.now function pc cause }
-    ensures { IfOk result (λ o. def.IsRefused source.now program.now o) }
+    requires { IsRefusal refusal.now.program.now
+        refusal.now.function refusal.now.pc refusal.now.cause }
+    ensures { IfOk result (λ o. def.IsRefused source.now refusal.now.program.now o) }
 {
     let printed = explained(alloc, source.text())?;
     let told = whole(printed)?;
-    let bytes = refusal_report(alloc, source, program, function, pc, cause, &told)?;
+    let mut bytes = refusal_lines(alloc, source, refusal, &told)?;
+    source.say_ways(alloc, &mut bytes, refusal)?;
     Ok(Explanation { bytes, status: 4 })
-}
-
-/// The report of these notes on an accepted program.
-fn rules_report(
-    alloc: Global,
-    source: &Source<'_, '_>,
-    program: &Program,
-    notes: &[Note],
-) -> Result<Explanation, AllocError>
-    ensures { IfOk result (λ o. o ≡ def.accepted_report source.now program.now notes.now) }
-{
-    let outline = outline_of(alloc, source.text())?;
-    let mut bytes = Vec::new(alloc);
-    source.say_rules(alloc, &mut bytes, &outline, program, notes)?;
-    Ok(Explanation { bytes, status: 0 })
 }
 
 /// The report on an accepted program.
@@ -180,7 +142,10 @@ fn accepted(
     ensures { IfOk result (λ o. def.IsVerdict source.now program.now o) }
 {
     let notes = all_notes(alloc, program)?;
-    rules_report(alloc, source, program, notes.as_slice())
+    let outline = outline_of(alloc, source.text())?;
+    let mut bytes = Vec::new(alloc);
+    source.say_rules(alloc, &mut bytes, &outline, program, notes.as_slice())?;
+    Ok(Explanation { bytes, status: 0 })
 }
 
 fn verdict(
@@ -200,7 +165,15 @@ fn verdict(
                 pc,
                 cause,
             },
-        ) => refused(alloc, source, &program, function, pc, cause),
+        ) => {
+            let refusal = Refusal {
+                program: &program,
+                function,
+                pc,
+                cause,
+            };
+            refused(alloc, source, &refusal)
+        }
     }
 }
 
@@ -213,12 +186,12 @@ fn reported(alloc: Global, source: &Source<'_, '_>) -> Result<Explanation, Alloc
     }
 }
 
-fn report(alloc: Global, file: &str, text: &[u8]) -> Result<Explanation, AllocError>
-    ensures { IfOk result (λ o. def.Reports (record { file = file.now; text = text.now })
-        (judged text.now) o) }
+fn report(alloc: Global, file: &str, text: &[u8]) -> Result<Explanation, ExplainError>
+    ensures { Prints result (def.Reports (record { file = file.now; text = text.now })
+        (judged text.now)) }
 {
     let names = Names::read(alloc, text)?;
-    reported(alloc, &Source::new(file, text, &names))
+    Ok(reported(alloc, &Source::new(file, text, &names))?)
 }
 
 /// Writes what is wrong with the text of a file, if anything is, in lines that editors jump by, and
@@ -239,8 +212,5 @@ pub fn write_places<W: Write>(
         × def.IsReport (record { file = file.now; text = text.now }) o
         × cli.Writes (W.contents out.old) (W.contents out.new) s o) }
 {
-    match report(alloc, file, text) {
-        Ok(output) => written(out, output.bytes.as_slice(), output.status),
-        Err(_) => failed(TakeError::Memory, out),
-    }
+    write_explained(report(alloc, file, text), out)
 }

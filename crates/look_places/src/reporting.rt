@@ -5,7 +5,7 @@ ghost use Rattle.sts_text.specs.Words.{lines};
 ghost use Rattle.look_places.specs.Faults.{code};
 ghost use Rattle.look_places.specs.Reports as def;
 
-use crate::faults::{Problem, say_code};
+use crate::faults::{Finding, say_code};
 use crate::marks::Source;
 use look_text::{Said, say};
 use std::alloc::Global;
@@ -13,20 +13,13 @@ use sts_text::cut_at_newline;
 
 impl Source<'_, '_> {
     /// `FILE:LINE:COLUMN: V13: what to do`
-    fn say_problem(
-        &self,
-        alloc: Global,
-        out: &mut Vec<u8>,
-        line: u32,
-        problem: Problem,
-        message: &[u8],
-    ) -> Said
+    fn say_problem(&self, alloc: Global, out: &mut Vec<u8>, found: Finding, message: &[u8]) -> Said
         ensures { OnOk result (out.new.items
-            ≡ out.old.items ++ def.problem self.now line (code problem) message.now) }
+            ≡ out.old.items ++ def.problem self.now found.line (code found.problem) message.now) }
     {
-        self.say_mark(alloc, out, line)?;
+        self.say_mark(alloc, out, found.line)?;
         say(out, ": ")?;
-        say_code(alloc, out, problem)?;
+        say_code(alloc, out, found.problem)?;
         say(out, ": ")?;
         out.extend_from_slice(message)?;
         say(out, "\n")
@@ -72,22 +65,15 @@ impl Source<'_, '_> {
     }
 
     /// The first line says what to do, and each other one is a note.
-    fn say_below(
-        &self,
-        alloc: Global,
-        out: &mut Vec<u8>,
-        line: u32,
-        problem: Problem,
-        words: &[u8],
-    ) -> Said
-        ensures { OnOk result (out.new.items
-            ≡ out.old.items ++ def.below self.now line (code problem) (lines words.now)) }
+    fn say_below(&self, alloc: Global, out: &mut Vec<u8>, found: Finding, words: &[u8]) -> Said
+        ensures { OnOk result (out.new.items ≡ out.old.items
+            ++ def.below self.now found.line (code found.problem) (lines words.now)) }
     {
         match cut_at_newline(words) {
-            None => self.say_problem(alloc, out, line, problem, words),
+            None => self.say_problem(alloc, out, found, words),
             Some((message, more)) => {
-                self.say_problem(alloc, out, line, problem, message)?;
-                self.say_notes(alloc, out, line, more)
+                self.say_problem(alloc, out, found, message)?;
+                self.say_notes(alloc, out, found.line, more)
             }
         }
     }
@@ -101,16 +87,15 @@ impl Source<'_, '_> {
         &self,
         alloc: Global,
         out: &mut Vec<u8>,
-        line: u32,
-        problem: Problem,
+        found: Finding,
         explained: &[u8],
     ) -> Said
-        ensures { OnOk result (out.new.items
-            ≡ out.old.items ++ def.reported self.now line (code problem) (lines explained.now)) }
+        ensures { OnOk result (out.new.items ≡ out.old.items
+            ++ def.reported self.now found.line (code found.problem) (lines explained.now)) }
     {
         match cut_at_newline(explained) {
             None => Ok(()),
-            Some((_, rest)) => self.say_below(alloc, out, line, problem, rest),
+            Some((_, rest)) => self.say_below(alloc, out, found, rest),
         }
     }
 }

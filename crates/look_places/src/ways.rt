@@ -4,6 +4,7 @@ ghost use Rattle.std.specs.Prelude.{◌≡◌, ◌++◌, OnOk};
 ghost use Rattle.sts_rules.specs.Refusal.{IsRefusal};
 ghost use Rattle.look_places.specs.Reports as def;
 
+use crate::faults::Refusal;
 use crate::marks::Source;
 use look_names::Said;
 use look_refusal::ways::{Meeting, WayOrigin, find_meeting};
@@ -67,21 +68,16 @@ impl Source<'_, '_> {
     /// # Errors
     ///
     /// Memory ran out; `out` may then have a part of them.
-    pub(crate) fn say_ways(
-        &self,
-        alloc: Global,
-        out: &mut Vec<u8>,
-        program: &Program,
-        function: u32,
-        pc: u32,
-        cause: Cause,
-    ) -> Said
-        requires { IsRefusal program.now function pc cause }
-        ensures { OnOk result (def.AddsWays self.now program.now function pc cause
-            out.old.items out.new.items) }
+    pub(crate) fn say_ways(&self, alloc: Global, out: &mut Vec<u8>, refusal: &Refusal<'_>) -> Said
+        requires { IsRefusal refusal.now.program.now
+            refusal.now.function refusal.now.pc refusal.now.cause }
+        ensures { OnOk result (def.AddsWays self.now refusal.now.program.now refusal.now.function
+            refusal.now.pc refusal.now.cause out.old.items out.new.items) }
     {
-        match cause {
-            Cause::StatesDiffer => self.say_met(alloc, out, program, function, pc),
+        match refusal.cause {
+            Cause::StatesDiffer => {
+                self.say_met(alloc, out, refusal.program, refusal.function, refusal.pc)
+            }
             _ => Ok(()),
         }
     }

@@ -12,6 +12,7 @@ use Rattle.look_text.specs.Wanted.{Stop, behind, after, first_wrong}
 use Rattle.look_text.specs.Wrong.{stop_words, wrong_line}
 use Rattle.look_text.specs.Labels.{is_named}
 use Rattle.look_text.specs.Failing.{first_failing, wanted_there}
+use Rattle.laws_words.proofs.AppendLemmas.{two_parts}
 use Rattle.look_text.proofs.LineLemmas.{behind_words}
 
 -- ---- the words up to it
@@ -25,6 +26,10 @@ said_behind : (before more word : List ℕ) (o : Option Stop) → more ≡ befor
 said_behind before more word None e = refl
 said_behind before more word (Some s) e =
     ap (λ (x : List ℕ). x ++ stop_words s) e ∙ append_assoc before (32 ∷ word) (stop_words s) ∙ ap (λ (x : List ℕ). before ++ x) (sym (behind_words word s))
+
+-- one word more, after a space
+pub one_said : (before told word all space now : List ℕ) → all ≡ before ++ told → space ≡ all ++ 32 ∷ [] → now ≡ space ++ word → now ≡ before ++ ((told ++ 32 ∷ []) ++ word)
+one_said before told word all space now e f g = two_parts before (told ++ 32 ∷ []) word space now (two_parts before told (32 ∷ []) all space e f) g
 
 -- a word that passes was said after a space
 pub passed_said : (test : Expected → List ℕ → Bool) (wanted next : Expected) (word : List ℕ) (words left : List (List ℕ)) (before space more : List ℕ) → words ≡ word ∷ left → test wanted word ≡ true → next ≡ after wanted word → space ≡ before ++ 32 ∷ [] → more ≡ space ++ word → said_if more (first_failing test next left) ≡ said_if before (first_failing test wanted words)

@@ -14,6 +14,14 @@ use Rattle.look_text.specs.Wrong.{bracketed, expected_words, wanted_words, stop_
 pub three_said : (a b d before one two three : List ℕ) → one ≡ before ++ a → two ≡ one ++ b → three ≡ two ++ d → three ≡ before ++ (a ++ (b ++ d))
 three_said a b d before one two three e f g = two_parts before a (b ++ d) one three e (two_parts one b d two three f g)
 
+-- and so are five
+pub five_said : (a b d e f before one two three four five : List ℕ) → one ≡ before ++ a → two ≡ one ++ b → three ≡ two ++ d → four ≡ three ++ e → five ≡ four ++ f → five ≡ before ++ ((((a ++ b) ++ d) ++ e) ++ f)
+five_said a b d e f before one two three four five g h i j k =
+    let after_two : two ≡ before ++ (a ++ b) = two_parts before a b one two g h in
+    let after_three : three ≡ before ++ ((a ++ b) ++ d) = two_parts before (a ++ b) d two three after_two i in
+    let after_four : four ≡ before ++ (((a ++ b) ++ d) ++ e) = two_parts before ((a ++ b) ++ d) e three four after_three j in
+    two_parts before (((a ++ b) ++ d) ++ e) f four five after_four k
+
 pub behind_words : (word : List ℕ) (s : Stop) → stop_words (behind word s) ≡ (32 ∷ word) ++ stop_words s
 behind_words word s =
     ap (λ (x : List ℕ). x ++ wanted_words s.wanted s.word) (append_assoc (32 ∷ word) (after_spaces s.before) (bracketed s.word))

@@ -1,6 +1,6 @@
 -- Where a line stops, and the names that are near there.
 use Rattle.std.proofs.Common.{◌≡◌, ℕ, ◌+◌, ◌<◌, List, ◌∷◌, ◌++◌, Option, Some, None, Bool, length, drop, refl, sym, ap, ◌∙◌}
-use Rattle.std.specs.Prelude.{option_map, option_and_then, find, slice_get}
+use Rattle.std.specs.Prelude.{IfSome, option_map, option_and_then, find, slice_get}
 use Rattle.std.specs.Option.{option_or}
 use Rattle.std.proofs.lemmas.List.Folds.{find-append}
 use Rattle.sts_text.specs.Words.{lines}
@@ -10,11 +10,12 @@ use Rattle.sts_asm.specs.Outline.{Outline, Sentence}
 use Rattle.sts_asm.specs.Source.{names_at, sentences_of, words_of, words_at}
 use Rattle.look_text.specs.declared.wanted.Expected.{Expected}
 use Rattle.look_text.specs.Wanted.{Stop, behind, of_mnemonic}
-use Rattle.look_text.specs.Names.{line_stop, lines_stop, name_stop}
+use Rattle.look_text.specs.Names.{line_stop, lines_stop, name_stop, unknown_name}
 use Rattle.look_text.specs.Near.{near_of}
 use Rattle.look_text.specs.NearName.{listed, missing, name_given, names_given, near_in, near_name, near_or}
-use Rattle.look_text.specs.Wrong.{StopsAt}
-use Rattle.look_text.proofs.NameLineLemmas.{draft_at}
+use Rattle.look_text.specs.Wrong.{IsFirst, StopsAt, meant_line, named_line, unknown_line, wrong_line}
+use Rattle.laws_words.proofs.AppendLemmas.{two_parts}
+use Rattle.look_text.proofs.NameLineLemmas.{draft_at, text_said}
 
 -- ---- the names of a text
 
@@ -64,3 +65,10 @@ near_here text o f s words small left stops same =
     let later : Option (List ℕ) = near_in text o (drop (f + 1) o.done) in
     left ∙ near_in_at text o f small ∙ ap (λ (x : Option Stop). near_or text names x later) stops.first
     ∙ ap (λ (x : Option Stop). near_name text names x) (sym (ap (line_stop names) same ∙ stops.here))
+
+-- the lines of that function, and of the name that is near
+pub unknown_said : (text : List ℕ) (o : Outline) (f : ℕ) (s : Sentence) (words again : List (List ℕ)) (before one two : List ℕ) (near : Option (List ℕ)) → IsFirst o f s → words ≡ s.words → again ≡ s.words → IfSome (line_stop (names_at o f) words) (λ t. one ≡ before ++ named_line t) → near ≡ near_name text (names_at o f) (line_stop (names_at o f) again) → two ≡ one ++ meant_line near → two ≡ before ++ unknown_line text (Some o)
+unknown_said text o f s words again before one two near first same same_again said found more =
+    let line : one ≡ before ++ wrong_line (unknown_name o) = text_said o f s words before before one first.within first.unknown first.stops same refl said in
+    let meant = found ∙ sym (near_here text o f s again first.within (first.near text) first.stops same_again) in
+    two_parts before (wrong_line (unknown_name o)) (meant_line (near_in text o o.done)) one two line (more ∙ ap (λ (x : Option (List ℕ)). one ++ meant_line x) meant)

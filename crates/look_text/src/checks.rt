@@ -2,9 +2,12 @@
 
 ghost use Rattle.std.specs.Prelude.{◌≡◌, ◌++◌, ◌≤◌, Ok, OnOk, length, option_map, slice_get};
 ghost use Rattle.std.specs.Option.{option_copied};
+ghost use Rattle.sts_asm.specs.Source.{name_at, sentence_at};
 ghost use Rattle.look_text.specs.Checks as def;
 ghost use Rattle.look_text.specs.Functions.{functions_of};
+ghost use Rattle.look_text.specs.Heads.{head_at};
 
+use crate::functions::Source;
 use crate::heads::head_line;
 use crate::lines::{Said, say, say_line};
 use std::alloc::Global;
@@ -97,49 +100,53 @@ pub fn is_of_head(outline: &Outline<'_>, error: CodeError) -> bool
     }
 }
 
-fn say_check_place(
+/// The line of the head of the function that a failed check is about, if there is one.
+pub(crate) fn failing_head(outline: &Outline<'_>, text: &[u8], error: CodeError) -> Option<u32>
+    requires { length text.now ≤ 1048576 }
+    ensures { result ≡ head_at text.now (def.failing outline.now error.function error.cause) }
+{
+    head_line(text, failing_function(outline, error))
+}
+
+/// The function and the line of an instruction.
+fn say_instr_place(
     alloc: Global,
     out: &mut Vec<u8>,
     outline: &Outline<'_>,
     error: CodeError,
-    text: &[u8],
 ) -> Said
-    requires { length text.now ≤ 1048576 }
     ensures { OnOk result (out.new.items
-        ≡ out.old.items ++ def.check_place text.now outline.now error) }
+        ≡ out.old.items ++ (def.in_function (name_at outline.now error.function)
+        ++ def.instr_place (sentence_at outline.now error.function error.pc))) }
 {
-    if is_of_head(outline, error) {
-        return say_head(
-            alloc,
-            out,
-            text,
-            head_line(text, failing_function(outline, error)),
-        );
-    }
     say_function(out, outline.name(error.function))?;
     say_instr(alloc, out, outline.sentence(error.function, error.pc))
 }
 
-/// The place where a program check fails: the function, and the line of its head or of an
-/// instruction. `functions` are those of the text.
-///
-/// # Errors
-///
-/// Memory ran out; `out` may then have a part of it.
-#[tactic(auto, using(crate::proofs::HeadLemmas::functions_short))]
-pub(crate) fn say_code_place(
-    alloc: Global,
-    out: &mut Vec<u8>,
-    functions: Option<&Outline<'_>>,
-    error: CodeError,
-    text: &[u8],
-) -> Said
-    requires { functions_of text.now ≡ option_copied functions }
-    ensures { OnOk result (out.new.items
-        ≡ out.old.items ++ def.code_place text.now (functions_of text.now) error) }
-{
-    match functions {
-        None => Ok(()),
-        Some(outline) => say_check_place(alloc, out, outline, error, text),
+impl Source<'_, '_> {
+    /// The place where a program check fails: the function, and the line of its head or of an
+    /// instruction.
+    ///
+    /// # Errors
+    ///
+    /// Memory ran out; `out` may then have a part of it.
+    #[tactic(auto, using(crate::proofs::HeadLemmas::functions_short))]
+    pub(crate) fn say_code_place(&self, alloc: Global, out: &mut Vec<u8>, error: CodeError) -> Said
+        ensures { OnOk result (out.new.items
+            ≡ out.old.items ++ def.code_place self.now (functions_of self.now) error) }
+    {
+        let Some(outline) = self.functions() else {
+            return Ok(());
+        };
+        if is_of_head(outline, error) {
+            say_head(
+                alloc,
+                out,
+                self.text(),
+                failing_head(outline, self.text(), error),
+            )
+        } else {
+            say_instr_place(alloc, out, outline, error)
+        }
     }
 }

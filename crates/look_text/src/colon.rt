@@ -5,7 +5,7 @@ ghost use Rattle.sts_text.specs.Words.{lines};
 ghost use Rattle.look_text.specs.Colon as def;
 
 use crate::inside::is_inside;
-use crate::lines::{Said, say};
+use crate::lines::{Said, say_between};
 use sts_asm::{AsmKind, words_at};
 use sts_text::{Words, cut_at_newline};
 
@@ -50,9 +50,7 @@ fn is_named_in(text: &[u8], name: &[u8]) -> bool
 fn say_colon(out: &mut Vec<u8>, name: &[u8]) -> Said
     ensures { OnOk result (out.new.items ≡ out.old.items ++ def.colon_words name.now) }
 {
-    say(out, "a label ends with a colon: ")?;
-    out.extend_from_slice(name)?;
-    say(out, ":\n")
+    say_between(out, "a label ends with a colon: ", name, ":\n")
 }
 
 fn colon_line<'a>(out: &mut Vec<u8>, text: &[u8], words: Words<'a>) -> Said

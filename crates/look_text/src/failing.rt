@@ -8,8 +8,8 @@ ghost use Rattle.look_text.specs.Functions.{functions_of};
 ghost use Rattle.look_text.specs.Labels.{is_named};
 ghost use Rattle.look_text.specs.Wrong.{wrong_line};
 
-use crate::checks::{failing_function, is_of_head};
-use crate::heads::head_line;
+use crate::checks::{failing_head, is_of_head};
+use crate::functions::Source;
 use crate::labels::is_behind;
 use crate::lines::{Said, say};
 use crate::wanted::Expected;
@@ -184,7 +184,7 @@ fn check_words<'a>(outline: &Outline<'a>, error: CodeError, text: &'a [u8]) -> W
     ensures { result ≡ def.check_words text.now outline.now error }
 {
     if is_of_head(outline, error) {
-        head_words(text, head_line(text, failing_function(outline, error)))
+        head_words(text, failing_head(outline, text, error))
     } else {
         instr_words(outline.sentence(error.function, error.pc))
     }
@@ -206,25 +206,20 @@ fn check_part<'a>(
     form_line(out, check_words(outline, error, text))
 }
 
-/// The line of the word at which a program check fails, and the form of the line. `functions` are
-/// those of the text.
-///
-/// # Errors
-///
-/// Memory ran out; `out` may then have a part of them.
-#[tactic(auto, using(crate::proofs::HeadLemmas::functions_short))]
-pub(crate) fn check_lines<'a>(
-    out: &mut Vec<u8>,
-    functions: Option<&Outline<'a>>,
-    error: CodeError,
-    text: &'a [u8],
-) -> Said
-    requires { functions_of text.now ≡ option_copied functions }
-    ensures { OnOk result (out.new.items
-        ≡ out.old.items ++ def.check_lines text.now (functions_of text.now) error) }
-{
-    match functions {
-        None => Ok(()),
-        Some(outline) => check_part(out, outline, error, text),
+impl Source<'_, '_> {
+    /// The line of the word at which a program check fails, and the form of the line.
+    ///
+    /// # Errors
+    ///
+    /// Memory ran out; `out` may then have a part of them.
+    #[tactic(auto, using(crate::proofs::HeadLemmas::functions_short))]
+    pub(crate) fn check_lines(&self, out: &mut Vec<u8>, error: CodeError) -> Said
+        ensures { OnOk result (out.new.items
+            ≡ out.old.items ++ def.check_lines self.now (functions_of self.now) error) }
+    {
+        match self.functions() {
+            None => Ok(()),
+            Some(outline) => check_part(out, outline, error, self.text()),
+        }
     }
 }

@@ -30,10 +30,7 @@ fn gives<'a>(words: Words<'a>, name: &[u8]) -> bool
     ensures { result ≡ def.gives words.entry name.now }
 {
     let mut words = words;
-    match words.word() {
-        None => false,
-        Some(word) => is_label(word, name),
-    }
+    words.word().is_some_and(|word| is_label(word, name))
 }
 
 /// Does a line of the text give this label, before one ends the function?

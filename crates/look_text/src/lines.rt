@@ -5,16 +5,11 @@ ghost use Rattle.std.specs.Fmt.{decimal};
 ghost use Rattle.std.specs.Option.{option_copied};
 ghost use Rattle.sts_list.specs.Spelling.{after_spaces};
 ghost use Rattle.look_text.specs.Checks.{line_words};
-ghost use Rattle.look_text.specs.Functions.{functions_of};
 ghost use Rattle.look_text.specs.Lines as def;
 
-use crate::checks::say_code_place;
-use crate::failing::check_lines;
-use crate::functions::functions_of;
-use crate::sentences::fault_sentence;
-use crate::wrong::wrong_part;
+use crate::functions::{Source, functions_of};
 use std::alloc::{AllocError, Global};
-use sts_asm::{AsmError, AsmKind, Outline, Sentence, words_at};
+use sts_asm::{AsmError, AsmKind, Sentence, words_at};
 use sts_text::Words;
 
 /// What a call that appends words returns: memory may run out.
@@ -29,6 +24,16 @@ pub fn say(out: &mut Vec<u8>, text: &str) -> Said
     ensures { OnOk result (out.new.items ≡ out.old.items ++ text.now) }
 {
     out.extend_from_slice(text.as_bytes())
+}
+
+/// Appends bytes between two texts.
+pub(crate) fn say_between(out: &mut Vec<u8>, before: &str, bytes: &[u8], after: &str) -> Said
+    ensures { OnOk result (out.new.items
+        ≡ out.old.items ++ (before.now ++ (bytes.now ++ after.now))) }
+{
+    say(out, before)?;
+    out.extend_from_slice(bytes)?;
+    say(out, after)
 }
 
 /// Appends words and a number.
@@ -102,23 +107,6 @@ fn say_line_place(alloc: Global, out: &mut Vec<u8>, kind: AsmKind, line: u32, te
     say_line(alloc, out, line, words)
 }
 
-fn say_fault_place(
-    alloc: Global,
-    out: &mut Vec<u8>,
-    functions: Option<&Outline<'_>>,
-    error: AsmError,
-    text: &[u8],
-) -> Said
-    requires { functions_of text.now ≡ option_copied functions }
-    ensures { OnOk result (out.new.items
-        ≡ out.old.items ++ def.fault_place error.kind error.line text.now) }
-{
-    match error.kind {
-        AsmKind::Code(code) => say_code_place(alloc, out, functions, code, text),
-        kind => say_line_place(alloc, out, kind, error.line, text),
-    }
-}
-
 /// Appends the number of a failed check, as ` C4`, if the fault is one.
 ///
 /// # Errors
@@ -133,54 +121,45 @@ pub fn say_check(alloc: Global, out: &mut Vec<u8>, kind: AsmKind) -> Said
     }
 }
 
-fn say_fault_head(
-    alloc: Global,
-    out: &mut Vec<u8>,
-    functions: Option<&Outline<'_>>,
-    error: AsmError,
-    text: &[u8],
-) -> Said
-    requires { functions_of text.now ≡ option_copied functions }
-    ensures { OnOk result (out.new.items ≡ out.old.items ++ def.fault_head error text.now) }
-{
-    say_number(alloc, out, "error A", error.kind.number() as u128)?;
-    say_check(alloc, out, error.kind)?;
-    say_fault_place(alloc, out, functions, error, text)
-}
-
-fn say_fault_part<'a>(
-    alloc: Global,
-    out: &mut Vec<u8>,
-    functions: Option<&Outline<'a>>,
-    error: AsmError,
-    text: &'a [u8],
-) -> Said
-    requires { functions_of text.now ≡ option_copied functions }
-    ensures { OnOk result (out.new.items
-        ≡ out.old.items ++ def.fault_part error.kind text.now error.line) }
-{
-    match error.kind {
-        AsmKind::Code(code) => check_lines(out, functions, code, text),
-        kind => wrong_part(alloc, out, functions, kind, text, error.line),
+impl Source<'_, '_> {
+    fn say_fault_place(&self, alloc: Global, out: &mut Vec<u8>, error: AsmError) -> Said
+        ensures { OnOk result (out.new.items
+            ≡ out.old.items ++ def.fault_place error.kind error.line self.now) }
+    {
+        match error.kind {
+            AsmKind::Code(code) => self.say_code_place(alloc, out, code),
+            kind => say_line_place(alloc, out, kind, error.line, self.text()),
+        }
     }
-}
 
-/// The lines of a fault of a text that has these functions.
-fn say_fault<'a>(
-    alloc: Global,
-    out: &mut Vec<u8>,
-    functions: Option<&Outline<'a>>,
-    error: AsmError,
-    text: &'a [u8],
-) -> Said
-    requires { functions_of text.now ≡ option_copied functions }
-    ensures { OnOk result (out.new.items ≡ out.old.items ++ def.fault_lines error text.now) }
-{
-    say_fault_head(alloc, out, functions, error, text)?;
-    say(out, "\n")?;
-    say(out, fault_sentence(functions, error.kind, text, error.line))?;
-    say(out, "\n")?;
-    say_fault_part(alloc, out, functions, error, text)
+    fn say_fault_head(&self, alloc: Global, out: &mut Vec<u8>, error: AsmError) -> Said
+        ensures { OnOk result (out.new.items ≡ out.old.items ++ def.fault_head error self.now) }
+    {
+        say_number(alloc, out, "error A", error.kind.number() as u128)?;
+        say_check(alloc, out, error.kind)?;
+        self.say_fault_place(alloc, out, error)
+    }
+
+    fn say_fault_part(&self, alloc: Global, out: &mut Vec<u8>, error: AsmError) -> Said
+        ensures { OnOk result (out.new.items
+            ≡ out.old.items ++ def.fault_part error.kind self.now error.line) }
+    {
+        match error.kind {
+            AsmKind::Code(code) => self.check_lines(out, code),
+            _ => self.wrong_part(alloc, out, error),
+        }
+    }
+
+    /// The lines of a fault.
+    fn say_fault(&self, alloc: Global, out: &mut Vec<u8>, error: AsmError) -> Said
+        ensures { OnOk result (out.new.items ≡ out.old.items ++ def.fault_lines error self.now) }
+    {
+        self.say_fault_head(alloc, out, error)?;
+        say(out, "\n")?;
+        say(out, self.fault_sentence(error))?;
+        say(out, "\n")?;
+        self.say_fault_part(alloc, out, error)
+    }
 }
 
 /// The lines of a fault of a text: where it is, what is wrong, and the wrong word or byte in its
@@ -193,5 +172,5 @@ pub fn fault_lines(alloc: Global, out: &mut Vec<u8>, error: AsmError, text: &[u8
     ensures { OnOk result (out.new.items ≡ out.old.items ++ def.fault_lines error text.now) }
 {
     let functions = functions_of(alloc, text)?;
-    say_fault(alloc, out, functions.as_ref(), error, text)
+    Source::new(text, functions.as_ref()).say_fault(alloc, out, error)
 }

@@ -1,6 +1,6 @@
 //! The known word that a wrong one is near to.
 
-ghost use Rattle.std.specs.Prelude.{◌≡◌, ◌<◌, length, option_map, map, find};
+ghost use Rattle.std.specs.Prelude.{◌≡◌, ◌<◌, ◌==◌, length, option_map, map, find, slice_index, false};
 ghost use Rattle.std.specs.Option.{option_or};
 ghost use Rattle.look_text.specs.Near as def;
 
@@ -78,75 +78,58 @@ fn is_one_off(word: &[u8], known: &[u8]) -> bool
         || is_swapped(word, known)
 }
 
+/// The parts of two words after what both begin with.
+#[tactic(auto, using(crate::proofs::NearLemmas::one_apart_on, crate::proofs::NearLemmas::begins_on))]
+fn after_same<'a>(word: &'a [u8], known: &'a [u8]) -> (&'a [u8], &'a [u8])
+    ensures apart { def.is_one_apart result.0.now result.1.now
+        ≡ def.is_one_apart word.now known.now }
+    ensures begins { def.begins_other result.0.now result.1.now
+        ≡ def.begins_other word.now known.now }
+    ensures differ { 0 < length result.0.now → 0 < length result.1.now
+        → (slice_index result.0.now 0 == slice_index result.1.now 0) ≡ false }
+{
+    let mut word = word;
+    let mut known = known;
+    while !word.is_empty() && !known.is_empty() && word[0] == known[0] {
+        word = &word[1..];
+        known = &known[1..];
+    }
+    (word, known)
+}
+
 /// Are the words one letter apart, after their common beginning?
-#[tactic(auto, using(crate::proofs::NearLemmas::one_apart_on))]
+#[tactic(auto, using(crate::proofs::NearLemmas::one_apart_left))]
 fn is_one_apart(word: &[u8], known: &[u8]) -> bool
     ensures { result ≡ def.is_one_apart word.now known.now }
 {
-    let mut word = word;
-    let mut known = known;
-    while !word.is_empty() {
-        if known.is_empty() {
-            return word.len() == 1;
-        }
-        if word[0] != known[0] {
-            return is_one_off(word, known);
-        }
-        word = &word[1..];
-        known = &known[1..];
+    let (word, known) = after_same(word, known);
+    if word.is_empty() {
+        known.len() == 1
+    } else if known.is_empty() {
+        word.len() == 1
+    } else {
+        is_one_off(word, known)
     }
-    known.len() == 1
 }
 
 /// Is one of the words longer, and begins with the second one?
-#[tactic(auto, using(crate::proofs::NearLemmas::begins_on))]
+#[tactic(auto, using(crate::proofs::NearLemmas::begins_left))]
 fn begins_other(word: &[u8], known: &[u8]) -> bool
     ensures { result ≡ def.begins_other word.now known.now }
 {
-    let mut word = word;
-    let mut known = known;
-    while !word.is_empty() {
-        if known.is_empty() {
-            return true;
-        }
-        if word[0] != known[0] {
-            return false;
-        }
-        word = &word[1..];
-        known = &known[1..];
-    }
-    !known.is_empty()
-}
-
-/// Returns a letter in lower case; other bytes stay.
-fn lower(byte: u8) -> u8
-    ensures { result ≡ def.lower byte }
-{
-    if byte >= 65 && byte <= 90 {
-        byte + 32
+    let (word, known) = after_same(word, known);
+    if word.is_empty() {
+        !known.is_empty()
     } else {
-        byte
+        known.is_empty()
     }
 }
 
 /// Are the words the same, if upper and lower case count as one?
-#[tactic(auto, using(crate::proofs::NearLemmas::same_on))]
 fn is_same_word(word: &[u8], known: &[u8]) -> bool
     ensures { result ≡ def.is_same_word word.now known.now }
 {
-    let mut word = word;
-    let mut known = known;
-    while !word.is_empty() {
-        if known.is_empty() {
-            return false;
-        }
-        if lower(word[0]) != lower(known[0]) {
-            return false;
-        }
-        word = &word[1..];
-        known = &known[1..];
-    }
-    known.is_empty()
+    word.eq_ignore_ascii_case(known)
 }
 
 /// Is it the same word in other case?

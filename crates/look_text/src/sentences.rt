@@ -3,12 +3,12 @@
 
 ghost use Rattle.std.specs.Prelude.{◌≡◌};
 ghost use Rattle.std.specs.Option.{option_copied};
-ghost use Rattle.look_text.specs.Functions.{functions_of};
 ghost use Rattle.look_text.specs.Sentences as def;
 
 use crate::checks::takes_too_many;
+use crate::functions::Source;
 use crate::wanted::{Expected, begins_line};
-use sts_asm::{AsmKind, Outline, words_at};
+use sts_asm::{AsmError, AsmKind, Outline, words_at};
 use sts_code::{CodeCause, CodeError};
 use sts_text::Words;
 
@@ -107,20 +107,16 @@ fn kind_sentence(kind: AsmKind) -> &'static str
     }
 }
 
-/// What is wrong with a text, from the text, its functions and the line of the fault.
-pub(crate) fn fault_sentence(
-    functions: Option<&Outline<'_>>,
-    kind: AsmKind,
-    text: &[u8],
-    line: u32,
-) -> &'static str
-    requires { functions_of text.now ≡ option_copied functions }
-    ensures { result.now ≡ def.fault_sentence kind text.now line }
-{
-    match kind {
-        AsmKind::UnknownWord => unknown_sentence(words_at(text, line)),
-        AsmKind::Code(code) => checked_sentence(functions, code),
-        kind => kind_sentence(kind),
+impl Source<'_, '_> {
+    /// What is wrong with a text, from the text, its functions and the line of the fault.
+    pub(crate) fn fault_sentence(&self, error: AsmError) -> &'static str
+        ensures { result.now ≡ def.fault_sentence error.kind self.now error.line }
+    {
+        match error.kind {
+            AsmKind::UnknownWord => unknown_sentence(words_at(self.text(), error.line)),
+            AsmKind::Code(code) => checked_sentence(self.functions(), code),
+            kind => kind_sentence(kind),
+        }
     }
 }
 

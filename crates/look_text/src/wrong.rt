@@ -14,24 +14,23 @@ ghost use Rattle.look_text.specs.NearName.{near_in};
 ghost use Rattle.look_text.specs.Wrong as def;
 
 use crate::colon::colon_part;
+use crate::functions::Source;
 use crate::inside::is_inside;
 use crate::java::java_word;
-use crate::lines::{Said, say, say_number};
+use crate::lines::{Said, say, say_between, say_number};
 use crate::names::{known, names_nothing, names_some};
 use crate::near::meant;
 use crate::near_name::near_in_line;
 use crate::sentences::{join_form, wanted_sentence};
 use crate::wanted::{Expected, in_place_of, operand};
 use std::alloc::Global;
-use sts_asm::{AsmKind, Outline, Sentence, is_allowed, line_at, words_at};
+use sts_asm::{AsmError, AsmKind, Outline, Sentence, is_allowed, line_at, words_at};
 use sts_text::Words;
 
 fn say_question(out: &mut Vec<u8>, known: &[u8]) -> Said
     ensures { OnOk result (out.new.items ≡ out.old.items ++ def.meant_line (Some known.now)) }
 {
-    say(out, "did you mean ")?;
-    out.extend_from_slice(known)?;
-    say(out, "?\n")
+    say_between(out, "did you mean ", known, "?\n")
 }
 
 /// The line of the name that may be meant.
@@ -89,9 +88,7 @@ fn say_wanted(out: &mut Vec<u8>, wanted: Expected) -> Said
 fn say_bracketed(out: &mut Vec<u8>, word: &[u8]) -> Said
     ensures { OnOk result (out.new.items ≡ out.old.items ++ def.bracketed (Some word.now)) }
 {
-    say(out, " [")?;
-    out.extend_from_slice(word)?;
-    say(out, "]")
+    say_between(out, " [", word, "]")
 }
 
 pub(crate) fn say_word(out: &mut Vec<u8>, word: &[u8], wanted: Expected) -> Said
@@ -216,17 +213,6 @@ fn say_unknown(out: &mut Vec<u8>, outline: &Outline<'_>, text: &[u8]) -> Said
     }
 }
 
-/// The lines of a name that there isn't.
-fn unknown_line(out: &mut Vec<u8>, functions: Option<&Outline<'_>>, text: &[u8]) -> Said
-    ensures { OnOk result (out.new.items
-        ≡ out.old.items ++ def.unknown_line text.now (option_copied functions.entry)) }
-{
-    match functions {
-        None => Ok(()),
-        Some(outline) => say_unknown(out, outline, text),
-    }
-}
-
 /// Returns what a byte in this column may be.
 fn byte_hint(column: usize, byte: u8) -> &'static str
     ensures { result.now ≡ def.byte_hint column byte }
@@ -336,43 +322,42 @@ fn form_part<'a>(out: &mut Vec<u8>, kind: AsmKind, words: Words<'a>) -> Said
     }
 }
 
-/// The wrong word or byte of a fault in its place.
-fn place_part(
-    alloc: Global,
-    out: &mut Vec<u8>,
-    functions: Option<&Outline<'_>>,
-    kind: AsmKind,
-    text: &[u8],
-    line: u32,
-) -> Said
-    requires { functions_of text.now ≡ option_copied functions }
-    ensures { OnOk result (out.new.items ≡ out.old.items ++ def.place_part kind text.now line) }
-{
-    match kind {
-        AsmKind::UnknownLabel => unknown_line(out, functions, text),
-        AsmKind::NotAscii => byte_line_of(alloc, out, line_at(text, line)),
-        _ => wrong_line(out, kind, text, line),
+impl Source<'_, '_> {
+    /// The lines of a name that there isn't.
+    fn unknown_line(&self, out: &mut Vec<u8>) -> Said
+        ensures { OnOk result (out.new.items
+            ≡ out.old.items ++ def.unknown_line self.now (functions_of self.now)) }
+    {
+        match self.functions() {
+            None => Ok(()),
+            Some(outline) => say_unknown(out, outline, self.text()),
+        }
     }
-}
 
-/// What is wrong in the line of a fault, if it is a word or a byte, and the form of the line or of a
-/// label. `functions` are those of the text.
-///
-/// # Errors
-///
-/// Memory ran out; `out` may then have a part of it.
-pub(crate) fn wrong_part(
-    alloc: Global,
-    out: &mut Vec<u8>,
-    functions: Option<&Outline<'_>>,
-    kind: AsmKind,
-    text: &[u8],
-    line: u32,
-) -> Said
-    requires { functions_of text.now ≡ option_copied functions }
-    ensures { OnOk result (out.new.items ≡ out.old.items ++ def.wrong_part kind text.now line) }
-{
-    place_part(alloc, out, functions, kind, text, line)?;
-    form_part(out, kind, words_at(text, line))?;
-    colon_part(out, kind, text, line)
+    /// The wrong word or byte of a fault in its place.
+    fn place_part(&self, alloc: Global, out: &mut Vec<u8>, error: AsmError) -> Said
+        ensures { OnOk result (out.new.items
+            ≡ out.old.items ++ def.place_part error.kind self.now error.line) }
+    {
+        match error.kind {
+            AsmKind::UnknownLabel => self.unknown_line(out),
+            AsmKind::NotAscii => byte_line_of(alloc, out, line_at(self.text(), error.line)),
+            kind => wrong_line(out, kind, self.text(), error.line),
+        }
+    }
+
+    /// What is wrong in the line of a fault, if it is a word or a byte, and the form of the line or
+    /// of a label.
+    ///
+    /// # Errors
+    ///
+    /// Memory ran out; `out` may then have a part of it.
+    pub(crate) fn wrong_part(&self, alloc: Global, out: &mut Vec<u8>, error: AsmError) -> Said
+        ensures { OnOk result (out.new.items
+            ≡ out.old.items ++ def.wrong_part error.kind self.now error.line) }
+    {
+        self.place_part(alloc, out, error)?;
+        form_part(out, error.kind, words_at(self.text(), error.line))?;
+        colon_part(out, error.kind, self.text(), error.line)
+    }
 }

@@ -1,7 +1,9 @@
-use Rattle.std.proofs.Common.{inr, refl}
 use Rattle.std.proofs.lemmas.Result.{IfOk-weaker}
-use Rattle.sts_output.specs.Output.{memory_output}
+use Rattle.look_refusal.proofs.StopLemmas.{shown_or_memory}
 use Rattle.look_places.proofs.named.write_named.Goals as goal
 
-pub returns-in-Err : goal.returns-in-Err
-returns-in-Err g c = IfOk-weaker c.failed.result _ _ (λ s h. (memory_output, inr refl, h)) c.failed.ensures
+pub returns : goal.returns
+returns g c =
+    IfOk-weaker c.write_explained.result _ _
+    (λ s h. (h.0, shown_or_memory c.named_of.result h.0 _ c.named_of.ensures h.1, h.2))
+    c.write_explained.ensures

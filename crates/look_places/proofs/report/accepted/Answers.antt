@@ -1,12 +1,10 @@
-use Rattle.std.proofs.Common.{List, ◌∙◌, ap}
-use Rattle.std.proofs.lemmas.Result.{IfOk-weaker}
-use Rattle.look_accepted.specs.declared.notes.Note.{Note}
-use Rattle.look_places.specs.Reports.{accepted, accepted_report}
+use Rattle.std.proofs.Common.{rules, ◌≡◌, ℕ, List, ap}
+use Rattle.std.specs.List.{flat_map}
+use Rattle.look_places.specs.Reports.{accepted, rule_note}
 use Rattle.look_places.proofs.report.accepted.Goals as goal
 
 pub returns : goal.returns
 returns c =
-    IfOk-weaker c.rules_report.result _ _
-    (λ o h. accepted c.in_ok-notes.notes.items (record { sound = c.requires.sound }) c.in_ok-notes.ensures
-    (h ∙ ap (λ (ns : List Note). accepted_report c.args.source.now c.args.program.now ns) c.as_slice.ensures.value))
-    c.rules_report.ensures
+    let notes = c.in_ok-notes.notes.items in
+    let told : c.say_rules.new.out.items ≡ flat_map (rule_note c.args.source.now c.args.program.now) notes = search rules in
+    accepted notes (record { sound = c.requires.sound }) c.in_ok-notes.ensures (ap (λ (b : List ℕ). record { bytes = b; status = 0 }) told)

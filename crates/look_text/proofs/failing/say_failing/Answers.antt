@@ -1,10 +1,10 @@
-use Rattle.std.proofs.Common.{◌≡◌, List, ℕ, [], ◌∷◌, ◌++◌, true, false, refl, ap, ◌∙◌, append_assoc, arith}
+use Rattle.std.proofs.Common.{◌≡◌, [], ◌∷◌, ◌++◌, true, false, refl, ◌∙◌, arith}
 use Rattle.std.specs.Prelude.{codes}
 use Rattle.std.proofs.lemmas.Grind.{common_steps}
 use Rattle.std.proofs.lemmas.Result.{on_ok_weaker}
 use Rattle.look_text.specs.declared.wanted.Expected.TheVariants.{First}
 use Rattle.look_text.specs.Failing as def
-use Rattle.look_text.proofs.FailLemmas.{failed_said, nothing_said, passed_said, said_if}
+use Rattle.look_text.proofs.FailLemmas.{failed_said, nothing_said, one_said, passed_said, said_if}
 use Rattle.look_text.proofs.failing.say_failing.Goals as goal
 
 pub loop-word-init : goal.loop-word-init
@@ -18,9 +18,11 @@ loop-word-preserved c =
     let word = c.in-Some.word.now in
     let pass : test l.wanted word ≡ true = grind (arith, common_steps, c.if-not-passes.false, c.passes.ensures) in
     let one = told ++ 32 ∷ [] in
-    let more : c.extend_from_slice.new.self.items ≡ c.args.out.now.items ++ (one ++ word) =
-    c.in_ok-extend_from_slice.ensures.items ∙ ap (λ (x : List ℕ). x ++ word) (c.in_ok-push.ensures.items ∙ ap (λ (x : List ℕ). x ++ 32 ∷ []) l.invariant.1 ∙ append_assoc c.args.out.now.items told (32 ∷ [])) ∙ append_assoc c.args.out.now.items one word in
-    (one ++ word, more, passed_said test l.wanted c.after-wanted.result word l.left c.word.new.self told one (one ++ word) c.in-Some.ensures pass c.after-wanted.ensures refl refl ∙ l.invariant.2)
+    let more = one_said c.args.out.now.items told word l.out.items c.push.new.self.items c.extend_from_slice.new.self.items
+    l.invariant.1 c.in_ok-push.ensures.items c.in_ok-extend_from_slice.ensures.items in
+    let next = passed_said test l.wanted c.after-wanted.result word l.left c.word.new.self told one (one ++ word)
+    c.in-Some.ensures pass c.after-wanted.ensures refl refl in
+    (one ++ word, more, next ∙ l.invariant.2)
 
 pub returns-then-not-passes : goal.returns-then-not-passes
 returns-then-not-passes c =

@@ -3,8 +3,10 @@ use Rattle.std.proofs.lemmas.Grind.{common_steps}
 use Rattle.look_text.proofs.NearLemmas.{one_apart_over}
 use Rattle.look_text.proofs.near.is_one_apart.Goals as goal
 
-pub returns-then-is_empty : goal.returns-then-is_empty
-returns-then-is_empty c =
-    let more : 0 < length c.loop-word.word.now = grind (arith, common_steps, c.loop-word-test.true, c.loop-word-test.ensures, c.is_empty.ensures) in
-    let over : length c.loop-word.known.now ≡ 0 = grind (arith, common_steps, c.if-is_empty.true, c.if-is_empty.ensures, c.is_empty-in-loop-word.ensures) in
-    sym (one_apart_over c.loop-word.word.now c.loop-word.known.now more over) ∙ c.loop-word.invariant
+pub returns-then-is_empty-2 : goal.returns-then-is_empty-2
+returns-then-is_empty-2 c =
+    let word = c.after_same.result.0.now in
+    let known = c.after_same.result.1.now in
+    let more : 0 < length word = grind (arith, common_steps, c.if-is_empty.false, c.if-is_empty.ensures, c.is_empty.ensures) in
+    let over : length known ≡ 0 = grind (arith, common_steps, c.if-is_empty-2.true, c.if-is_empty-2.ensures, c.is_empty-else-is_empty.ensures) in
+    sym (one_apart_over word known more over) ∙ c.after_same.ensures.apart
