@@ -18,8 +18,8 @@ pub struct Answer {
     pub by_calls: Option<usize>,
 }
 
-/// A search of the program of a text with these names: what was searched, whether the program is
-/// refused, the number of the end that is asked for, and the ends.
+/// A search of the program of a text with these names, and its ends. `number` names the end whose
+/// trace is kept, if there is one.
 #[derive(Clone, Copy)]
 pub struct Searched<'a, 't> {
     pub names: &'a Names<'t>,

@@ -2,7 +2,7 @@
 
 use look_options::TellOptions;
 
-/// The story that is asked for: of a text's run of a trace, with these options.
+/// A text, a trace, and which events and steps of the run have lines.
 #[derive(Clone, Copy)]
 pub struct StoryOf<'t> {
     pub options: TellOptions,

@@ -155,7 +155,7 @@ impl<'p> Watch<'p> {
     /// # Errors
     ///
     /// Memory ran out; the machine is unchanged.
-    pub fn apply(&mut self, alloc: Global, event: Event) -> Said
+    pub fn apply(&mut self, alloc: Global, event: Event) -> Result<(), AllocError>
         ensures ok { OnOk result (self.new ≡ after_event self.old event) }
         ensures err { OnErr result (self.new ≡ self.old) }
     {

@@ -27,7 +27,7 @@ pub(crate) struct Finding {
     pub(crate) problem: Problem,
 }
 
-/// What a refusal is about: the place of an instruction in a program, and why it is refused.
+/// The place of an instruction in a program, and why the program is refused there.
 #[derive(Clone, Copy)]
 pub(crate) struct Refusal<'p> {
     pub(crate) program: &'p Program,

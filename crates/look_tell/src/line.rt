@@ -241,7 +241,7 @@ impl Telling<'_, '_> {
     }
 }
 
-/// An event, and what is to be told of it.
+/// An event, its number, and which lines it gets.
 #[derive(Clone, Copy)]
 struct Happening<'a, 't> {
     telling: Telling<'a, 't>,

@@ -42,7 +42,7 @@ fn up_to(events: &[Event], last: u32) -> &[Event]
     }
 }
 
-/// What is told of a program, with the names of its text.
+/// A program with the names of its text, and which events and steps of a run get lines.
 #[derive(Clone, Copy)]
 struct Asked<'a, 't> {
     options: TellOptions,

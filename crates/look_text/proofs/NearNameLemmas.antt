@@ -66,7 +66,7 @@ near_here text o f s words small left stops same =
     left ∙ near_in_at text o f small ∙ ap (λ (x : Option Stop). near_or text names x later) stops.first
     ∙ ap (λ (x : Option Stop). near_name text names x) (sym (ap (line_stop names) same ∙ stops.here))
 
--- the lines of that function, and of the name that is near
+-- the line of the function comes first, then that of the near name
 pub unknown_said : (text : List ℕ) (o : Outline) (f : ℕ) (s : Sentence) (words again : List (List ℕ)) (before one two : List ℕ) (near : Option (List ℕ)) → IsFirst o f s → words ≡ s.words → again ≡ s.words → IfSome (line_stop (names_at o f) words) (λ t. one ≡ before ++ named_line t) → near ≡ near_name text (names_at o f) (line_stop (names_at o f) again) → two ≡ one ++ meant_line near → two ≡ before ++ unknown_line text (Some o)
 unknown_said text o f s words again before one two near first same same_again said found more =
     let line : one ≡ before ++ wrong_line (unknown_name o) = text_said o f s words before before one first.within first.unknown first.stops same refl said in

@@ -1,4 +1,4 @@
--- A function with a proof of its own: what its code does is what a call of it does.
+-- The last step for functions with proofs of their own: a call of a function does what its code does.
 use seplogic.Ra.Ura.{Ura}
 use mir.Syntax.{Fn}
 use prog.Wp.{WpFn, Closed}

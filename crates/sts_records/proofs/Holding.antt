@@ -33,7 +33,7 @@ keeps_none pages places keys room fits none capacity unborn kept has =
 module _ {T : Type 0} (h : Inside T) (i : Keeps h.pages h.places h.given.keys h.born h.room) where
   -- ---- a birth that has a record
 
-  -- what a page has to know of it, and which key it gives
+  -- the page of the birth knows it, and gives this key
   pub asks : (birth : ℕ) → Stands h.given.keys h.places.slots birth → (latest : ℕ) × (at : ℕ → Option ℕ) × KeepsKeys h.pages latest at × (birth / 4096 ≤ latest)
   asks birth s =
       let less = s.less in
