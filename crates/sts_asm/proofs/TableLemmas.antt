@@ -144,19 +144,19 @@ name_found (w ∷ rest) p e =
     let n = named_ok (is_name w) w p.0 h.0 in
     (rw (← n.1, ← h.1) refl, rw (← n.1) n.0)
 
-target_found : (names : Option Names) (words : List (List ℕ)) (p : ℕ × List (List ℕ)) → target_at names words ≡ Ok p → (w : List ℕ) × (words ≡ w ∷ p.1) × IsLabel names p.0 w
-target_found names words p e =
-    let b = bind_ok (name_at words) (λ name. wanted UnknownLabel (label_in names name.0) name.1) p e in
+-- the name was looked up
+meaning_found : (meaning : List ℕ → Option ℕ) (words : List (List ℕ)) (p : ℕ × List (List ℕ)) → (name_at words >>= λ name. wanted UnknownLabel (meaning name.0) name.1) ≡ Ok p → (w : List ℕ) × (words ≡ w ∷ p.1) × ((is_name w ≡ true) × (meaning w ≡ Some p.0))
+meaning_found meaning words p e =
+    let b = bind_ok (name_at words) (λ name. wanted UnknownLabel (meaning name.0) name.1) p e in
     let n = name_found words b.0 b.1 in
-    let h = wanted_ok UnknownLabel (label_in names b.0.0) b.0.1 p b.2 in
+    let h = wanted_ok UnknownLabel (meaning b.0.0) b.0.1 p b.2 in
     (b.0.0, n.0 ∙ ap (λ (r : List (List ℕ)). b.0.0 ∷ r) h.1, (n.1, h.0))
 
+target_found : (names : Option Names) (words : List (List ℕ)) (p : ℕ × List (List ℕ)) → target_at names words ≡ Ok p → (w : List ℕ) × (words ≡ w ∷ p.1) × IsLabel names p.0 w
+target_found names words p e = meaning_found (label_in names) words p e
+
 function_found : (names : Option Names) (words : List (List ℕ)) (p : ℕ × List (List ℕ)) → function_at names words ≡ Ok p → (w : List ℕ) × (words ≡ w ∷ p.1) × IsFunction names p.0 w
-function_found names words p e =
-    let b = bind_ok (name_at words) (λ name. wanted UnknownLabel (function_in names name.0) name.1) p e in
-    let n = name_found words b.0 b.1 in
-    let h = wanted_ok UnknownLabel (function_in names b.0.0) b.0.1 p b.2 in
-    (b.0.0, n.0 ∙ ap (λ (r : List (List ℕ)). b.0.0 ∷ r) h.1, (n.1, h.0))
+function_found names words p e = meaning_found (function_in names) words p e
 
 parts : {A B E : Type 0} (x : A) (y : B) (p : A × B) → (let r : Result (A × B) E = Ok (x, y) in r ≡ Ok p) → (x ≡ p.0) × (y ≡ p.1)
 parts x y p e = let both : (x, y) ≡ p = cc in (ap (λ (q : _ × _). q.0) both, ap (λ (q : _ × _). q.1) both)

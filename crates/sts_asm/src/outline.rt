@@ -511,11 +511,7 @@ impl<'a> Outline<'a> {
         ensures steps { Steps result self.new (def.line_read at self.old line.now) }
         ensures grows { OnOk result (size_of self.new ≤ size_of self.old + 1) }
     {
-        let unknown = Known {
-            plain: false,
-            allowed: false,
-        };
-        match self.read(at, line, unknown) {
+        match self.read(at, line, Known::nothing()) {
             Ok(()) => Ok(()),
             Err(fault) => Err(fault.kind()),
         }

@@ -1,7 +1,7 @@
 //! Bytes of a class, looked at 16 at a time.
 
 ghost use Rattle.std.specs.Prelude.{◌≡◌, ℕ, ◌+◌, ◌<◌, ◌≤◌, ◌==◌, if◌then◌else◌, length, take, true};
-ghost use Rattle.std.specs.Prelude.{slice_index};
+ghost use Rattle.std.specs.Prelude.{false, slice_index};
 ghost use Rattle.std.specs.Int.{w64, trailing_zeros};
 ghost use Rattle.std.specs.List.{list_all};
 ghost use Rattle.sts_asm.specs.Outline.{is_plain, is_allowed};
@@ -21,6 +21,19 @@ pub(crate) enum Class {
 pub(crate) struct Known {
     pub(crate) plain: bool,
     pub(crate) allowed: bool,
+}
+
+impl Known {
+    /// Nothing is known of them.
+    #[inline(always)]
+    pub(crate) fn nothing() -> Known
+        ensures { result ≡ record { plain = false; allowed = false } }
+    {
+        Known {
+            plain: false,
+            allowed: false,
+        }
+    }
 }
 
 /// How many bytes are looked at together.

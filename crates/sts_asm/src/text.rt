@@ -63,12 +63,8 @@ fn cut_line(text: &[u8]) -> Option<(&[u8], &[u8], Known)>
         };
         return Some((line, after, known));
     }
-    let unknown = Known {
-        plain: false,
-        allowed: false,
-    };
     match cut_at_newline(text) {
-        Some((line, after)) => Some((line, after, unknown)),
+        Some((line, after)) => Some((line, after, Known::nothing())),
         None => None,
     }
 }
@@ -112,11 +108,7 @@ fn read_text<'a>(outline: &mut Outline<'a>, text: &'a [u8]) -> Result<(), AsmErr
         rest = after;
         at += 1;
     }
-    let unknown = Known {
-        plain: false,
-        allowed: false,
-    };
-    line_at(outline, at, rest, unknown)?;
+    line_at(outline, at, rest, Known::nothing())?;
     if outline.is_open() {
         return Err(AsmError {
             line: at,
@@ -147,11 +139,7 @@ fn read_kept<'a>(
         rest = after;
         at += 1;
     }
-    let unknown = Known {
-        plain: false,
-        allowed: false,
-    };
-    line_at(outline, at, rest, unknown)?;
+    line_at(outline, at, rest, Known::nothing())?;
     keep_ended(alloc, outline, all)?;
     if outline.is_open() {
         return Err(AsmError {

@@ -11,6 +11,7 @@ use Rattle.sts_asm.proofs.KeptLemmas.{filled_more, filled_less, filled_done, par
 use Rattle.sts_asm.proofs.resolving.fill.Goals.{then-has_names+in_ok-code, else-has_names}
 use Rattle.sts_asm.proofs.resolving.fill.Goals as goal
 
+-- Both branches are proved in one answer, since a search sees what a branch did only inside the `elim`, where `w` has its steps.
 pub loop-at-preserved : goal.loop-at-preserved
 loop-at-preserved c =
     let l = c.loop-at in
@@ -38,7 +39,8 @@ loop-at-preserved c =
             read = rw next_is (filled_more read again l.next line code after i old y whole here room old_is named said front more l.invariant.read);
             left = search rules;
             size = ap length is ∙ length-set code i y ∙ l.invariant.size;
-            same = parts_more c.args.names.now again l.next line code after i y old (map without_names c.args.code.now.items) (search rules) (search rules) room old_is named said is l.invariant.same;
+            same = parts_more c.args.names.now again l.next line code after i y old (map without_names c.args.code.now.items)
+                (search rules) (search rules) room old_is named said is l.invariant.same;
           }
       | else-has_names w ↦
           let is : after ≡ code = search rules in
