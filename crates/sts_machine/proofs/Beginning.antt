@@ -45,8 +45,7 @@ root_is_free p owned order = by (live_stand_at p (live_opening p) 0) refl
     by (AtJoin s) e = let never = (owned p (live_opening p) order 0 s (ap (is_stand_at s) e ∙ same_stand s)).stands in cc
     by (AtClose s) e = let never = (owned p (live_opening p) order 0 s (ap (is_stand_at s) e ∙ same_close s)).stands in cc
 
--- the parts that the view doesn't show, at the beginning: no scope is recorded for the root, and the
--- root has taken its room
+-- no scope is recorded for the root, and it has taken its room
 pub record IsBegun (b : Budgets) (u : Unseen) : Type 0 where
   pub stands : u.stands ≡ Some Free ∷ []
   pub tasks : u.task_room ≡ b.tasks - 1

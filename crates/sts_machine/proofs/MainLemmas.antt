@@ -10,5 +10,5 @@ use Rattle.laws_accepted.specs.EveryRun.{RunsWell}
 use Rattle.sts_machine.specs.Laws.{MainBudget}
 
 -- it is the only one that is printed, and every run keeps `RunsWell` with it
-pub main_budget : (p : Program) (b : Budgets) → IsBudgetOf p (main_of p) b → ((events : List Event) → RunsWell p b events) → MainBudget p
+abbrev pub main_budget : (p : Program) (b : Budgets) → IsBudgetOf p (main_of p) b → ((events : List Event) → RunsWell p b events) → MainBudget p
 main_budget p b printed runs_well = record { budget = b; printed = printed; alone = λ other is. budget_of-one p (main_of p) other b is printed; runs_well = runs_well }

@@ -33,7 +33,7 @@ use Rattle.sts_machine.specs.Slice.{steps_of}
 use Rattle.sts_machine.specs.Turned.{Picks, turned}
 use Rattle.sts_machine.specs.declared.turned.Turned.TheVariants.{Stepped, Idle}
 use Rattle.sts_machine.proofs.LivesLemmas.{lives_written}
-use Rattle.sts_verify.proofs.BudgetLemmas.{budget_of-one}
+use Rattle.sts_machine.proofs.MainLemmas.{main_budget}
 use Rattle.sts_pool.specs.Book.{BookSeen, HasBookRoom, IsBook, is_free}
 use Rattle.sts_pool.specs.Outside.{outside_entries}
 use Rattle.sts_pool.specs.Report.{IsBounded, IsReport, IsUnfinished}
@@ -192,9 +192,8 @@ room_kept p q j k l n same more most room =
 -- before the first event there is room by this budget of `main`
 pub opening_room : (p q : Program) (budget : Budgets) (out : ℕ) → q ≡ p → IsBudgetOf p (main_of p) budget → ((events : List Event) → RunsWell p budget events) → StandsStay p → TurnsAreSeen p → ViewsAreWithin p → budget.steps < 2 ^ 32 → budget.tasks ≤ out → HasBookRoom q (budget.steps + 4096) out
 opening_room p q budget out same printed runs_well stay turns within few most =
-    let main : MainBudget p = record { budget = budget; printed = printed; alone = λ other is. budget_of-one p (main_of p) other budget is printed; runs_well = runs_well } in
     subst (λ z. HasBookRoom z (budget.steps + 4096) out) (sym same)
-    (record { main = main; few = few; stay = stay; turns = turns; within = within; journal_room = omega arith; out_room = most })
+    (record { main = main_budget p budget printed runs_well; few = few; stay = stay; turns = turns; within = within; journal_room = omega arith; out_room = most })
 
 -- if it is still a book with these entries, the journal had room for them
 pub entries_fit : (m x : Seen) (journal events : List Event) (out : List ℕ) (j k : ℕ) → x.program ≡ m.program → HasBookRoom m.program j k → IsBook x (journal ++ events) out → length journal + length events ≤ j
