@@ -4,6 +4,7 @@ use Rattle.sts_asm.specs.Kept.{Kept, IsShortened}
 use Rattle.sts_asm.proofs.SettledLemmas.{settled_then, settled_else}
 use Rattle.sts_asm.proofs.kept.settled.Goals as goal
 
+-- It is long, since the value of `kept` has to be written field by field.
 pub returns-then-is_ok : goal.returns-then-is_ok
 returns-then-is_ok c d short =
     let k : Kept = record {
@@ -20,6 +21,7 @@ returns-then-is_ok c d short =
     let known : is_ok c.fill.result ≡ true = search rules in
     settled_then c.fill.result c.args.functions.now d k c.new-then-is_ok.result c.new-then-is_ok-2.result.items c.new.result c.as_slice.result.now c.fill.new.code.items known (search rules) c.new.ensures lines c.fill.ensures.steps kept
 
+-- It is long for the same reason.
 pub returns : goal.returns
 returns c d short =
     let k : Kept = record {
