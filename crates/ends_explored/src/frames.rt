@@ -1,12 +1,12 @@
 //! The instructions that change only the frame of a task.
 
-use ends_known::call::Call;
 use ends_known::own::is_at_once;
+use laws_calls::table::Call;
 use std::alloc::{AllocError, Global};
 use sts_code::{Instr, MAX_ENTRIES, MAX_OPERANDS, MAX_STEPS, Program};
-use sts_frames::{code, instr_at, is_local, local};
-use sts_model::{Bound, Entry, Frame};
-use sts_plain::frame_tests::{breaks_loop, overflows};
+use sts_frames::instr_at;
+use sts_model::{Bound, Entry, Frame, Items};
+use sts_plain::does_local;
 
 /// Pops operands, pushes a value and goes to a place. Returns whether there is room for the value.
 pub fn push_and_go(frame: &mut Frame, to: u32, n: usize, value: i64) -> bool {
@@ -20,19 +20,6 @@ pub fn push_and_go(frame: &mut Frame, to: u32, n: usize, value: i64) -> bool {
 /// The place after this one.
 pub fn next_place(frame: &Frame) -> u32 {
     frame.pc.saturating_add(1)
-}
-
-/// Does a local instruction, if this is one that can be done.
-fn does_local(frame: &mut Frame, program: &Program, instr: Instr) -> bool {
-    if !is_local(instr) || overflows(program, frame, instr) || breaks_loop(program, frame, instr) {
-        return false;
-    }
-    let code = code(program, frame);
-    if frame.pc as usize >= code.len() {
-        return false;
-    }
-    local(frame, program, code, instr);
-    true
 }
 
 /// Puts an entry on the structure list. Returns whether there is room for it.
@@ -120,20 +107,22 @@ pub fn run_frame(frame: &mut Frame, program: &Program, call: &Call) {
 }
 
 /// The bindings that a subtask inherits: the task's own, and the inherited ones.
-pub fn environment(alloc: Global, frame: &Frame, call: &Call) -> Result<Vec<Bound>, AllocError> {
-    let mut bindings = Vec::new(alloc);
+pub fn environment(alloc: Global, frame: &Frame, call: &Call) -> Result<Items<Bound>, AllocError> {
+    let mut bindings = Items::new(alloc);
     for place in 0..frame.entries.len() {
         if let Entry::Binding(key, value) = frame.entries.get_or(place, Entry::Scope(0)) {
             bindings.push(Bound { key, value })?;
         }
     }
-    bindings.extend_from_slice(call.environment.as_slice())?;
+    for bound in call.environment.as_slice() {
+        bindings.push(*bound)?;
+    }
     Ok(bindings)
 }
 
 /// The topmost operands, the top last.
-pub fn arguments(alloc: Global, frame: &Frame, count: u8) -> Result<Vec<i64>, AllocError> {
-    let mut values = Vec::new(alloc);
+pub fn arguments(alloc: Global, frame: &Frame, count: u8) -> Result<Items<i64>, AllocError> {
+    let mut values = Items::new(alloc);
     for place in (0..count).rev() {
         values.push(frame.operand(place as usize))?;
     }

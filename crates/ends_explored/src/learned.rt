@@ -1,10 +1,11 @@
 //! What an owner learns of a scope when it looks.
 
-use ends_known::joiners::{is_trigger, limit};
 use ends_known::part::{Filter, Part, Run, all_heard, is_sure_trigger};
 use ends_known::pick::{if_fits, with_fitting};
-use ends_known::seen::{Facts, Knowledge, Seen};
+use ends_known::seen::{Facts, Seen};
 use ends_known::table::Table;
+use laws_calls::joiners::{is_trigger, limit};
+use laws_calls::table::Knowledge;
 use std::alloc::{AllocError, Global};
 use sts_model::End;
 

@@ -1,12 +1,12 @@
 //! The next states of a task, as they are found.
 
 use crate::frames::push_and_go;
-use ends_known::call::Call;
 use ends_known::outside::Outside;
 use ends_known::own::Own;
 use ends_known::part::{Part, part_at};
 use ends_known::seen::{Facts, Seen};
 use ends_known::table::{Label, Table};
+use laws_calls::table::Call;
 use std::alloc::{AllocError, Global};
 use sts_code::Program;
 use sts_model::{End, Frame};

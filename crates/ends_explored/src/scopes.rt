@@ -4,10 +4,11 @@ use crate::frames::{next_place, push_and_go, push_entry};
 use crate::learned::{Cancelled, cancelled_by, may_go_on};
 use crate::next::{At, Move, Steps};
 use ends_known::call::number;
-use ends_known::own::{Held, Own};
+use ends_known::own::Own;
 use ends_known::pick::{Count, Needs, Sum, fitting_within, least_cost};
-use ends_known::seen::{Asked, Facts, Knowledge, Seen};
+use ends_known::seen::{Facts, Seen};
 use ends_known::table::{Label, Table};
+use laws_calls::table::{Asked, Held, Knowledge};
 use std::alloc::{AllocError, Global};
 use sts_code::{Joiner, Kind};
 use sts_model::Entry;
@@ -114,7 +115,7 @@ pub fn cancelled_at(slot: u8, steps: &mut Steps<'_>) -> Result<(), AllocError> {
             Some(scope) => return cancelled(At { scope, place }, steps),
             None => steps.break_off(),
         },
-        Held::Empty | Held::Sub { .. } => steps.break_off(),
+        Held::Empty | Held::Sub(..) => steps.break_off(),
     }
     Ok(())
 }

@@ -3,11 +3,12 @@
 use crate::begin::{first_state, root_call};
 use crate::next::{Around, Outcome, Step};
 use crate::steps::followed;
-use ends_known::call::{Call, Way, number};
+use ends_known::call::{Way, number};
 use ends_known::outside::Outside;
 use ends_known::own::Own;
 use ends_known::table::{Explored, Label, Node, Table};
 use ends_search::index::Index;
+use laws_calls::table::Call;
 use std::alloc::{AllocError, Global};
 use sts_code::Program;
 use sts_model::End;

@@ -5,11 +5,11 @@ use crate::joins::{Targets, joined};
 use crate::next::{Around, At, Outcome, Steps, looked_at};
 use crate::scopes::{Question, asked, cancelled_at, closed, forgotten, interrupted, opened};
 use crate::subtasks::{came, cased};
-use ends_known::call::Call;
-use ends_known::own::{Held, Own};
+use ends_known::own::Own;
 use ends_known::part::{Filter, Part, count_parts, push_parts};
-use ends_known::seen::{Knowledge, Seen};
+use ends_known::seen::Seen;
 use ends_known::table::Label;
+use laws_calls::table::{Call, Held, Knowledge};
 use std::alloc::{AllocError, Global};
 use sts_code::{Instr, args};
 use sts_frames::instr_at;
@@ -56,11 +56,7 @@ fn forks(own: &mut Own, fork: Fork) -> Result<(), AllocError> {
     own.frame.goes(to, fork.count as usize);
     let child = push_part(own, fork.place, fork.call)?;
     if let Some(slot) = fork.handle {
-        let held = Held::Sub {
-            scope: fork.place,
-            part: child,
-        };
-        own.set_slot(slot, held);
+        own.set_slot(slot, Held::Sub(fork.place, child));
     }
     Ok(())
 }
@@ -82,11 +78,11 @@ fn forked(fork: Fork, steps: &mut Steps<'_>) -> Result<Outcome, AllocError> {
 /// The call of a `fork` of a function.
 fn call_of(function: u32, count: u8, steps: &Steps<'_>) -> Result<Call, AllocError> {
     let frame = &steps.own.frame;
-    let arguments = arguments(steps.alloc, frame, count)?;
+    let args = arguments(steps.alloc, frame, count)?;
     let environment = environment(steps.alloc, frame, steps.around.call)?;
     Ok(Call {
         function,
-        arguments,
+        args,
         environment,
     })
 }
@@ -127,7 +123,7 @@ fn fork_in(
 /// Adds the states after an instruction about the subtask that a slot holds.
 fn asked_subtask(slot: u8, instr: Instr, steps: &mut Steps<'_>) {
     let own = steps.own;
-    let Held::Sub { scope, part } = own.slot(slot) else {
+    let Held::Sub(scope, part) = own.slot(slot) else {
         return steps.break_off();
     };
     let Some(at) = looked_at(own, scope, part) else {

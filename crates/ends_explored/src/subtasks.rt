@@ -3,11 +3,12 @@
 use crate::frames::next_place;
 use crate::learned::decided;
 use crate::next::{Looked, Move, Steps};
-use ends_known::joiners::is_success;
 use ends_known::part::{Filter, Part, narrowed, with_part};
 use ends_known::pick::{if_fits, with_fitting};
-use ends_known::seen::{Facts, Knowledge, Seen};
+use ends_known::seen::{Facts, Seen};
 use ends_known::table::{Label, Table};
+use laws_calls::joiners::is_success;
+use laws_calls::table::Knowledge;
 use std::alloc::AllocError;
 use sts_code::Joiner;
 use sts_model::End;

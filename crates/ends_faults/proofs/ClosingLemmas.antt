@@ -24,7 +24,8 @@ use Rattle.sts_model.specs.Local.{goes, steps, operand}
 use Rattle.sts_model.specs.Living.{lives, any_lives, ends, subtask_count, is_closed}
 use Rattle.sts_model.specs.Joining.{cancels, result_of}
 use Rattle.sts_model.specs.Cancelling.{raised, marked, cancel}
-use Rattle.sts_model.specs.Misuse.{slot, is_closing}
+use Rattle.sts_model.specs.Misuse.{slot}
+use Rattle.sts_model.specs.Waiting.{is_closing}
 use Rattle.sts_model.specs.Effect.{effect, named, with_phase, joined, join_verdict, join_scope}
 use Rattle.sts_model.specs.Effect.{close_scope, cleared, told, decide, tell, ended, end_task, open_scope}
 use Rattle.sts_model.specs.Effect.{fork_task, subtask_of, forked}

@@ -1,25 +1,26 @@
 -- The states of a table at which no step is a fault (this project's own). Each line restates the
 -- tests of `misuse` by what the state knows. The limits of births are left out.
 use Rattle.std.specs.Prelude.{◌≡◌, ℕ, List, [], ◌∷◌, length, Bool, true, false, Option, Some, None}
-use Rattle.std.specs.Prelude.{is_some, is_none, nat_le, not, ◌==◌, ◌&&◌, ◌||◌, if◌then◌else◌}
+use Rattle.std.specs.Prelude.{is_none, nat_le, not, ◌==◌, ◌&&◌, ◌||◌, if◌then◌else◌}
 use Rattle.std.specs.Prelude.{slice_index_or, All}
 use Rattle.std.specs.List.{filter}
 use Rattle.sts_code.specs.Program.{Program}
-use Rattle.sts_code.specs.declared.limits.TheConstants.{MAX_ENTRIES, MAX_OPERANDS}
+use Rattle.sts_code.specs.declared.limits.TheConstants.{MAX_ENTRIES}
 use Rattle.sts_code.specs.declared.profile.Profile.{Profile}
 use Rattle.sts_code.specs.declared.instr.Instr.{Instr}
 use Rattle.sts_code.specs.declared.instr.Instr.TheVariants.{Open, Fork, Join, Close, Cancelled}
 use Rattle.sts_code.specs.declared.instr.Instr.TheVariants.{Case, Get, Except, Tally, Total, Forget}
 use Rattle.sts_code.specs.declared.instr.Instr.TheVariants.{Bind, Unbind, Read, Ret, Fail}
-use Rattle.sts_code.specs.Facts.{can_fail, is_await_all, is_two, same}
+use Rattle.sts_code.specs.Facts.{is_two}
 use Rattle.sts_model.specs.declared.event.End.{End}
 use Rattle.sts_model.specs.declared.record.Entry.{Entry}
 use Rattle.sts_model.specs.declared.record.Entry.TheVariants as entry
 use Rattle.sts_model.specs.declared.record.Frame.{Frame}
 use Rattle.sts_model.specs.World.{instr_at}
 use Rattle.sts_model.specs.Environment.{read}
-use Rattle.sts_model.specs.Misuse.{lacks_operands, overflows, breaks_loop, is_opened, can_join}
-use Rattle.sts_model.specs.Misuse.{is_joined, has_succeeded, has_failed, innermost, is_binding}
+use Rattle.sts_model.specs.Misuse.{lacks_operands, overflows, breaks_loop, misfits, is_opened}
+use Rattle.sts_model.specs.Misuse.{can_join, is_joined, has_succeeded, has_failed, innermost}
+use Rattle.sts_model.specs.Misuse.{is_binding}
 use Rattle.laws_calls.specs.declared.table.Held.{Held}
 use Rattle.laws_calls.specs.declared.table.Held.TheVariants as held
 use Rattle.laws_calls.specs.Tasks.{births_in, bindings, held_at}
@@ -75,9 +76,7 @@ pub record KnowsOne (own : Own) (h : ℕ) (P : Seen → ℕ → Type 0) : Type 0
 
 -- a `join` with no room for the answer, or with targets that don't fit the scope
 abbrev pub joins_wrongly : Frame → Option ℕ → Option ℕ → Seen → Bool
-joins_wrongly f failed timeout x =
-    (nat_le MAX_OPERANDS (length f.operands) && not (is_await_all x.joiner))
-    || not (same (is_some failed) (can_fail x.joiner)) || not (same (is_some timeout) x.timed)
+joins_wrongly f failed timeout x = misfits f failed timeout x.joiner x.timed
 
 abbrev pub is_late : Knowledge → Bool
 is_late Late = true

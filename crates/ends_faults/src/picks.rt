@@ -6,10 +6,10 @@ ghost use Rattle.ends_faults.specs.Safe as def;
 ghost use Rattle.laws_calls.specs.declared.table.Way.{Way};
 ghost use Rattle.laws_runs.specs.Tallies.{is_kind};
 
-use ends_picks::joiners::{is_failure, is_success};
 use ends_picks::possible::has_pick;
 use ends_table::places::with_part;
 use ends_table::stop::Stop;
+use laws_calls::joiners::{is_failure, is_success};
 use laws_calls::shared::Shared;
 use laws_calls::table::{Part, Seen, Way};
 use std::alloc::{AllocError, Global};

@@ -1,18 +1,8 @@
-//! Calls, and what each may come to.
+//! What a call may come to, and a hash of it.
 
 use ends_search::hash::{mixed, mixed_values};
+use laws_calls::table::Call;
 use sts_model::{Bound, End};
-
-/// All that the ends of a subtask depend on: its function, its arguments and the scoped values that
-/// it inherits.
-#[derive(Drop)]
-pub struct Call {
-    pub function: u32,
-    /// The arguments, the one that was pushed last at the end.
-    pub arguments: Vec<i64>,
-    /// The bindings, the innermost first.
-    pub environment: Vec<Bound>,
-}
 
 /// An end of a task that comes before any cancel of its scope, and the fewest interrupts that it
 /// takes.
@@ -40,17 +30,8 @@ fn mixed_bindings(hash: u64, bindings: &[Bound]) -> u64 {
     hash
 }
 
-impl Call {
-    /// Are the two the same call?
-    pub fn is_same(&self, other: &Call) -> bool {
-        self.function == other.function
-            && self.arguments.as_slice() == other.arguments.as_slice()
-            && self.environment.as_slice() == other.environment.as_slice()
-    }
-
-    /// A number that two calls share if they are the same.
-    pub fn hash(&self) -> u64 {
-        let hash = mixed_values(u64::from(self.function), self.arguments.as_slice());
-        mixed_bindings(hash, self.environment.as_slice())
-    }
+/// A number that two calls share if they are the same.
+pub fn hash_of(call: &Call) -> u64 {
+    let hash = mixed_values(u64::from(call.function), call.args.as_slice());
+    mixed_bindings(hash, call.environment.as_slice())
 }

@@ -2,7 +2,6 @@
 #![tactic(auto)]
 
 pub mod call;
-pub mod joiners;
 pub mod outside;
 pub mod own;
 pub mod part;

@@ -2,21 +2,12 @@
 
 use crate::seen::Seen;
 use ends_search::hash::{mixed, mixed_entries, mixed_values};
+use laws_calls::table::Held;
 use std::alloc::{AllocError, Global};
 use sts_code::{Instr, LAST_SLOT};
 use sts_frames::{copy_frame, is_local};
 use sts_model::Frame;
 use sts_same::same::Same;
-
-/// What a slot of the task holds, by place: its open scopes are counted from the outermost, and the
-/// subtasks of a scope in fork order.
-#[derive(Clone, Copy, PartialEq, Eq)]
-pub enum Held {
-    Empty,
-    Lent,
-    Own(u32),
-    Sub { scope: u32, part: u32 },
-}
 
 /// Is it an instruction that changes only the frame, and that a path does at once?
 pub fn is_at_once(instr: Instr) -> bool {
@@ -44,7 +35,7 @@ fn number_of_held(held: Held) -> u64 {
         Held::Empty => 0,
         Held::Lent => 1,
         Held::Own(scope) => 2 + u64::from(scope),
-        Held::Sub { scope, part } => mixed(u64::from(scope), 3 + u64::from(part)),
+        Held::Sub(scope, part) => mixed(u64::from(scope), 3 + u64::from(part)),
     }
 }
 
@@ -147,7 +138,7 @@ impl Own {
     pub fn forget_scope(&mut self, place: u32) {
         for held in self.held.iter_mut() {
             let is_its = match *held {
-                Held::Own(scope) | Held::Sub { scope, .. } => scope == place,
+                Held::Own(scope) | Held::Sub(scope, _) => scope == place,
                 Held::Empty | Held::Lent => false,
             };
             if is_its {

@@ -1,7 +1,7 @@
 //! What an owner knows of its subtasks.
 
 use crate::call::Way;
-use crate::joiners::{is_success, is_trigger};
+use laws_calls::joiners::{is_success, is_trigger};
 use std::alloc::{AllocError, Global};
 use sts_code::Joiner;
 use sts_model::End;

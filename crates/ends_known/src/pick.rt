@@ -1,10 +1,11 @@
 //! What the subtasks of a scope may have come to together.
 
 use crate::call::{Way, number};
-use crate::joiners::{is_success, is_trigger, limit};
 use crate::part::{Part, Run, with_part};
-use crate::seen::{Asked, Facts, Knowledge, Seen};
+use crate::seen::{Facts, Seen};
 use crate::table::Table;
+use laws_calls::joiners::{is_success, is_trigger, limit};
+use laws_calls::table::{Asked, Knowledge};
 use std::alloc::{AllocError, Global};
 use sts_code::Joiner;
 use sts_model::End;

@@ -2,31 +2,10 @@
 
 use crate::part::Run;
 use ends_search::hash::mixed;
+use laws_calls::table::{Asked, Knowledge};
 use std::alloc::{AllocError, Global};
 use sts_code::Joiner;
 use sts_model::Phase;
-
-/// What the owner knows of a cancel.
-#[derive(Clone, Copy, PartialEq, Eq)]
-pub enum Knowledge {
-    /// It doesn't know whether the scope is cancelled.
-    Unseen,
-    /// The joiner has cancelled the scope.
-    ByJoiner,
-    /// The scope has expired.
-    Late,
-    /// All subtasks have ended, and the scope is not cancelled.
-    Heard,
-}
-
-/// The counts that the owner has asked for.
-#[derive(Clone, Copy, PartialEq, Eq)]
-pub struct Asked {
-    pub successes: Option<u32>,
-    pub failures: Option<u32>,
-    pub unavailable: Option<u32>,
-    pub total: Option<i64>,
-}
 
 /// What the owner knows of a scope, apart from its subtasks.
 #[derive(Clone, Copy, PartialEq, Eq)]

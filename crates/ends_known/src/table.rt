@@ -1,10 +1,12 @@
 //! The calls that were explored, and what each may come to.
 
-use crate::call::{Call, Way, number};
+use crate::call::{Way, hash_of, number};
 use crate::own::Own;
 use crate::part::Part;
 use ends_search::index::Index;
+use laws_calls::table::Call;
 use std::alloc::{AllocError, Global};
+use sts_same::same::Same;
 
 /// What a trace needs to know of a step.
 #[derive(Clone, Copy)]
@@ -55,14 +57,14 @@ impl Table {
 
     fn is_at(&self, place: usize, call: &Call) -> bool {
         match self.calls.get(place) {
-            Some(explored) => explored.call.is_same(call),
+            Some(explored) => explored.call.same(call),
             None => false,
         }
     }
 
     /// The number of a call, if it was explored.
     pub fn find(&self, call: &Call) -> Option<u32> {
-        let hash = call.hash();
+        let hash = hash_of(call);
         let mut place = self.index.first(hash);
         for _ in 0..self.calls.len() {
             if place >= self.calls.len() {
@@ -78,7 +80,7 @@ impl Table {
 
     /// Adds a call.
     pub fn add(&mut self, alloc: Global, explored: Explored) -> Result<(), AllocError> {
-        self.index.add(alloc, explored.call.hash())?;
+        self.index.add(alloc, hash_of(&explored.call))?;
         self.calls.push(explored)?;
         Ok(())
     }

@@ -9,7 +9,8 @@ ghost use Rattle.laws_calls.specs.declared.table.Part.{Part};
 ghost use Rattle.laws_calls.specs.declared.table.Way.{Way};
 ghost use Rattle.sts_repeats.specs.declared.runs.Run.{Run};
 
-use crate::joiners::{is_trigger, limit, most};
+use crate::joiners::most;
+use laws_calls::joiners::{is_trigger, limit};
 use laws_calls::table::{Knowledge, Part, Seen, Way};
 use sts_code::Joiner;
 use sts_model::Phase;

@@ -9,8 +9,8 @@ ghost use Rattle.laws_calls.specs.declared.table.Way.{Way};
 ghost use Rattle.laws_runs.specs.Tallies as tallies;
 ghost use Rattle.sts_model.specs.declared.event.End.{End};
 
-use crate::joiners::{is_failure, is_success, is_trigger};
 use crate::ranges::Range;
+use laws_calls::joiners::{is_failure, is_success, is_trigger};
 use laws_calls::table::{Part, Way};
 use sts_code::{Joiner, Kind};
 use sts_model::End;

@@ -1,83 +1,20 @@
-//! Joiners: which ends count towards a cancel, how many cancel a scope, and what `join` answers.
+//! Joiners: what is known of a cancel, and what `join` answers.
 
 ghost use Rattle.std.specs.Prelude.{◌≡◌, [], ◌∷◌};
 ghost use Rattle.laws_calls.specs.Fitting as fitting;
 ghost use Rattle.laws_calls.specs.Steps as def;
-ghost use Rattle.laws_calls.specs.Triggers as triggers;
 ghost use Rattle.sts_model.specs.Joining as joining;
 
+use laws_calls::joiners::limit;
 use laws_calls::table::Knowledge;
-use sts_code::{Joiner, Pred};
+use sts_code::Joiner;
 use sts_model::{End, Verdict};
-
-/// Is the end a success?
-pub fn is_success(end: End) -> bool
-    ensures { result ≡ joining.is_success end }
-{
-    matches!(end, End::Success(_))
-}
-
-/// Is the end a failure?
-pub fn is_failure(end: End) -> bool
-    ensures { result ≡ joining.is_failure end }
-{
-    matches!(end, End::Failed(_))
-}
-
-/// Is the end a success of at least this value?
-fn is_at_least(least: i64, end: End) -> bool
-    ensures { result ≡ joining.is_at_least least end }
-{
-    match end {
-        End::Success(value) => least <= value,
-        End::Failed(_) => false,
-    }
-}
-
-/// Does the end count towards a cancel?
-pub fn is_trigger(joiner: Joiner, end: End) -> bool
-    ensures { result ≡ triggers.is_trigger joiner end }
-{
-    match joiner {
-        Joiner::AllSucceed | Joiner::AwaitOk | Joiner::Until(Pred::Failed(_)) => is_failure(end),
-        Joiner::AnySucceeds | Joiner::Until(Pred::Success(_)) => is_success(end),
-        Joiner::AwaitAll => false,
-        Joiner::Until(Pred::AtLeast(least)) => is_at_least(least, end),
-    }
-}
-
-/// How many such ends cancel the scope.
-pub fn limit(joiner: Joiner) -> u32
-    ensures { result ≡ triggers.limit joiner }
-{
-    match joiner {
-        Joiner::Until(Pred::Failed(count) | Pred::Success(count)) => count,
-        _ => 1,
-    }
-}
 
 /// No more ends count in a scope.
 pub fn most(joiner: Joiner) -> u32
     ensures { result ≡ fitting.most joiner }
 {
     limit(joiner).max(1)
-}
-
-/// Does one end alone decide what `join` answers after a cancel?
-pub fn is_by_one(joiner: Joiner) -> bool
-    ensures { result ≡ def.is_by_one joiner }
-{
-    matches!(
-        joiner,
-        Joiner::AllSucceed | Joiner::AwaitOk | Joiner::AnySucceeds
-    )
-}
-
-/// Is it an `until`?
-pub fn is_until(joiner: Joiner) -> bool
-    ensures { result ≡ def.is_until joiner }
-{
-    matches!(joiner, Joiner::Until(_))
 }
 
 /// Is it `any`?

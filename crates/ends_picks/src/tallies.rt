@@ -9,8 +9,9 @@ ghost use Rattle.laws_runs.specs.Tallies as tallies;
 ghost use Rattle.sts_model.specs.declared.event.End.{End};
 
 use crate::groups::{Group, range_of};
-use crate::joiners::{limit, most};
+use crate::joiners::most;
 use crate::ranges::Range;
+use laws_calls::joiners::limit;
 use laws_calls::table::{Asked, Knowledge, Seen};
 use sts_code::{Joiner, Kind};
 use sts_model::Phase;

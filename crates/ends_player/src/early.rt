@@ -6,8 +6,9 @@
 
 use crate::played::Played;
 use ends_known::call::number;
-use ends_known::seen::{Knowledge, Seen};
+use ends_known::seen::Seen;
 use ends_known::table::{Explored, Label};
+use laws_calls::table::Knowledge;
 use sts_model::Phase;
 
 /// A cancel of a scope before the look that shows it.

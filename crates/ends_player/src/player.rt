@@ -11,9 +11,10 @@ use crate::basis::Basis;
 use crate::mark::Mark;
 use crate::played::{Played, Start};
 use ends_known::outside::Outside;
-use ends_known::own::{Held, is_at_once};
+use ends_known::own::is_at_once;
 use ends_known::seen::Seen;
 use ends_known::table::{Explored, Label, Table};
+use laws_calls::table::Held;
 use std::alloc::{AllocError, Global};
 use sts_code::{Instr, Program};
 use sts_frames::instr_at;
@@ -163,7 +164,7 @@ fn births(world: &World) -> (u32, u32) {
 fn looked_at(held: Held) -> Option<(u32, Option<u32>)> {
     match held {
         Held::Own(place) => Some((place, None)),
-        Held::Sub { scope, part } => Some((scope, Some(part))),
+        Held::Sub(scope, part) => Some((scope, Some(part))),
         Held::Empty | Held::Lent => None,
     }
 }

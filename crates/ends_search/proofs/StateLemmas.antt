@@ -75,6 +75,14 @@ space_more {S} next can alike last first origins closed kept marks o s more mark
       whole_ones = rw new (kept_more states kept more marks mark s h.whole_ones grows is_kept);
     }
 
+-- one state more, whose mark and origin are in the lists now
+pub space_pushed : {S : Type 0} (next : S → Event → S) (can : S → Event → Bool) (alike : S → S → Type 0) (last : S → Bool) (first : S) (origins added : List Origin) (closed : ℕ) (kept : List S) (marks noted : List (Option ℕ)) (o : Origin) (s : S) (more : List S) (mark : Option ℕ)
+    → noted ≡ marks ++ mark ∷ [] → added ≡ origins ++ o ∷ []
+    → IsSpace next can alike last first origins closed kept marks → o.parent < length origins → CanAt can (states_of next first origins) o.parent o.event → o.is_last ≡ last s → s ≡ next (state_at next first origins o.parent) o.event → Grows kept more → IsKept more mark s
+    → IsSpace next can alike last first added closed more noted
+space_pushed next can alike last first origins added closed kept marks noted o s more mark as_noted as_added h within comes marked made grows is_kept =
+    rw (as_noted, as_added) (space_more next can alike last first origins closed kept marks o s more mark h within comes marked made grows is_kept)
+
 pub grows_more : {S : Type 0} (next : S → Event → S) (first : S) (origins : List Origin) (o : Origin) → 0 < length origins → Grows (states_of next first origins) (states_of next first (origins ++ o ∷ []))
 grows_more next first origins o some = record { more = next (state_at next first origins o.parent) o.event ∷ []; same = states_more next first origins o some }
 

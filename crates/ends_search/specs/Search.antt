@@ -8,6 +8,7 @@ use Rattle.std.specs.List.{Contains}
 use Rattle.sts_model.specs.declared.event.Event.{Event}
 use Rattle.sts_model.specs.declared.event.Event.TheVariants.{Step}
 use Rattle.ends_search.specs.declared.origin.Origin.{Origin}
+use Rattle.ends_search.specs.declared.search.Space.{Space}
 
 -- ---- ways
 
@@ -134,3 +135,13 @@ pub record IsSpace {S : Type 0} (next : S → Event → S) (can : S → Event �
     (kept : List S) (marks : List (Option ℕ)) : Type 0 where
   pub searched : IsSearched next can alike last (states_of next first origins) origins closed
   pub whole_ones : AreKept (states_of next first origins) kept marks
+
+-- the search found more states, and expanded none
+pub record FoundMore {S : Type 0} (next : S → Event → S) (can : S → Event → Bool)
+    (alike : S → S → Type 0) (last : S → Bool) (old new : Space S) : Type 0 where
+  pub space : IsSpace next can alike last new.first new.origins.items new.closed new.kept.items
+      new.marks.items
+  pub first : new.first ≡ old.first
+  pub closed : new.closed ≡ old.closed
+  pub grows : Grows (states_of next old.first old.origins.items)
+      (states_of next new.first new.origins.items)

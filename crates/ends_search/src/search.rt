@@ -3,7 +3,7 @@
 ghost use Rattle.std.specs.Prelude.{◌≡◌, ◌<◌, length, true, IfOk, IfSome, IsNone, OnOk, fold};
 ghost use Rattle.std.specs.Prelude.{slice_index_or, None, [], ◌∷◌};
 ghost use Rattle.ends_search.specs.Search.{IsAmong, IsSpace, IsKept, Grows, LeadsInto, Follows};
-ghost use Rattle.ends_search.specs.Search.{CanAt, IsWay, no_origin, state_at, states_of};
+ghost use Rattle.ends_search.specs.Search.{CanAt, FoundMore, IsWay, no_origin, state_at, states_of};
 
 use crate::index::Index;
 use crate::machine::StateMachine;
@@ -203,14 +203,8 @@ fn add<S: StateMachine>(
     requires space { IsSpace (S.next setting.now) (S.can setting.now)
         (S.alike setting.now) S.last space.old.first space.old.origins.items space.old.closed
         space.old.kept.items space.old.marks.items }
-    ensures space { OnOk result (IsSpace (S.next setting.now) (S.can setting.now)
-        (S.alike setting.now) S.last space.new.first space.new.origins.items space.new.closed
-        space.new.kept.items space.new.marks.items) }
-    ensures first { OnOk result (space.new.first ≡ space.old.first) }
-    ensures closed { OnOk result (space.new.closed ≡ space.old.closed) }
-    ensures grows { OnOk result (Grows
-        (states_of (S.next setting.now) space.old.first space.old.origins.items)
-        (states_of (S.next setting.now) space.new.first space.new.origins.items)) }
+    ensures more { OnOk result (FoundMore (S.next setting.now) (S.can setting.now)
+        (S.alike setting.now) S.last space.old space.new) }
     ensures there { IfOk result (λ there. there ≡ true
         → Follows (S.next setting.now) (S.alike setting.now)
         (states_of (S.next setting.now) space.old.first space.old.origins.items)
@@ -252,31 +246,25 @@ fn after<S: StateMachine>(
     Ok(next)
 }
 
-/// Adds all states that an event leads to from the state at this place. Returns `false` if there is
-/// no room for one of them.
+/// Adds all states that an event leads to from the first state that was not expanded. Returns
+/// `false` if there is no room for one of them.
 fn expand<S: StateMachine>(
     alloc: Global,
     setting: &S::Setting,
     space: &mut Space<S>,
-    place: usize,
 ) -> Result<bool, AllocError>
-    requires within { place < length space.old.origins.items }
+    requires within { space.old.closed < length space.old.origins.items }
     requires space { IsSpace (S.next setting.now) (S.can setting.now)
         (S.alike setting.now) S.last space.old.first space.old.origins.items space.old.closed
         space.old.kept.items space.old.marks.items }
-    ensures space { OnOk result (IsSpace (S.next setting.now) (S.can setting.now)
-        (S.alike setting.now) S.last space.new.first space.new.origins.items space.new.closed
-        space.new.kept.items space.new.marks.items) }
-    ensures first { OnOk result (space.new.first ≡ space.old.first) }
-    ensures closed { OnOk result (space.new.closed ≡ space.old.closed) }
-    ensures grows { OnOk result (Grows
-        (states_of (S.next setting.now) space.old.first space.old.origins.items)
-        (states_of (S.next setting.now) space.new.first space.new.origins.items)) }
+    ensures more { OnOk result (FoundMore (S.next setting.now) (S.can setting.now)
+        (S.alike setting.now) S.last space.old space.new) }
     ensures all { IfOk result (λ all. all ≡ true → LeadsInto (S.next setting.now)
         (S.can setting.now) (S.alike setting.now)
-        (states_of (S.next setting.now) space.old.first space.old.origins.items) place
+        (states_of (S.next setting.now) space.old.first space.old.origins.items) space.old.closed
         (states_of (S.next setting.now) space.new.first space.new.origins.items)) }
 {
+    let place = space.closed;
     let state = restored(alloc, setting, space, place)?;
     let mut events = state.events(alloc, setting)?;
     let Some(last) = events.pop() else {
@@ -379,7 +367,7 @@ pub fn advance<S: StateMachine>(
         if space.is_full || place >= space.origins.len() {
             break;
         }
-        if expand(alloc, setting, &mut space, place)? {
+        if expand(alloc, setting, &mut space)? {
             space.closed = place + 1;
         } else {
             space.is_full = true;

@@ -3,6 +3,7 @@
 use Rattle.std.specs.Prelude.{◌≡◌, ℕ, ◌+◌, ℤ, List, [], ◌∷◌, length, Bool, true, false, Option}
 use Rattle.std.specs.Prelude.{Some, All, ◌&&◌}
 use Rattle.std.specs.List.{list_any}
+use Rattle.sts_code.specs.Facts.{can_fail, is_until}
 use Rattle.sts_code.specs.Program.{Program}
 use Rattle.sts_code.specs.declared.instr.Instr.{Instr}
 use Rattle.sts_code.specs.declared.instr.Instr.TheVariants.{Fork, Get, Except}
@@ -20,7 +21,7 @@ use Rattle.laws_calls.specs.declared.table.Own.{Own}
 use Rattle.laws_calls.specs.declared.table.Call.{Call}
 use Rattle.laws_calls.specs.Steps.{Table, Steps, Leads, LeadsBy, born_by, Forks, Owns, MayEnd, is_cancelled}
 use Rattle.laws_calls.specs.declared.table.Row.{Row}
-use Rattle.laws_calls.specs.Steps.{may_decide, may_be_late, is_heard, is_by_one, is_until, is_any}
+use Rattle.laws_calls.specs.Steps.{may_decide, may_be_late, is_heard, is_any}
 use Rattle.laws_calls.specs.Steps.{is_unseen, attempted}
 use Rattle.laws_calls.specs.Steps.{pushes, to, with_seen, with_part, after_cancel, after_expiry}
 use Rattle.laws_calls.specs.Steps.{after_all, decided, timed_out, joined, told, saw_failure, missed}
@@ -109,7 +110,7 @@ pub record JoinsLead (states : List Own) (own : Own) (place : ℕ) (seen : Seen)
     (failed timeout : ℕ) : Type 0 where
   pub late : is_heard seen.knowledge ≡ false → seen.timed ≡ true
       → Leads states (timed_out own place seen timeout)
-  pub by_one : may_decide seen.knowledge ≡ true → is_by_one seen.joiner ≡ true → (i : ℕ)
+  pub by_one : may_decide seen.knowledge ≡ true → can_fail seen.joiner ≡ true → (i : ℕ)
       → (part : Part) → (e : End) → MayEnd seen i part e → is_trigger seen.joiner e ≡ true
       → OneLeads states own place seen failed i part e
   pub by_count : may_decide seen.knowledge ≡ true → is_until seen.joiner ≡ true
@@ -128,20 +129,30 @@ KindLeads states own place seen i part succeeds counting target =
     Leads states (to (with_seen own place (told (noted succeeds seen) i part counting
     (of_kind succeeds))) (goes own.frame target 0 []))
 
+-- `case` of a part that had not ended
+abbrev pub MissedLeads : List Own → Own → ℕ → Seen → ℕ → Part → Type 0
+MissedLeads states own place seen i part =
+    part.is_open ≡ true → Leads states
+    (to (with_part own place seen i (missed seen.knowledge seen.has_failure part))
+    (goes own.frame (own.frame.pc + 1) 0 []))
+
 -- `case` of a part of a scope at this place
 pub record CasesLead (states : List Own) (own : Own) (place : ℕ) (seen : Seen) (i : ℕ) (part : Part)
     (succeeded failed : ℕ) : Type 0 where
   pub success : (counting : Bool) → KindLeads states own place seen i part true counting succeeded
   pub failure : (counting : Bool) → KindLeads states own place seen i part false counting failed
-  pub unended : part.is_open ≡ true → Leads states
-      (to (with_part own place seen i (missed seen.knowledge seen.has_failure part))
-      (goes own.frame (own.frame.pc + 1) 0 []))
+  pub unended : MissedLeads states own place seen i part
+
+-- a part whose value is read, if it ended by this end
+abbrev pub EndLeads : List Own → Own → ℕ → Seen → ℕ → Part → Bool → End → Type 0
+EndLeads states own place seen i part succeeds e =
+    of_kind succeeds e ≡ true
+    → Leads states (pushes (with_part own place seen i (only e part)) 0 (value_in e))
 
 -- a part whose value is read
 abbrev pub ReadsLead : List Own → Own → ℕ → Seen → ℕ → Part → Bool → Type 0
 ReadsLead states own place seen i part succeeds =
-    (e : End) → HasWay part.ways e → of_kind succeeds e ≡ true
-    → Leads states (pushes (with_part own place seen i (only e part)) 0 (value_in e))
+    (e : End) → HasWay part.ways e → EndLeads states own place seen i part succeeds e
 
 -- `fork` in a scope at this place that is not known to be cancelled
 abbrev pub Starts : Around → ℕ → Seen → ℕ → Option ℕ → Type 0

@@ -1,16 +1,14 @@
 //! The states after `case`, `get` and `except`.
 
-ghost use Rattle.std.specs.Prelude.{◌≡◌, ◌<◌, ◌+◌, Bool, [], true, OnOk, length};
+ghost use Rattle.std.specs.Prelude.{◌≡◌, ◌<◌, Bool, OnOk, length};
 ghost use Rattle.ends_table.specs.Led as led;
-ghost use Rattle.laws_calls.specs.Steps as def;
-ghost use Rattle.sts_model.specs.Local as locals;
 
 use crate::around::Around;
 use crate::frames::next_place;
 use crate::missing::Missing;
-use crate::parts::{is_of_kind, told, with_end, with_missed};
+use crate::parts::{EndKind, is_of_kind, told, with_end, with_missed};
+use crate::places::Known;
 use crate::stop::Stop;
-use laws_calls::table::{Part, Seen};
 use std::alloc::Global;
 use sts_model::End;
 
@@ -25,130 +23,87 @@ fn value_in(end: End) -> i64
 }
 
 impl<'a> Around<'a> {
-    /// The state after a `case` that saw an end of this kind, which counts towards a cancel, or not.
-    fn case_by(
-        &self,
-        alloc: Global,
-        place: u32,
-        seen: &Seen,
-        i: u32,
-        part: &Part,
-        succeeds: bool,
-        counting: bool,
-        target: u32,
-    ) -> Result<(), Stop>
-        requires { i < length seen.now.parts }
-        ensures { OnOk result (led.KindLeads self.now.states.now self.now.own.now place
-            seen.now i part.now succeeds counting target) }
+    /// The state after a `case` that saw an end of this kind.
+    fn case_by(&self, alloc: Global, known: Known<'_>, kind: EndKind, to: u32) -> Result<(), Stop>
+        requires { known.i < length known.seen.now.parts }
+        ensures { OnOk result (led.KindLeads self.now.states.now self.now.own.now
+            known.entry.place known.entry.seen.now known.entry.i known.entry.part.now
+            kind.succeeds kind.counting to) }
     {
-        let after = told(alloc, seen, i, part, counting, succeeds)?;
-        self.goes(alloc, place, after, target)
-    }
-
-    /// The states after a `case` that saw an end of this kind.
-    fn case_of_kind(
-        &self,
-        alloc: Global,
-        place: u32,
-        seen: &Seen,
-        i: u32,
-        part: &Part,
-        succeeds: bool,
-        target: u32,
-    ) -> Result<(), Stop>
-        requires { i < length seen.now.parts }
-        ensures { OnOk result ((counting : Bool) → led.KindLeads self.now.states.now
-            self.now.own.now place seen.now i part.now succeeds counting target) }
-    {
-        self.case_by(alloc, place, seen, i, part, succeeds, true, target)?;
-        self.case_by(alloc, place, seen, i, part, succeeds, false, target)?;
-        Ok(())
+        let after = told(alloc, known, kind)?;
+        self.goes(alloc, known.place, after, to)
     }
 
     /// The state after a `case` of a part that had not ended.
-    fn case_missed(
-        &self,
-        alloc: Global,
-        place: u32,
-        seen: &Seen,
-        i: u32,
-        part: &Part,
-    ) -> Result<(), Stop>
-        requires { i < length seen.now.parts }
-        ensures { OnOk result (part.now.is_open ≡ true → def.Leads self.now.states.now
-            (def.to (def.with_part self.now.own.now place seen.now i
-            (def.missed seen.now.knowledge seen.now.has_failure part.now))
-            (locals.goes self.now.own.now.frame (self.now.own.now.frame.pc + 1) 0 []))) }
+    fn case_missed(&self, alloc: Global, known: Known<'_>) -> Result<(), Stop>
+        requires { known.i < length known.seen.now.parts }
+        ensures { OnOk result (led.MissedLeads self.now.states.now self.now.own.now
+            known.entry.place known.entry.seen.now known.entry.i known.entry.part.now) }
     {
-        if !part.is_open {
+        if !known.part.is_open {
             return Ok(());
         }
         let to = next_place(&self.own.frame)?;
-        let after = with_missed(alloc, seen, i, part)?;
-        self.goes(alloc, place, after, to)
+        let after = with_missed(alloc, known)?;
+        self.goes(alloc, known.place, after, to)
     }
 
-    /// The states after a `case`.
-    pub fn cases(
-        &self,
-        alloc: Global,
-        place: u32,
-        seen: &Seen,
-        i: u32,
-        part: &Part,
-        succeeded: u32,
-        failed: u32,
-    ) -> Result<(), Stop>
-        requires { i < length seen.now.parts }
-        ensures { OnOk result (led.CasesLead self.now.states.now self.now.own.now place
-            seen.now i part.now succeeded failed) }
+    /// The states after a `case` that saw a success, or else a failure.
+    fn case_of(&self, alloc: Global, known: Known<'_>, succeeds: bool, to: u32) -> Result<(), Stop>
+        requires { known.i < length known.seen.now.parts }
+        ensures { OnOk result ((counting : Bool) → led.KindLeads self.now.states.now
+            self.now.own.now known.entry.place known.entry.seen.now known.entry.i
+            known.entry.part.now succeeds counting to) }
     {
-        self.case_of_kind(alloc, place, seen, i, part, true, succeeded)?;
-        self.case_of_kind(alloc, place, seen, i, part, false, failed)?;
-        self.case_missed(alloc, place, seen, i, part)?;
+        let counting = EndKind {
+            succeeds,
+            counting: true,
+        };
+        self.case_by(alloc, known, counting, to)?;
+        let other = EndKind {
+            succeeds,
+            counting: false,
+        };
+        self.case_by(alloc, known, other, to)?;
+        Ok(())
+    }
+
+    /// The states after a `case`, which goes to one place after a success, and to the other after a
+    /// failure.
+    pub fn cases(&self, alloc: Global, known: Known<'_>, good: u32, bad: u32) -> Result<(), Stop>
+        requires { known.i < length known.seen.now.parts }
+        ensures { OnOk result (led.CasesLead self.now.states.now self.now.own.now
+            known.entry.place known.entry.seen.now known.entry.i known.entry.part.now good bad) }
+    {
+        self.case_of(alloc, known, true, good)?;
+        self.case_of(alloc, known, false, bad)?;
+        self.case_missed(alloc, known)?;
         Ok(())
     }
 
     /// The state after this end of a part was read, if it is of this kind.
-    fn read_of_kind(
-        &self,
-        alloc: Global,
-        place: u32,
-        seen: &Seen,
-        i: u32,
-        part: &Part,
-        end: End,
-        succeeds: bool,
-    ) -> Result<(), Stop>
-        requires { i < length seen.now.parts }
-        ensures { OnOk result (led.of_kind succeeds end ≡ true → def.Leads self.now.states.now
-            (def.pushes (def.with_part self.now.own.now place seen.now i
-            (def.only end part.now)) 0 (led.value_in end))) }
+    fn read_by(&self, alloc: Global, known: Known<'_>, succeeds: bool, end: End) -> Result<(), Stop>
+        requires { known.i < length known.seen.now.parts }
+        ensures { OnOk result (led.EndLeads self.now.states.now self.now.own.now
+            known.entry.place known.entry.seen.now known.entry.i known.entry.part.now succeeds
+            end) }
     {
         if !is_of_kind(succeeds, end) {
             return Ok(());
         }
-        let after = with_end(alloc, seen, i, part, end)?;
-        self.pushes(alloc, place, after, value_in(end))
+        let after = with_end(alloc, known, end)?;
+        self.pushes(alloc, known.place, after, value_in(end))
     }
 
     /// The states after the value of a success, or the code of a failure, was read.
-    pub fn reads(
-        &self,
-        alloc: Global,
-        place: u32,
-        seen: &Seen,
-        i: u32,
-        part: &Part,
-        succeeds: bool,
-    ) -> Result<(), Stop>
-        requires { i < length seen.now.parts }
-        ensures { OnOk result (led.ReadsLead self.now.states.now self.now.own.now place
-            seen.now i part.now succeeds) }
+    pub fn reads(&self, alloc: Global, known: Known<'_>, succeeds: bool) -> Result<(), Stop>
+        requires { known.i < length known.seen.now.parts }
+        ensures { OnOk result (led.ReadsLead self.now.states.now self.now.own.now
+            known.entry.place known.entry.seen.now known.entry.i known.entry.part.now succeeds) }
     {
         let mut missing = Missing::new(alloc);
-        for way in part.ways.as_slice() {
-            let step = self.read_of_kind(alloc, place, seen, i, part, way.end, succeeds);
+        for way in known.part.ways.as_slice() {
+            let step = self.read_by(alloc, known, succeeds, way.end);
             missing.note(step)?;
         }
         missing.none()

@@ -9,7 +9,7 @@ ghost use Rattle.sts_code.specs.declared.instr.Instr.TheVariants as instrs;
 
 use crate::around::Around;
 use crate::frames::stepped;
-use crate::places::{number, owned, set_held, with_parts, with_scope};
+use crate::places::{Owned, number, owned, set_held, with_parts, with_scope};
 use crate::reached::leads_after;
 use crate::rows::row_for;
 use crate::stop::Stop;
@@ -20,6 +20,14 @@ use std::alloc::{AllocError, Global};
 use sts_code::{Instr, Program, args};
 use sts_model::Items;
 use sts_same::copied::copy_items;
+
+/// A `fork` in a scope: the new task's function, and the slot of its handle.
+#[derive(Clone, Copy)]
+struct Forking<'a> {
+    scope: Owned<'a>,
+    function: u32,
+    handle: Option<u8>,
+}
 
 /// Numbers as a list that grows.
 fn listed(alloc: Global, values: &[i64]) -> Result<Items<i64>, AllocError>
@@ -118,24 +126,17 @@ impl<'a> Around<'a> {
         }
     }
 
-    /// The state after a `fork` in a scope at this place. The new part has these ways.
-    fn forked(
-        &self,
-        alloc: Global,
-        place: u32,
-        seen: &Seen,
-        ways: &Shared<Way>,
-        function: u32,
-        handle: Option<u8>,
-    ) -> Result<Own, Stop>
-        ensures { IfOk result (λ o. o ≡ def.forked self.now.program.now self.now.own.now place
-            seen.now ways.now function handle) }
+    /// The state after a `fork`. The new part has these ways.
+    fn forked(&self, alloc: Global, by: Forking<'_>, ways: &Shared<Way>) -> Result<Own, Stop>
+        ensures { IfOk result (λ o. o ≡ def.forked self.now.program.now self.now.own.now
+            by.entry.scope.place by.entry.scope.seen.now ways.now by.entry.function
+            by.entry.handle) }
     {
-        let count = number(seen.parts.len())?;
-        let frame = stepped(&self.own.frame, args(self.program, function) as usize)?;
-        let after = with_new_part(alloc, seen, ways)?;
-        let mut next = with_scope(alloc, self.own, place, after, frame)?;
-        next.held = with_handle(&self.own.held, handle, Held::Sub(place, count));
+        let count = number(by.scope.seen.parts.len())?;
+        let frame = stepped(&self.own.frame, args(self.program, by.function) as usize)?;
+        let after = with_new_part(alloc, by.scope.seen, ways)?;
+        let mut next = with_scope(alloc, self.own, by.scope.place, after, frame)?;
+        next.held = with_handle(&self.own.held, by.handle, Held::Sub(by.scope.place, count));
         Ok(next)
     }
 
@@ -144,52 +145,37 @@ impl<'a> Around<'a> {
     fn leads_forked(
         &self,
         alloc: Global,
-        place: u32,
-        seen: &Seen,
+        by: Forking<'_>,
         ways: &Shared<Way>,
-        function: u32,
-        handle: Option<u8>,
         born: u32,
     ) -> Result<(), Stop>
         ensures { OnOk result (def.LeadsBy born self.now.states.now (def.forked
-            self.now.program.now self.now.own.now place seen.now ways.now function handle)) }
+            self.now.program.now self.now.own.now by.entry.scope.place by.entry.scope.seen.now
+            ways.now by.entry.function by.entry.handle)) }
     {
-        let next = self.forked(alloc, place, seen, ways, function, handle)?;
+        let next = self.forked(alloc, by, ways)?;
         leads_after(self.states, next, born)
     }
 
     /// The row of the new task's call, and the state after the `fork`.
-    fn started(
-        &self,
-        alloc: Global,
-        place: u32,
-        seen: &Seen,
-        function: u32,
-        handle: Option<u8>,
-    ) -> Result<(), Stop>
-        ensures { OnOk result (led.Starts self.now place seen.now function handle) }
+    fn started(&self, alloc: Global, by: Forking<'_>) -> Result<(), Stop>
+        ensures { OnOk result (led.Starts self.now by.entry.scope.place by.entry.scope.seen.now
+            by.entry.function by.entry.handle) }
     {
-        let row = self.row_of_task(alloc, seen, function)?;
+        let row = self.row_of_task(alloc, by.scope.seen, by.function)?;
         let born = born_with(self.outside, row)?;
-        self.leads_forked(alloc, place, seen, &row.ways, function, handle, born)
+        self.leads_forked(alloc, by, &row.ways, born)
     }
 
     /// The state after a `fork` in a scope that is known to be cancelled.
-    fn unstarted(
-        &self,
-        alloc: Global,
-        place: u32,
-        seen: &Seen,
-        function: u32,
-        handle: Option<u8>,
-    ) -> Result<(), Stop>
+    fn unstarted(&self, alloc: Global, by: Forking<'_>) -> Result<(), Stop>
         ensures { OnOk result (def.LeadsBy (per_birth self.now.outside) self.now.states.now
-            (def.forked self.now.program.now self.now.own.now place seen.now [] function
-            handle)) }
+            (def.forked self.now.program.now self.now.own.now by.entry.scope.place
+            by.entry.scope.seen.now [] by.entry.function by.entry.handle)) }
     {
         let none = no_ways(alloc)?;
         let born = self.outside.per_birth();
-        self.leads_forked(alloc, place, seen, &none, function, handle, born)
+        self.leads_forked(alloc, by, &none, born)
     }
 
     /// The state after a `fork` in a scope that is known to be cancelled.
@@ -202,22 +188,32 @@ impl<'a> Around<'a> {
     ) -> Result<(), Stop>
         ensures { OnOk result (led.LeadsOn self.now (instrs.Fork slot function handle)) }
     {
-        let (place, seen) = owned(self.own, slot)?;
-        if !is_cancelled(seen.knowledge) {
+        let scope = owned(self.own, slot)?;
+        if !is_cancelled(scope.seen.knowledge) {
             return Ok(());
         }
-        self.unstarted(alloc, place, seen, function, handle)
+        let by = Forking {
+            scope,
+            function,
+            handle,
+        };
+        self.unstarted(alloc, by)
     }
 
     /// The state after a `fork` in another scope.
     fn start(&self, alloc: Global, slot: u8, function: u32, handle: Option<u8>) -> Result<(), Stop>
         ensures { OnOk result (led.StartsOn self.now (instrs.Fork slot function handle)) }
     {
-        let (place, seen) = owned(self.own, slot)?;
-        if is_cancelled(seen.knowledge) {
+        let scope = owned(self.own, slot)?;
+        if is_cancelled(scope.seen.knowledge) {
             return Ok(());
         }
-        self.started(alloc, place, seen, function, handle)
+        let by = Forking {
+            scope,
+            function,
+            handle,
+        };
+        self.started(alloc, by)
     }
 
     /// If the instruction is a `fork` in a scope that may not be cancelled, the new task's call has a
@@ -237,11 +233,11 @@ impl<'a> Around<'a> {
 
     /// The births by a `fork`.
     fn born_by_fork(&self, alloc: Global, slot: u8, function: u32) -> Result<u32, Stop> {
-        let (_, seen) = owned(self.own, slot)?;
-        if is_cancelled(seen.knowledge) {
+        let scope = owned(self.own, slot)?;
+        if is_cancelled(scope.seen.knowledge) {
             return Ok(self.outside.per_birth());
         }
-        let row = self.row_of_task(alloc, seen, function)?;
+        let row = self.row_of_task(alloc, scope.seen, function)?;
         born_with(self.outside, row)
     }
 

@@ -1,15 +1,15 @@
 //! The frame of a state after an instruction.
 
-ghost use Rattle.std.specs.Prelude.{◌≡◌, ◌+◌, [], ◌∷◌, IfOk, true, drop};
-ghost use Rattle.laws_calls.specs.Steps as def;
+ghost use Rattle.std.specs.Prelude.{◌≡◌, ◌+◌, [], ◌∷◌, IfOk, drop};
+ghost use Rattle.sts_model.specs.Effect as effect;
 ghost use Rattle.sts_model.specs.Local as locals;
 ghost use Rattle.sts_model.specs.World as world;
 
 use crate::stop::Stop;
 use sts_code::{Instr, MAX_OPERANDS, Program};
-use sts_frames::{code, copy_frame, is_local, local};
+use sts_frames::copy_frame;
 use sts_model::{Frame, Verdict};
-use sts_plain::frame_tests::{breaks_loop, overflows};
+use sts_plain::does_local;
 
 /// The frame at a place, after it popped operands.
 pub fn jumped(frame: &Frame, to: u32, n: usize) -> Frame
@@ -71,29 +71,13 @@ pub fn left(frame: &Frame) -> Result<Frame, Stop>
 
 /// The frame after the answer of a `join`.
 pub fn answered(frame: &Frame, answer: Verdict, failed: u32) -> Result<Frame, Stop>
-    ensures { IfOk result (λ f. f ≡ def.answered answer frame.now failed) }
+    ensures { IfOk result (λ f. f ≡ effect.answered answer frame.now failed) }
 {
     match answer {
         Verdict::Ok(None) => stepped(frame, 0),
         Verdict::Ok(Some(value)) => pushed(frame, 0, value),
         Verdict::Failed(code) => jumped_with(frame, failed, 0, code),
     }
-}
-
-/// Does a local instruction, if it can be done. Returns whether it did.
-fn does_local(frame: &mut Frame, program: &Program, instr: Instr) -> bool
-    ensures { result ≡ true
-        → frame.new ≡ locals.local (world.code program.now frame.old) instr frame.old }
-{
-    if !is_local(instr) || overflows(program, frame, instr) || breaks_loop(program, frame, instr) {
-        return false;
-    }
-    let code = code(program, frame);
-    if frame.pc as usize >= code.len() {
-        return false;
-    }
-    local(frame, program, code, instr);
-    true
 }
 
 /// The frame after a local instruction.

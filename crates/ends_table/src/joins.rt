@@ -7,6 +7,7 @@ ghost use Rattle.laws_calls.specs.Steps as def;
 ghost use Rattle.laws_calls.specs.Tasks.{HasWay};
 ghost use Rattle.laws_calls.specs.Triggers as triggers;
 ghost use Rattle.laws_calls.specs.declared.table.Part.{Part};
+ghost use Rattle.sts_code.specs.Facts.{can_fail, is_until};
 ghost use Rattle.sts_model.specs.Joining as joining;
 ghost use Rattle.sts_model.specs.declared.event.End.{End};
 
@@ -15,14 +16,15 @@ use crate::frames::answered;
 use crate::looks::with_knowledge;
 use crate::missing::Missing;
 use crate::parts::{after_all, has_open, with_end};
-use crate::places::number;
+use crate::places::{Known, number};
 use crate::stop::Stop;
 use ends_picks::joiners::{
-    answer_by, answer_by_none, is_any, is_by_one, is_cancelled, is_failure, is_heard, is_trigger,
-    is_unseen, is_until, may_decide,
+    answer_by, answer_by_none, is_any, is_cancelled, is_heard, is_unseen, may_decide,
 };
+use laws_calls::joiners::{is_failure, is_trigger};
 use laws_calls::table::{Knowledge, Part, Seen};
 use std::alloc::Global;
+use sts_code::{can_fail, is_until};
 use sts_model::{End, Phase, Verdict};
 use sts_same::copied::Copied;
 
@@ -53,15 +55,6 @@ fn decides(by: Deciding, seen: &Seen, part: &Part, end: End) -> bool
         Deciding::Counting => is_trigger(seen.joiner, end),
         Deciding::Failing => part.is_early && is_failure(end),
     }
-}
-
-/// A part of the open scope at a place, with its number.
-#[derive(Clone, Copy)]
-struct Known<'a> {
-    place: u32,
-    seen: &'a Seen,
-    i: u32,
-    part: &'a Part,
 }
 
 impl<'a> Around<'a> {
@@ -118,7 +111,7 @@ impl<'a> Around<'a> {
     {
         let count = number(known.seen.parts.len())?;
         let answer = answer_by(known.seen.joiner, end, count);
-        let after = with_end(alloc, known.seen, known.i, known.part, end)?;
+        let after = with_end(alloc, known, end)?;
         self.joined(alloc, known.place, after, answer, failed)
     }
 
@@ -197,13 +190,13 @@ impl<'a> Around<'a> {
 
     fn by_one(&self, alloc: Global, place: u32, seen: &Seen, failed: u32) -> Result<(), Stop>
         ensures { OnOk result (def.may_decide seen.now.knowledge ≡ true
-            → def.is_by_one seen.now.joiner ≡ true → (i : ℕ) → (part : Part) → (e : End)
+            → can_fail seen.now.joiner ≡ true → (i : ℕ) → (part : Part) → (e : End)
             → def.MayEnd seen.now i part e
             → triggers.is_trigger seen.now.joiner e ≡ true
             → led.OneLeads self.now.states.now self.now.own.now place
             seen.now failed i part e) }
     {
-        if !may_decide(seen.knowledge) || !is_by_one(seen.joiner) {
+        if !may_decide(seen.knowledge) || !can_fail(seen.joiner) {
             return Ok(());
         }
         let after = with_knowledge(alloc, seen, Knowledge::ByJoiner)?;
@@ -238,7 +231,7 @@ impl<'a> Around<'a> {
 
     fn by_count(&self, alloc: Global, place: u32, seen: &Seen, failed: u32) -> Result<(), Stop>
         ensures { OnOk result (def.may_decide seen.now.knowledge ≡ true
-            → def.is_until seen.now.joiner ≡ true
+            → is_until seen.now.joiner ≡ true
             → def.Leads self.now.states.now (def.joined self.now.own.now place
             (def.after_cancel seen.now) (joining.result_of seen.now.joiner []
             (length seen.now.parts)) failed)) }

@@ -8,9 +8,10 @@ ghost use Rattle.laws_calls.specs.declared.table.Part.{Part};
 ghost use Rattle.laws_calls.specs.declared.table.Way.{Way};
 ghost use Rattle.sts_repeats.specs.declared.runs.Run.{Run};
 
-use crate::places::{with_part, with_parts};
+use crate::places::{Known, with_part, with_parts};
 use ends_picks::counts::sure_count;
-use ends_picks::joiners::{is_failure, is_success, is_trigger, is_unseen, most};
+use ends_picks::joiners::{is_unseen, most};
+use laws_calls::joiners::{is_failure, is_success, is_trigger};
 use laws_calls::shared::Shared;
 use laws_calls::table::{Knowledge, Part, Seen, Way};
 use std::alloc::{AllocError, Global};
@@ -19,6 +20,13 @@ use sts_model::{End, Items};
 use sts_repeats::repeats::Repeats;
 use sts_repeats::runs::{Run, push_run};
 use sts_same::copied::Copied;
+
+/// Ends of one kind: successes or failures, which count towards a cancel, or which don't.
+#[derive(Clone, Copy)]
+pub struct EndKind {
+    pub succeeds: bool,
+    pub counting: bool,
+}
 
 /// The part has ended by this end.
 fn only(alloc: Global, end: End, part: &Part) -> Result<Part, AllocError>
@@ -66,18 +74,13 @@ pub fn after_all(alloc: Global, seen: &Seen) -> Result<Seen, AllocError>
 }
 
 /// The scope after one part has ended by this end.
-pub fn with_end(
-    alloc: Global,
-    seen: &Seen,
-    i: u32,
-    part: &Part,
-    end: End,
-) -> Result<Seen, AllocError>
-    requires { i < length seen.now.parts }
-    ensures { IfOk result (λ x. x ≡ def.decided seen.now i end part.now) }
+pub fn with_end(alloc: Global, known: Known<'_>, end: End) -> Result<Seen, AllocError>
+    requires { known.i < length known.seen.now.parts }
+    ensures { IfOk result (λ x. x
+        ≡ def.decided known.entry.seen.now known.entry.i end known.entry.part.now) }
 {
-    let part = only(alloc, end, part)?;
-    with_part(alloc, seen, i, part)
+    let part = only(alloc, end, known.part)?;
+    with_part(alloc, known.seen, known.i, part)
 }
 
 /// May a part of some run be unavailable?
@@ -94,7 +97,7 @@ pub fn has_open(parts: &Repeats<Part>) -> bool
     has_open_run(parts.runs())
 }
 
-/// Is the end of this kind?
+/// Is the end a success, or else a failure?
 pub fn is_of_kind(succeeds: bool, end: End) -> bool
     ensures { result ≡ led.of_kind succeeds end }
 {
@@ -105,27 +108,26 @@ pub fn is_of_kind(succeeds: bool, end: End) -> bool
     }
 }
 
-/// Is the end of this kind, and does it count towards a cancel, or not?
-fn is_split(joiner: Joiner, counting: bool, succeeds: bool, end: End) -> bool
-    ensures { result ≡ def.split joiner counting (led.of_kind succeeds) end }
+/// Is the end of this kind?
+fn is_split(joiner: Joiner, kind: EndKind, end: End) -> bool
+    ensures { result ≡ def.split joiner kind.counting (led.of_kind kind.succeeds) end }
 {
-    is_of_kind(succeeds, end) && is_trigger(joiner, end) == counting
+    is_of_kind(kind.succeeds, end) && is_trigger(joiner, end) == kind.counting
 }
 
-/// The ways of this kind that count towards a cancel, or don't.
+/// The ways of this kind.
 fn split(
     alloc: Global,
     joiner: Joiner,
-    counting: bool,
-    succeeds: bool,
+    kind: EndKind,
     ways: &[Way],
 ) -> Result<Items<Way>, AllocError>
-    ensures { IfOk result (λ xs. xs ≡ filter
-        (λ (way : Way). def.split joiner counting (led.of_kind succeeds) way.end) ways.now) }
+    ensures { IfOk result (λ xs. xs ≡ filter (λ (way : Way).
+        def.split joiner kind.counting (led.of_kind kind.succeeds) way.end) ways.now) }
 {
     let mut kept = Items::new(alloc);
     for way in ways {
-        if is_split(joiner, counting, succeeds, way.end) {
+        if is_split(joiner, kind, way.end) {
             kept.push(*way)?;
         }
     }
@@ -144,18 +146,12 @@ fn settled(seen: Seen) -> Seen
     seen
 }
 
-/// The part has ended by one of its ways of this kind that count towards a cancel, or don't.
-fn kept(
-    alloc: Global,
-    joiner: Joiner,
-    part: &Part,
-    counting: bool,
-    succeeds: bool,
-) -> Result<Part, AllocError>
-    ensures { IfOk result
-        (λ x. x ≡ def.kept (def.split joiner counting (led.of_kind succeeds)) part.now) }
+/// The part has ended by one of its ways of this kind.
+fn kept(alloc: Global, joiner: Joiner, part: &Part, kind: EndKind) -> Result<Part, AllocError>
+    ensures { IfOk result (λ x. x
+        ≡ def.kept (def.split joiner kind.counting (led.of_kind kind.succeeds)) part.now) }
 {
-    let ways = split(alloc, joiner, counting, succeeds, part.ways.as_slice())?;
+    let ways = split(alloc, joiner, kind, part.ways.as_slice())?;
     Ok(Part {
         ways: Shared::new(alloc, ways)?,
         is_open: false,
@@ -175,21 +171,14 @@ fn noted(seen: Seen, succeeds: bool) -> Seen
 }
 
 /// The scope after its owner saw that a part has ended by an end of this kind.
-pub fn told(
-    alloc: Global,
-    seen: &Seen,
-    i: u32,
-    part: &Part,
-    counting: bool,
-    succeeds: bool,
-) -> Result<Seen, AllocError>
-    requires { i < length seen.now.parts }
-    ensures { IfOk result (λ x. x ≡ def.told (led.noted succeeds seen.now) i part.now counting
-        (led.of_kind succeeds)) }
+pub fn told(alloc: Global, known: Known<'_>, kind: EndKind) -> Result<Seen, AllocError>
+    requires { known.i < length known.seen.now.parts }
+    ensures { IfOk result (λ x. x ≡ def.told (led.noted kind.succeeds known.entry.seen.now)
+        known.entry.i known.entry.part.now kind.counting (led.of_kind kind.succeeds)) }
 {
-    let part = kept(alloc, seen.joiner, part, counting, succeeds)?;
-    let after = with_part(alloc, seen, i, part)?;
-    Ok(settled(noted(after, succeeds)))
+    let part = kept(alloc, known.seen.joiner, known.part, kind)?;
+    let after = with_part(alloc, known.seen, known.i, part)?;
+    Ok(settled(noted(after, kind.succeeds)))
 }
 
 /// The part had not ended when the owner looked.
@@ -214,11 +203,17 @@ fn missed(
 }
 
 /// The scope after its owner looked at a part that had not ended.
-pub fn with_missed(alloc: Global, seen: &Seen, i: u32, part: &Part) -> Result<Seen, AllocError>
-    requires { i < length seen.now.parts }
-    ensures { IfOk result (λ x. x ≡ def.parts_with seen.now i
-        (def.missed seen.now.knowledge seen.now.has_failure part.now)) }
+pub fn with_missed(alloc: Global, known: Known<'_>) -> Result<Seen, AllocError>
+    requires { known.i < length known.seen.now.parts }
+    ensures { IfOk result (λ x. x ≡ def.parts_with known.entry.seen.now known.entry.i
+        (def.missed known.entry.seen.now.knowledge known.entry.seen.now.has_failure
+        known.entry.part.now)) }
 {
-    let part = missed(alloc, seen.knowledge, seen.has_failure, part)?;
-    with_part(alloc, seen, i, part)
+    let part = missed(
+        alloc,
+        known.seen.knowledge,
+        known.seen.has_failure,
+        known.part,
+    )?;
+    with_part(alloc, known.seen, known.i, part)
 }

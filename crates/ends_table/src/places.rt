@@ -13,6 +13,22 @@ use sts_model::Frame;
 use sts_repeats::repeats::Repeats;
 use sts_same::copied::copy_items;
 
+/// The open scope at a place.
+#[derive(Clone, Copy)]
+pub struct Owned<'a> {
+    pub place: u32,
+    pub seen: &'a Seen,
+}
+
+/// A part of the open scope at a place, with its number.
+#[derive(Clone, Copy)]
+pub struct Known<'a> {
+    pub place: u32,
+    pub seen: &'a Seen,
+    pub i: u32,
+    pub part: &'a Part,
+}
+
 /// A number of 32 bits.
 pub fn number(count: usize) -> Result<u32, Stop>
     ensures { IfOk result (λ n. n ≡ count) }
@@ -60,28 +76,32 @@ pub fn scope_at(own: &Own, place: u32) -> Result<&Seen, Stop>
     Ok(&scopes[i])
 }
 
-/// The open scope that a slot holds, with its place.
-pub fn owned(own: &Own, slot: u8) -> Result<(u32, &Seen), Stop>
-    ensures { IfOk result (λ r. def.Owns own.now slot r.0 r.1.now) }
+/// The open scope that a slot holds.
+pub fn owned(own: &Own, slot: u8) -> Result<Owned<'_>, Stop>
+    ensures { IfOk result (λ o. def.Owns own.now slot o.place o.seen.now) }
 {
     match held_at(own, slot) {
         Held::Own(place) => {
             let seen = scope_at(own, place)?;
-            Ok((place, seen))
+            Ok(Owned { place, seen })
         }
         _ => Err(Stop::Unknown),
     }
 }
 
-/// The subtask that a slot holds: its scope, with its place, and its part, with its number.
-pub fn known(own: &Own, handle: u8) -> Result<(u32, &Seen, u32, &Part), Stop>
-    ensures { IfOk result (λ r. def.Knows own.now handle r.0 r.1.now r.2 r.3.now) }
+/// The subtask that a slot holds.
+pub fn known(own: &Own, handle: u8) -> Result<Known<'_>, Stop>
+    ensures { IfOk result (λ k. def.Knows own.now handle k.place k.seen.now k.i k.part.now) }
 {
     match held_at(own, handle) {
-        Held::Sub(place, part) => {
+        Held::Sub(place, i) => {
             let seen = scope_at(own, place)?;
-            let found = part_at(seen, part)?;
-            Ok((place, seen, part, found))
+            Ok(Known {
+                place,
+                seen,
+                i,
+                part: part_at(seen, i)?,
+            })
         }
         _ => Err(Stop::Unknown),
     }

@@ -75,8 +75,8 @@ impl<'a> Around<'a> {
     fn cancelled_own(&self, alloc: Global, slot: u8) -> Result<(), Stop>
         ensures { OnOk result (led.LeadsOn self.now (instrs.Cancelled slot)) }
     {
-        let (place, seen) = owned(self.own, slot)?;
-        self.looks(alloc, place, seen)
+        let scope = owned(self.own, slot)?;
+        self.looks(alloc, scope.place, scope.seen)
     }
 
     fn cancelled_lent(&self, alloc: Global, slot: u8) -> Result<(), Stop>
@@ -116,40 +116,40 @@ impl<'a> Around<'a> {
     ) -> Result<(), Stop>
         ensures { OnOk result (led.LeadsOn self.now (instrs.Join slot failed timeout interrupted)) }
     {
-        let (place, seen) = owned(self.own, slot)?;
-        self.attempt(alloc, place, seen, interrupted)?;
+        let scope = owned(self.own, slot)?;
+        self.attempt(alloc, scope.place, scope.seen, interrupted)?;
         let failed = target(failed);
         let timeout = target(timeout);
-        self.joins(alloc, place, seen, failed, timeout)
+        self.joins(alloc, scope.place, scope.seen, failed, timeout)
     }
 
     fn case(&self, alloc: Global, handle: u8, success: u32, failed: u32) -> Result<(), Stop>
         ensures { OnOk result (led.LeadsOn self.now (instrs.Case handle success failed)) }
     {
-        let (place, seen, i, part) = known(self.own, handle)?;
-        self.cases(alloc, place, seen, i, part, success, failed)
+        let subtask = known(self.own, handle)?;
+        self.cases(alloc, subtask, success, failed)
     }
 
     /// A `get`, or an `except`.
     fn read(&self, alloc: Global, handle: u8, succeeds: bool) -> Result<(), Stop>
         ensures { OnOk result (led.LeadsOn self.now (led.read_of succeeds handle)) }
     {
-        let (place, seen, i, part) = known(self.own, handle)?;
-        self.reads(alloc, place, seen, i, part, succeeds)
+        let subtask = known(self.own, handle)?;
+        self.reads(alloc, subtask, succeeds)
     }
 
     fn tally(&self, alloc: Global, slot: u8, kind: Kind) -> Result<(), Stop>
         ensures { OnOk result (led.LeadsOn self.now (instrs.Tally slot kind)) }
     {
-        let (place, seen) = owned(self.own, slot)?;
-        self.tallies(alloc, place, seen, kind)
+        let scope = owned(self.own, slot)?;
+        self.tallies(alloc, scope, kind)
     }
 
     fn total(&self, alloc: Global, slot: u8) -> Result<(), Stop>
         ensures { OnOk result (led.LeadsOn self.now (instrs.Total slot)) }
     {
-        let (place, seen) = owned(self.own, slot)?;
-        self.totals(alloc, place, seen)
+        let scope = owned(self.own, slot)?;
+        self.totals(alloc, scope)
     }
 
     /// The frame after an instruction that reads or changes the scoped values.

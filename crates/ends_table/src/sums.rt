@@ -8,6 +8,7 @@ ghost use Rattle.laws_calls.specs.Tasks.{Among};
 
 use crate::around::Around;
 use crate::missing::Missing;
+use crate::places::Owned;
 use crate::stop::Stop;
 use ends_picks::fitting::fitting;
 use ends_picks::outcomes::Outcome;
@@ -26,40 +27,34 @@ fn told(alloc: Global, seen: &Seen, outcome: Outcome) -> Result<Seen, AllocError
 
 impl<'a> Around<'a> {
     /// The state after a `total` gave the sum of this outcome.
-    fn summed(&self, alloc: Global, place: u32, seen: &Seen, outcome: Outcome) -> Result<(), Stop>
-        ensures { OnOk result (led.SumLeads self.now.states.now self.now.own.now place
-            seen.now outcome.total) }
+    fn summed(&self, alloc: Global, scope: Owned<'_>, outcome: Outcome) -> Result<(), Stop>
+        ensures { OnOk result (led.SumLeads self.now.states.now self.now.own.now
+            scope.entry.place scope.entry.seen.now outcome.total) }
     {
-        let after = told(alloc, seen, outcome)?;
-        self.pushes(alloc, place, after, outcome.total)
+        let after = told(alloc, scope.seen, outcome)?;
+        self.pushes(alloc, scope.place, after, outcome.total)
     }
 
     /// The states after a `total` gave the sum of one of these outcomes.
-    fn each_sum(
-        &self,
-        alloc: Global,
-        place: u32,
-        seen: &Seen,
-        outcomes: &[Outcome],
-    ) -> Result<(), Stop>
+    fn each_sum(&self, alloc: Global, scope: Owned<'_>, outcomes: &[Outcome]) -> Result<(), Stop>
         ensures { OnOk result ((o : Outcome) → Among outcomes.now o
-            → led.SumLeads self.now.states.now self.now.own.now place
-            seen.now o.total) }
+            → led.SumLeads self.now.states.now self.now.own.now scope.entry.place
+            scope.entry.seen.now o.total) }
     {
         let mut missing = Missing::new(alloc);
         for outcome in outcomes {
-            let step = self.summed(alloc, place, seen, *outcome);
+            let step = self.summed(alloc, scope, *outcome);
             missing.note(step)?;
         }
         missing.none()
     }
 
     /// The states after a `total`.
-    pub fn totals(&self, alloc: Global, place: u32, seen: &Seen) -> Result<(), Stop>
-        ensures { OnOk result (led.TotalsLead self.now.states.now self.now.own.now place
-            seen.now) }
+    pub fn totals(&self, alloc: Global, scope: Owned<'_>) -> Result<(), Stop>
+        ensures { OnOk result (led.TotalsLead self.now.states.now self.now.own.now
+            scope.entry.place scope.entry.seen.now) }
     {
-        let outcomes = fitting(alloc, seen)?;
-        self.each_sum(alloc, place, seen, outcomes.as_slice())
+        let outcomes = fitting(alloc, scope.seen)?;
+        self.each_sum(alloc, scope, outcomes.as_slice())
     }
 }

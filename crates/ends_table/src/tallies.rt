@@ -7,7 +7,7 @@ ghost use Rattle.laws_calls.specs.Steps as def;
 
 use crate::around::Around;
 use crate::missing::Missing;
-use crate::places::number;
+use crate::places::{Owned, number};
 use crate::stop::Stop;
 use ends_picks::ranges::Range;
 use ends_picks::tallies::tally_range;
@@ -42,50 +42,27 @@ fn behind(range: Range) -> Result<u32, Stop>
 
 impl<'a> Around<'a> {
     /// The state after a `tally` gave this number.
-    fn tallied(
-        &self,
-        alloc: Global,
-        place: u32,
-        seen: &Seen,
-        kind: Kind,
-        count: u32,
-    ) -> Result<(), Stop>
-        ensures { OnOk result (led.CountLeads self.now.states.now self.now.own.now place
-            seen.now kind count) }
+    fn tallied(&self, alloc: Global, scope: Owned<'_>, kind: Kind, n: u32) -> Result<(), Stop>
+        ensures { OnOk result (led.CountLeads self.now.states.now self.now.own.now
+            scope.entry.place scope.entry.seen.now kind n) }
     {
-        let after = told(alloc, seen, kind, count)?;
-        self.pushes(alloc, place, after, i64::from(count))
+        let after = told(alloc, scope.seen, kind, n)?;
+        self.pushes(alloc, scope.place, after, i64::from(n))
     }
 
-    /// The states after a `tally` gave a number of this range.
-    fn each_count(
-        &self,
-        alloc: Global,
-        place: u32,
-        seen: &Seen,
-        kind: Kind,
-        range: Range,
-    ) -> Result<(), Stop>
-        ensures { OnOk result ((n : ℕ) → IsIn range n
-            → led.CountLeads self.now.states.now self.now.own.now place
-            seen.now kind n) }
+    /// The states after a `tally`, which gives a number of a range.
+    pub fn tallies(&self, alloc: Global, scope: Owned<'_>, kind: Kind) -> Result<(), Stop>
+        ensures { OnOk result (led.TalliesLead self.now.states.now self.now.own.now
+            scope.entry.place scope.entry.seen.now kind) }
     {
+        let range = tally_range(scope.seen, kind);
         let least = number(range.least)?;
         let behind = behind(range)?;
         let mut missing = Missing::new(alloc);
         for count in least..behind {
-            let step = self.tallied(alloc, place, seen, kind, count);
+            let step = self.tallied(alloc, scope, kind, count);
             missing.note(step)?;
         }
         missing.none()
-    }
-
-    /// The states after a `tally`.
-    pub fn tallies(&self, alloc: Global, place: u32, seen: &Seen, kind: Kind) -> Result<(), Stop>
-        ensures { OnOk result (led.TalliesLead self.now.states.now self.now.own.now place
-            seen.now kind) }
-    {
-        let range = tally_range(seen, kind);
-        self.each_count(alloc, place, seen, kind, range)
     }
 }

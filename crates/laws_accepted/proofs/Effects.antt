@@ -35,9 +35,9 @@ use Rattle.sts_model.specs.Environment.{environment_of, read}
 use Rattle.sts_model.specs.Living.{lives, any_lives, sub_state, ends}
 use Rattle.sts_model.specs.Joining.{cancels}
 use Rattle.sts_model.specs.Cancelling.{cancel}
-use Rattle.sts_model.specs.Misuse.{slot, is_scope, is_lent, is_sub, is_empty, is_closing, at_slot}
+use Rattle.sts_model.specs.Misuse.{slot, is_scope, is_lent, is_sub, is_empty, at_slot}
 use Rattle.sts_model.specs.Misuse.{is_entry_of, innermost, joins_wrongly}
-use Rattle.sts_model.specs.Waiting.{stand_at, stand_at_instr, can_go, stands_at_close}
+use Rattle.sts_model.specs.Waiting.{stand_at, stand_at_instr, can_go, stands_at_close, is_closing}
 use Rattle.sts_model.specs.Effect.{effect, named, with_phase, close_scope, closed, cleared, is_of}
 use Rattle.sts_model.specs.Effect.{open_scope, fork_task, subtask_of, forked, bind, unbind, forget}
 use Rattle.sts_model.specs.Effect.{value_or_zero, tally, total, told, decide, tell, ended, end_task}

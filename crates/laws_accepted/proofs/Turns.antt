@@ -22,8 +22,8 @@ use Rattle.sts_model.specs.World.{World, task_at, scope_at, no_task, instr_at, w
 use Rattle.sts_model.specs.World.{with_scope}
 use Rattle.sts_model.specs.Living.{lives, is_in, is_closed}
 use Rattle.sts_model.specs.Cancelling.{raised, marked, cancel}
-use Rattle.sts_model.specs.Misuse.{slot, misuse, is_closing}
-use Rattle.sts_model.specs.Waiting.{stand_at, stand_at_instr, stands_at_join, stands_at_close}
+use Rattle.sts_model.specs.Misuse.{slot, misuse}
+use Rattle.sts_model.specs.Waiting.{stand_at, stand_at_instr, stands_at_join, stands_at_close, is_closing}
 use Rattle.sts_rules.specs.Budget.{budget_at, steps_of}
 use Rattle.laws_runs.specs.Later.{stage, Later}
 use Rattle.laws_runs.proofs.KeptLemmas.{at_raised}

@@ -6,6 +6,7 @@ use Rattle.std.specs.Prelude.{slice_get, pos, negsuc, find}
 use Rattle.std.specs.List.{list_any}
 use Rattle.std.proofs.lemmas.Bool.{and_parts}
 use Rattle.laws_runs.proofs.CauseLemmas.{staying_at_join}
+use Rattle.sts_code.specs.Facts.{can_fail, is_until}
 use Rattle.sts_code.specs.Program.{Program}
 use Rattle.sts_code.specs.declared.instr.Instr.{Instr}
 use Rattle.sts_code.specs.declared.instr.Instr.TheVariants.{Join}
@@ -30,7 +31,7 @@ use Rattle.sts_model.specs.Living.{lives, any_lives, subtask_count, ends, ends_o
 use Rattle.sts_model.specs.Joining.{is_success, is_failure, cancels, result_of, verdict_or}
 use Rattle.sts_model.specs.Misuse.{slot, can_join, misuse, fault_at, fault_of, IsFine, is_joined}
 use Rattle.sts_model.specs.Waiting.{stand_at_instr, stands_at_join, can_go, stand_at}
-use Rattle.sts_model.specs.Effect.{named, with_phase, join_verdict, join_scope}
+use Rattle.sts_model.specs.Effect.{answered, named, with_phase, join_verdict, join_scope}
 use Rattle.sts_model.specs.Effect as effects
 use Rattle.laws_runs.specs.Runs.{Does}
 use Rattle.laws_runs.specs.Scopes.{is_asked}
@@ -42,8 +43,8 @@ use Rattle.laws_runs.proofs.StayLemmas.{ended_is_dead}
 use Rattle.laws_runs.proofs.BirthLemmas.{born_alive}
 use Rattle.laws_calls.specs.Outside.{Outside}
 use Rattle.laws_calls.specs.Tasks.{Among, AllTwo, May, Part, Seen, Own, bare, births_in, Knowledge, Unseen, ByJoiner, Late, Heard, nothing}
-use Rattle.laws_calls.specs.Steps.{Row, Table, IsTable, Steps, MayEnd, with_seen, answered, joined, decided, only, ended, after_cancel, after_all, timed_out, after_expiry, timeout_step}
-use Rattle.laws_calls.specs.Steps.{attempted, attempted_step, is_unseen, by_one_step, by_count_step, heard_step, none_step, is_by_one, is_until, is_any}
+use Rattle.laws_calls.specs.Steps.{Row, Table, IsTable, Steps, MayEnd, with_seen, joined, decided, only, ended, after_cancel, after_all, timed_out, after_expiry, timeout_step}
+use Rattle.laws_calls.specs.Steps.{attempted, attempted_step, is_unseen, by_one_step, by_count_step, heard_step, none_step, is_any}
 use Rattle.laws_calls.specs.Covers.{subs, PartFits, ScopeFits, SeenFits, HeldFits, FrameFits, TaskFits, IsRight}
 use Rattle.laws_calls.specs.Covers.{Covers, alive_in}
 use Rattle.laws_calls.specs.Triggers.{is_trigger, triggers}
@@ -82,9 +83,7 @@ bare_answered (verdict.Ok (Some v)) f failed = refl
 bare_answered (verdict.Failed c) f failed = refl
 
 verdict_frame : (a : Verdict) (w : World) (t s : ℕ) (f : Frame) (failed : ℕ) → join_verdict a w t s f failed ≡ effects.joined w t s (answered a f failed)
-verdict_frame (verdict.Ok None) w t s f failed = refl
-verdict_frame (verdict.Ok (Some v)) w t s f failed = refl
-verdict_frame (verdict.Failed c) w t s f failed = refl
+verdict_frame a w t s f failed = refl
 
 module _ (p : Program) (outside : Outside) (t : Table) (root : Row) (is : IsTable p outside t root) (w : World) (h : Facts w) (u x : ℕ) (failed timeout : Option ℕ) (to_i : ℕ) (d : Does p w u (Join x failed timeout to_i)) where
   abbrev f : Frame
@@ -256,7 +255,7 @@ module _ (p : Program) (outside : Outside) (t : Table) (root : Row) (is : IsTabl
       counts_most o.seen.knowledge o.seen.phase o.seen.joiner (triggers o.seen.joiner (ends scope)) o.fits.counts,
     )
 
-    by_one : scope.cancelled ≡ true → scope.expired ≡ false → is_asked scope ≡ true → (test : End → Bool) (j : Joiner) → scope.joiner ≡ j → is_by_one j ≡ true → ((e : End) → test e ≡ true → is_trigger j e ≡ true)
+    by_one : scope.cancelled ≡ true → scope.expired ≡ false → is_asked scope ≡ true → (test : End → Bool) (j : Joiner) → scope.joiner ≡ j → can_fail j ≡ true → ((e : End) → test e ≡ true → is_trigger j e ≡ true)
         → (b : First test (ends scope)) → result_of j (ends scope) (subtask_count w s) ≡ result_of j (b.end ∷ []) (length parts) → Outcome rows own o
     by_one gone on_time asked test j is_j one triggers b same =
         let e : End = b.end in
@@ -266,7 +265,7 @@ module _ (p : Program) (outside : Outside) (t : Table) (root : Row) (is : IsTabl
           answer = result_of o.seen.joiner (e ∷ []) (length parts);
           seen = decided (after_cancel o.seen) c.i e c.part;
           same = ap (λ k. result_of k (ends scope) (subtask_count w s)) is_j ∙ same ∙ ap (λ k. result_of k (e ∷ []) (length parts)) (sym seen_j);
-          step = by_one_step o.place o.seen c.i c.part e o.owns (undecided o.seen.knowledge scope o.fits.known gone on_time) (subst (λ k. is_by_one k ≡ true) (sym seen_j) one) c.may
+          step = by_one_step o.place o.seen c.i c.part e o.owns (undecided o.seen.knowledge scope o.fits.known gone on_time) (subst (λ k. can_fail k ≡ true) (sym seen_j) one) c.may
               (subst (λ k. is_trigger k e ≡ true) (sym seen_j) (triggers e b.passes));
           fits = fits_with (decided (after_cancel o.seen) c.i e c.part) refl refl refl refl gone (λ is. on_time) (gone_counts asked) (parts_decided o.seen e c o.fits.parts);
         }

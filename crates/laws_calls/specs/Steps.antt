@@ -2,10 +2,11 @@
 -- A step may lead to more states than a run does: each task may be interrupted again and again, if
 -- any interrupt may come. If a cancel may come, each may see its scope cancelled.
 use Rattle.std.specs.Prelude.{◌≡◌, ℕ, ◌+◌, ◌-◌, ℤ, pos, List, [], ◌∷◌, ◌++◌, length, take, drop}
-use Rattle.std.specs.Prelude.{reverse, nat_le, not, ◌&&◌, ◌<◌, ◌≤◌}
+use Rattle.std.specs.Prelude.{reverse, nat_le, not, ◌&&◌, ◌||◌, ◌<◌, ◌≤◌}
 use Rattle.std.specs.Prelude.{map, count_by, Bool, true, false, Option, Some, None, is_some}
 use Rattle.std.specs.Prelude.{unwrap_or, if◌then◌else◌, slice_get, slice_set}
 use Rattle.std.specs.List.{filter, list_any}
+use Rattle.sts_code.specs.Facts.{can_fail, is_until}
 use Rattle.sts_code.specs.Program.{Program, routine}
 use Rattle.sts_code.specs.declared.instr.Instr.{Instr}
 use Rattle.sts_code.specs.declared.instr.Instr.TheVariants.{Open, Fork, Join, Close, Cancelled}
@@ -13,20 +14,19 @@ use Rattle.sts_code.specs.declared.instr.Instr.TheVariants.{Case, Get, Except, T
 use Rattle.sts_code.specs.declared.instr.Instr.TheVariants.{Bind, Unbind, Read, Bound, OrElse}
 use Rattle.sts_code.specs.declared.instr.Instr.TheVariants.{Interrupted, Ret, Fail}
 use Rattle.sts_code.specs.declared.instr.Joiner.{Joiner}
-use Rattle.sts_code.specs.declared.instr.Joiner.TheVariants.{AllSucceed, AnySucceeds, AwaitOk}
-use Rattle.sts_code.specs.declared.instr.Joiner.TheVariants.{Until}
+use Rattle.sts_code.specs.declared.instr.Joiner.TheVariants.{AnySucceeds}
 use Rattle.sts_code.specs.declared.instr.Kind.{Kind}
 use Rattle.sts_code.specs.declared.instr.Kind.TheVariants.{S, F, U}
 use Rattle.sts_model.specs.declared.event.End.{End}
 use Rattle.sts_model.specs.declared.event.End.TheVariants.{Success, Failed}
 use Rattle.sts_model.specs.declared.event.Phase.TheVariants.{Opened, Attempted, Joined}
 use Rattle.sts_model.specs.declared.event.Verdict.{Verdict}
-use Rattle.sts_model.specs.declared.event.Verdict.TheVariants as verdict
 use Rattle.sts_model.specs.declared.record.Entry.TheVariants as entry
 use Rattle.sts_model.specs.declared.record.Frame.{Frame}
 use Rattle.sts_model.specs.World.{code, instr_at}
 use Rattle.sts_model.specs.Local as local
 use Rattle.sts_model.specs.Local.{is_local, operand, goes, steps, truth}
+use Rattle.sts_model.specs.Effect.{answered}
 use Rattle.sts_model.specs.Environment.{read}
 use Rattle.sts_model.specs.Joining.{is_success, is_failure, result_of, total_of}
 use Rattle.laws_runs.specs.Tallies.{is_kind}
@@ -154,57 +154,45 @@ closed own =
 
 -- ---- join
 
-abbrev pub answered : Verdict → Frame → ℕ → Frame
-answered (verdict.Ok None) f failed = steps f 0 []
-answered (verdict.Ok (Some v)) f failed = steps f 0 (v ∷ [])
-answered (verdict.Failed c) f failed = goes f failed 0 (c ∷ [])
-
 abbrev pub joined : Own → ℕ → Seen → Verdict → ℕ → Own
 joined own place x answer failed =
     record (with_seen own place (record x { phase = Joined })) {
       frame = answered answer own.frame failed;
     }
 
--- does one end alone decide what `join` answers after a cancel?
-abbrev pub is_by_one : Joiner → Bool
-is_by_one AllSucceed = true
-is_by_one AwaitOk = true
-is_by_one AnySucceeds = true
-is_by_one _ = false
-
-abbrev pub is_until : Joiner → Bool
-is_until (Until p) = true
-is_until _ = false
-
 abbrev pub is_any : Joiner → Bool
 is_any AnySucceeds = true
 is_any _ = false
 
+-- What a scope may be, for all that is known: cancelled by its joiner before it may have expired,
+-- expired before its joiner has cancelled it, or not cancelled.
+pub record Chances : Type 0 where
+  pub by_joiner : Bool
+  pub late : Bool
+  pub neither : Bool
+
+abbrev pub chances : Knowledge → Chances
+chances Unseen = record { by_joiner = true; late = true; neither = true }
+chances ByJoiner = record { by_joiner = true; late = false; neither = false }
+chances Late = record { by_joiner = false; late = true; neither = false }
+chances Heard = record { by_joiner = false; late = false; neither = true }
+
 -- known to be cancelled; known not to be
 abbrev pub is_cancelled : Knowledge → Bool
-is_cancelled ByJoiner = true
-is_cancelled Late = true
-is_cancelled _ = false
+is_cancelled known = not (chances known).neither
 
 abbrev pub is_heard : Knowledge → Bool
-is_heard Heard = true
-is_heard _ = false
+is_heard known = not ((chances known).by_joiner || (chances known).late)
 
--- its joiner may have cancelled it, and it may not have expired, for all that is known
 abbrev pub may_decide : Knowledge → Bool
-may_decide Unseen = true
-may_decide ByJoiner = true
-may_decide _ = false
+may_decide known = (chances known).by_joiner
 
--- it may have expired before its joiner has cancelled it, for all that is known
 abbrev pub may_be_late : Knowledge → Bool
-may_be_late Unseen = true
-may_be_late Late = true
-may_be_late _ = false
+may_be_late known = (chances known).late
 
+-- nothing is known of a cancel
 abbrev pub is_unseen : Knowledge → Bool
-is_unseen Unseen = true
-is_unseen _ = false
+is_unseen known = (chances known).by_joiner && (chances known).late
 
 -- the scope after a `join` of a cancelled scope, and of one whose subtasks have all ended
 abbrev pub after_cancel : Seen → Seen
@@ -352,10 +340,11 @@ pub data Steps (p : Program) (outside : Outside) (c : Call) (own : Own) : Instr 
       → Owns own x place seen → is_heard seen.knowledge ≡ false → seen.timed ≡ true
       → Steps p outside c own (Join x failed timeout to_i)
       (timed_out own place seen (unwrap_or timeout 0))
-  -- `join` of a cancelled scope: one end decided, or as many as the joiner waits for
+  -- `join` of a cancelled scope: one end decided, if the joiner's answer can be a failure, or as
+  -- many as the joiner waits for
   by_one_step : {x to_i : ℕ} {failed timeout : Option ℕ} (place : ℕ) (seen : Seen) (i : ℕ)
       (part : Part) (e : End)
-      → Owns own x place seen → may_decide seen.knowledge ≡ true → is_by_one seen.joiner ≡ true
+      → Owns own x place seen → may_decide seen.knowledge ≡ true → can_fail seen.joiner ≡ true
       → MayEnd seen i part e → is_trigger seen.joiner e ≡ true
       → Steps p outside c own (Join x failed timeout to_i)
       (joined own place (decided (after_cancel seen) i e part)

@@ -3,7 +3,6 @@
 ghost use Rattle.std.specs.Prelude.{◌≡◌, true};
 
 use crate::table::{Asked, Call, Held, Own, Part, Seen, Way};
-use sts_model::Bound;
 use sts_same::same::{Same, same_items, same_slices};
 
 impl Same for Held {
@@ -24,20 +23,6 @@ impl Same for Part {
             && self.is_early == other.is_early
             && same_slices(self.ways.as_slice(), other.ways.as_slice())
     }
-}
-
-fn same_bounds(a: &[Bound], b: &[Bound]) -> bool
-    ensures { result ≡ true → a.now ≡ b.now }
-{
-    if a.len() != b.len() {
-        return false;
-    }
-    for i in 0..a.len() {
-        if a[i] != b[i] {
-            return false;
-        }
-    }
-    true
 }
 
 /// Are the two scopes the same, apart from their environments and parts?
@@ -72,7 +57,7 @@ impl Same for Seen {
         same_facts(self, other)
             && same_looks(self, other)
             && same_asked(self.asked, other.asked)
-            && same_bounds(self.environment.as_slice(), other.environment.as_slice())
+            && same_items(&self.environment, &other.environment)
             && self.parts.same(&other.parts)
     }
 }
@@ -98,6 +83,6 @@ impl Same for Call {
     fn same(&self, other: &Call) -> bool {
         self.function == other.function
             && same_items(&self.args, &other.args)
-            && same_bounds(self.environment.as_slice(), other.environment.as_slice())
+            && same_items(&self.environment, &other.environment)
     }
 }

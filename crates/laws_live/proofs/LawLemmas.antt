@@ -1,7 +1,7 @@
 -- The laws over every run.
 use Rattle.std.proofs.Common.{◌≡◌, ℕ, ◌+◌, List, [], ◌∷◌, ◌++◌, Bool, true, false}
 use Rattle.std.proofs.Common.{Option, Some, None, refl, sym, ◌∙◌, ap, subst, arith, cond}
-use Rattle.std.proofs.Common.{◌&&◌, fold, append_assoc, pos}
+use Rattle.std.proofs.Common.{◌&&◌, append_assoc, pos}
 use Rattle.std.proofs.lemmas.List.{append-nil}
 use Rattle.std.proofs.lemmas.List.Sums.{fold-append}
 use Rattle.sts_code.specs.Program.{Program}
@@ -24,12 +24,12 @@ use Rattle.sts_model.specs.Live.{Live, Alive, live, result_in}
 use Rattle.laws_runs.specs.Runs.{NeverFaults}
 use Rattle.laws_runs.specs.Runs.{In, Ever}
 use Rattle.std.proofs.lemmas.Bool.{and_parts}
-use Rattle.laws_runs.proofs.RunLemmas.{taken_one_more, after-append}
+use Rattle.laws_runs.proofs.RunLemmas.{sum_one_more, taken_one_more, after-append}
 use Rattle.laws_runs.proofs.EventLemmas.{Also}
 use Rattle.laws_live.specs.Reading.{alive_at}
 use Rattle.laws_live.specs.Waiting.{live_can_step}
 use Rattle.laws_live.specs.Run.{live_opening, live_perform, live_apply, live_after, live_counts}
-use Rattle.laws_live.specs.Run.{live_steps_in, live_taken_from, live_taken}
+use Rattle.laws_live.specs.Run.{live_steps_in, live_taken}
 use Rattle.laws_live.specs.Seen.{EffectIsSeen, InterruptIsSeen, ExpireIsSeen, CanStepIsSeen}
 use Rattle.laws_live.specs.Seen.{IsProper, CountsIsSeen, ResultIsSeen, EventIsSeen, RunIsSeen}
 use Rattle.laws_live.specs.Seen.{TakenIsSeen, StandsAt, Turns, TurnsAreSeen, StandingIsSeen}
@@ -147,10 +147,6 @@ event_is_seen = ever _ (λ p w o e. event_is p w e (apply p (Running w) e) (foll
 
 -- ---- whole runs
 
-live_taken_more : (p : Program) (v : Live) (events : List Event) (e : Event) → live_taken_from p v (events ++ e ∷ []) ≡ live_taken_from p v events + live_steps_in p (fold (live_apply p) v events) e
-live_taken_more p v [] e = omega arith
-live_taken_more p v (x ∷ xs) e = let h = live_taken_more p (live_apply p v x) xs e in omega (arith, h)
-
 -- the view after a list of events, and the steps that the list takes
 record Agrees (p : Program) (events : List Event) (w : World) : Type 0 where
   pub view : live w ≡ live_after p events
@@ -168,7 +164,7 @@ one_more p events e h =
         let old = h.steps in
         let one : steps_in p (after p events) e ≡ live_steps_in p (live_after p events) e = ap (λ s. steps_in p s e) is ∙ follows-steps p w v e k ∙ ap (λ (a : Live). live_steps_in p a e) h.view in
         let a = taken_one_more p (opening p) events e in
-        let b = live_taken_more p (live_opening p) events e in
+        let b = sum_one_more (live_steps_in p) (live_apply p) (live_opening p) events e in
         record {
           view = k.view ∙ ap (λ (a : Live). live_apply p a e) h.view ∙ sym more;
           steps = omega (arith, old, one, a, b);

@@ -19,7 +19,8 @@ use Rattle.sts_model.specs.World.{World, task_at, scope_at, no_task, no_scope, w
 use Rattle.sts_model.specs.World.{with_scope, instr_at}
 use Rattle.sts_model.specs.Living.{lives, is_in, is_living_subtask, any_lives}
 use Rattle.sts_model.specs.Cancelling.{raise, raised, marked, cancel}
-use Rattle.sts_model.specs.Misuse.{slot, is_closing}
+use Rattle.sts_model.specs.Misuse.{slot}
+use Rattle.sts_model.specs.Waiting.{is_closing}
 use Rattle.sts_model.specs.Live.{Alive, live}
 use Rattle.laws_runs.proofs.ListLemmas.{at_set, past}
 use Rattle.laws_runs.proofs.KeptLemmas.{at_raised}

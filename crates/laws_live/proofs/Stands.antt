@@ -23,7 +23,8 @@ use Rattle.sts_model.specs.declared.record.Slot.TheVariants.{Empty, Own, Lent}
 use Rattle.sts_model.specs.declared.record.Frame.{Frame}
 use Rattle.sts_model.specs.World.{instr_at, entry_frame}
 use Rattle.sts_model.specs.Local.{operand}
-use Rattle.sts_model.specs.Misuse.{slot, is_closing}
+use Rattle.sts_model.specs.Misuse.{slot}
+use Rattle.sts_model.specs.Waiting.{is_closing}
 use Rattle.sts_model.specs.Effect.{named}
 use Rattle.sts_model.specs.Told.{tell, cancels_told, result_told}
 use Rattle.sts_model.specs.Live.{Live, LiveTask, LiveScope, Alive}

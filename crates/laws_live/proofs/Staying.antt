@@ -27,9 +27,9 @@ use Rattle.sts_model.specs.Local.{operand, steps}
 use Rattle.sts_model.specs.Joining.{cancels}
 use Rattle.sts_model.specs.Living.{lives, is_living_subtask, is_in, any_lives, ends}
 use Rattle.sts_model.specs.Cancelling.{raise, raised, marked, cancel}
-use Rattle.sts_model.specs.Misuse.{slot, is_closing, misuse, IsFine}
+use Rattle.sts_model.specs.Misuse.{slot, misuse, IsFine}
 use Rattle.sts_model.proofs.FineLemmas.{fine}
-use Rattle.sts_model.specs.Waiting.{can_step}
+use Rattle.sts_model.specs.Waiting.{can_step, is_closing}
 use Rattle.sts_model.specs.Effect.{effect, named, cleared, close_scope, told, decide, tell, ended}
 use Rattle.sts_model.specs.Effect.{end_task}
 use Rattle.sts_model.specs.Outside.{can_expire}

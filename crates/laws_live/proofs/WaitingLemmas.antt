@@ -11,8 +11,8 @@ use Rattle.sts_model.specs.declared.record.Slot.TheVariants.{Empty, Own}
 use Rattle.sts_model.specs.declared.record.Frame.{Frame}
 use Rattle.sts_model.specs.World.{World, task_at, scope_at, instr_at}
 use Rattle.sts_model.specs.Living.{lives}
-use Rattle.sts_model.specs.Misuse.{slot, is_closing, misuse}
-use Rattle.sts_model.specs.Waiting.{stands_at_join, stands_at_close, stand_at_instr, can_go}
+use Rattle.sts_model.specs.Misuse.{slot, misuse}
+use Rattle.sts_model.specs.Waiting.{stands_at_join, stands_at_close, stand_at_instr, can_go, is_closing}
 use Rattle.sts_model.specs.Waiting.{can_step}
 use Rattle.sts_model.specs.Live.{Alive, live}
 use Rattle.laws_live.specs.Reading.{alive_at}

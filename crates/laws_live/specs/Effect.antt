@@ -14,7 +14,6 @@ use Rattle.sts_code.specs.declared.instr.Kind.TheVariants.{S, F, U}
 use Rattle.sts_model.specs.declared.event.End.{End}
 use Rattle.sts_model.specs.declared.event.End.TheVariants.{Success, Failed}
 use Rattle.sts_model.specs.declared.event.Verdict.{Verdict}
-use Rattle.sts_model.specs.declared.event.Verdict.TheVariants as verdict
 use Rattle.sts_model.specs.declared.event.Phase.TheVariants.{Attempted, Joined, Closing}
 use Rattle.sts_model.specs.declared.record.Slot.{Slot}
 use Rattle.sts_model.specs.declared.record.Slot.TheVariants.{Empty, Own, Lent, Sub}
@@ -26,7 +25,7 @@ use Rattle.sts_model.specs.Living.{is_in}
 use Rattle.sts_model.specs.Told.{told, tell, result_told, cancels_told}
 use Rattle.sts_model.specs.Environment.{read}
 use Rattle.sts_model.specs.Misuse.{slot}
-use Rattle.sts_model.specs.Effect.{named, forked, case_target, value_or_zero}
+use Rattle.sts_model.specs.Effect.{answered, named, forked, case_target, value_or_zero}
 use Rattle.sts_model.specs.Live.{Live, LiveTask, LiveScope, Alive, shown_scope}
 use Rattle.laws_live.specs.Reading.{live_task_at, live_scope_at, alive_at, with_live_task}
 use Rattle.laws_live.specs.Reading.{with_alive, with_live_frame, with_live_scope, with_live_phase}
@@ -79,9 +78,7 @@ abbrev pub live_joined : Live → ℕ → ℕ → Frame → Live
 live_joined v t s f = with_live_frame (with_live_phase v s Joined) t f
 
 abbrev pub live_verdict : Verdict → Live → ℕ → ℕ → Frame → ℕ → Live
-live_verdict (verdict.Ok None) v t s f failed = live_joined v t s (steps f 0 [])
-live_verdict (verdict.Ok (Some n)) v t s f failed = live_joined v t s (steps f 0 (n ∷ []))
-live_verdict (verdict.Failed c) v t s f failed = live_joined v t s (goes f failed 0 (c ∷ []))
+live_verdict answer v t s f failed = live_joined v t s (answered answer f failed)
 
 -- the outcome of a `join`: a timeout, or the joiner's result, or interrupted. The last needs no
 -- test: a task waits here if its flag isn't set.

@@ -7,7 +7,7 @@ use Rattle.sts_code.specs.declared.instr.Instr.{Instr}
 use Rattle.sts_code.specs.declared.instr.Instr.TheVariants.{Open, Fork, Join, Close, Get, Except}
 use Rattle.sts_code.specs.declared.instr.Instr.TheVariants.{Tally, Total, Bind, Unbind, Read, Ret}
 use Rattle.sts_code.specs.declared.instr.Instr.TheVariants.{Fail}
-use Rattle.sts_code.specs.declared.limits.TheConstants.{MAX_ENTRIES, MAX_OPERANDS}
+use Rattle.sts_code.specs.declared.limits.TheConstants.{MAX_ENTRIES}
 use Rattle.sts_code.specs.declared.profile.Profile.{Profile}
 use Rattle.sts_model.specs.declared.event.Event.{Event}
 use Rattle.sts_model.specs.declared.record.Slot.{Slot}
@@ -17,8 +17,8 @@ use Rattle.sts_model.specs.World.{instr_at}
 use Rattle.sts_model.specs.Misuse.{slot, lacks_operands, overflows, breaks_loop, has_wrong_slot}
 use Rattle.sts_model.specs.Misuse.{is_strangers, is_crowded, is_opened, can_join, is_joined}
 use Rattle.sts_model.specs.Misuse.{has_succeeded, has_failed, is_binding, is_entry_of, innermost}
-use Rattle.sts_model.specs.Misuse.{binds_after}
-use Rattle.sts_code.specs.Facts.{same, can_fail, is_await_all, is_two}
+use Rattle.sts_model.specs.Misuse.{binds_after, misfits}
+use Rattle.sts_code.specs.Facts.{is_two}
 use Rattle.sts_model.specs.Live.{Live, LiveScope}
 use Rattle.laws_live.specs.Reading.{live_task_at, live_scope_at, no_live_scope, alive_at, live_count}
 use Rattle.laws_live.specs.Effect.{live_state, live_read}
@@ -44,10 +44,7 @@ live_at_sub v _ test = false
 
 -- a `join` with no room for the answer, or with targets that don't fit the scope
 abbrev pub live_joins_wrongly : Frame → Option ℕ → Option ℕ → LiveScope → Bool
-live_joins_wrongly f failed timeout scope =
-    (nat_le MAX_OPERANDS (length f.operands) && not (is_await_all scope.joiner))
-    || not (same (is_some failed) (can_fail scope.joiner))
-    || not (same (is_some timeout) scope.timed)
+live_joins_wrongly f failed timeout scope = misfits f failed timeout scope.joiner scope.timed
 
 abbrev pub live_misjoins : Live → Frame → Instr → Bool
 live_misjoins v f (Join s failed timeout interrupted) =

@@ -1,6 +1,6 @@
 -- One step, one event, lists of events, and the steps taken, in a live view without misuse (this
 -- project's own).
-use Rattle.std.specs.Prelude.{ℕ, ◌+◌, ◌-◌, List, [], ◌∷◌, length, Bool, false, Option, Some, None}
+use Rattle.std.specs.Prelude.{ℕ, ◌-◌, List, [], ◌∷◌, length, Bool, false, Option, Some, None}
 use Rattle.std.specs.Prelude.{◌&&◌, if◌then◌else◌, fold}
 use Rattle.sts_code.specs.Program.{Program}
 use Rattle.sts_code.specs.declared.instr.Instr.{Instr}
@@ -9,7 +9,7 @@ use Rattle.sts_model.specs.declared.event.Event.TheVariants as event
 use Rattle.sts_model.specs.declared.record.Slot.TheVariants.{Empty}
 use Rattle.sts_model.specs.declared.record.Frame.{Frame}
 use Rattle.sts_model.specs.World.{entry_frame, instr_at}
-use Rattle.sts_model.specs.Run.{is_step}
+use Rattle.sts_model.specs.Run.{is_step, sum_over}
 use Rattle.sts_model.specs.Live.{Live, Alive}
 use Rattle.laws_live.specs.Reading.{live_scope_at, alive_at, lives_in}
 use Rattle.laws_live.specs.Waiting.{live_can_step}
@@ -61,10 +61,6 @@ live_counts p v (event.Expire s) = live_can_expire (live_scope_at v s)
 abbrev pub live_steps_in : Program → Live → Event → ℕ
 live_steps_in p v e = if is_step e && live_counts p v e then 1 else 0
 
--- the number of steps that count in a list of events, from this view on
-abbrev pub live_taken_from : Program → Live → List Event → ℕ
-live_taken_from p v [] = 0
-live_taken_from p v (e ∷ es) = live_steps_in p v e + live_taken_from p (live_apply p v e) es
-
+-- the number of steps that count in a list of events
 abbrev pub live_taken : Program → List Event → ℕ
-live_taken p events = live_taken_from p (live_opening p) events
+live_taken p events = sum_over (live_steps_in p) (live_apply p) (live_opening p) events

@@ -9,7 +9,8 @@ use Rattle.sts_model.specs.declared.event.Stand.TheVariants.{Free, AtJoin, AtClo
 use Rattle.sts_model.specs.declared.record.Slot.{Slot}
 use Rattle.sts_model.specs.declared.record.Slot.TheVariants.{Own}
 use Rattle.sts_model.specs.World.{instr_at}
-use Rattle.sts_model.specs.Misuse.{slot, is_closing}
+use Rattle.sts_model.specs.Misuse.{slot}
+use Rattle.sts_model.specs.Waiting.{is_closing}
 use Rattle.sts_model.specs.Live.{Live}
 use Rattle.laws_live.specs.Reading.{live_scope_at, alive_at, lives_in, live_any_lives}
 

@@ -28,9 +28,9 @@ use Rattle.sts_model.specs.Living.{lives, is_subtask, is_living_subtask, any_liv
 use Rattle.sts_model.specs.Standing.{is_standing_scope, stands_in, is_standing_task, standing_tasks, standing_scopes}
 use Rattle.sts_model.specs.Effect.{tally, total, is_of, cleared}
 use Rattle.sts_model.specs.Misuse.{slot, at_slot, at_own, at_sub, is_scope, is_sub, is_empty, is_lent, has_wrong_slot, is_strangers, breaks_loop, misjoins, joins_wrongly}
-use Rattle.sts_model.specs.Misuse.{has_no_room, is_illegal, is_opened, can_join, is_readable, has_succeeded, has_failed, is_closing}
+use Rattle.sts_model.specs.Misuse.{has_no_room, is_illegal, is_opened, can_join, is_readable, has_succeeded, has_failed}
 use Rattle.sts_model.specs.Misuse.{breaks_structure, is_binding, is_entry_of, innermost, binds_after, misuses_operand, fault_of, fault_at, misuse}
-use Rattle.sts_model.specs.Waiting.{can_step, can_go, stand_at_instr, stands_at_join, stands_at_close}
+use Rattle.sts_model.specs.Waiting.{can_step, can_go, stand_at_instr, stands_at_join, stands_at_close, is_closing}
 use Rattle.laws_names.specs.Names.{Names, IsAlike, live_part, plain_part, named_slot, named_entry, named_frame, named_task, named_completion, is_reading, ReadsNothing, IsSameScope}
 use Rattle.laws_names.proofs.NameLemmas.{same_test, in_named, map_length, sum_same, ends_named, completion_named}
 use Rattle.laws_names.proofs.AlikeLemmas.{part_is, same_lives, same_scope, same_alive}

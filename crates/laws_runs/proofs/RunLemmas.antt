@@ -5,7 +5,7 @@ use Rattle.sts_code.specs.Program.{Program}
 use Rattle.sts_model.specs.declared.event.Event.{Event}
 use Rattle.sts_model.specs.declared.event.Fault.{Fault}
 use Rattle.sts_model.specs.World.{State, Faulted, opening}
-use Rattle.sts_model.specs.Run.{apply, after, steps_in, taken_from}
+use Rattle.sts_model.specs.Run.{apply, after, steps_in, sum_over, taken_from}
 
 -- events one after another
 pub after-append : (p : Program) (before later : List Event) → after p (before ++ later) ≡ fold (apply p) (after p before) later
@@ -19,6 +19,9 @@ fault-fold p (e ∷ es) kind t f pc = fault-fold p es kind t f pc
 -- ---- steps taken
 
 -- of one event more
+pub sum_one_more : {S : Type 0} (count : S → Event → ℕ) (change : S → Event → S) (state : S) (events : List Event) (e : Event) → sum_over count change state (events ++ e ∷ []) ≡ sum_over count change state events + count (fold change state events) e
+sum_one_more count change state [] e = omega arith
+sum_one_more count change state (x ∷ xs) e = let h = sum_one_more count change (change state x) xs e in omega (arith, h)
+
 pub taken_one_more : (p : Program) (state : State) (events : List Event) (e : Event) → taken_from p state (events ++ e ∷ []) ≡ taken_from p state events + steps_in p (fold (apply p) state events) e
-taken_one_more p state [] e = omega arith
-taken_one_more p state (x ∷ xs) e = let h = taken_one_more p (apply p state x) xs e in omega (arith, h)
+taken_one_more p state events e = sum_one_more (steps_in p) (apply p) state events e

@@ -12,8 +12,8 @@ use Rattle.sts_model.specs.declared.record.Slot.{Slot}
 use Rattle.sts_model.specs.declared.record.Slot.TheVariants.{Empty, Own, Lent, Sub}
 use Rattle.sts_model.specs.World.{World, task_at, scope_at, no_task, instr_at}
 use Rattle.sts_model.specs.Living.{lives, any_lives, is_closed}
-use Rattle.sts_model.specs.Misuse.{slot, is_closing, misuse}
-use Rattle.sts_model.specs.Waiting.{stands_at_join, stands_at_close, stand_at_instr, can_go}
+use Rattle.sts_model.specs.Misuse.{slot, misuse}
+use Rattle.sts_model.specs.Waiting.{stands_at_join, stands_at_close, stand_at_instr, can_go, is_closing}
 use Rattle.sts_model.specs.Waiting.{can_step}
 use Rattle.laws_runs.specs.States.{IsLast, GoesOn, RootEndsLast, SomeTaskSteps}
 use Rattle.laws_runs.proofs.ListLemmas.{past}

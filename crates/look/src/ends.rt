@@ -12,7 +12,7 @@ use look_host::Progress;
 use look_options::EndsOptions;
 use std::alloc::{AllocError, Global};
 use std::io::Write;
-use sts_output::WriteFailed;
+use sts_output::Status;
 
 /// Finds the ends of a text, and keeps the trace of the end of a number, if one is named.
 ///
@@ -48,7 +48,7 @@ pub fn write_ends_by<P: Progress, W: Write>(
     text: &[u8],
     progress: &mut P,
     out: &mut W,
-) -> Result<u8, WriteFailed>
+) -> Status
     ensures { IfOk result (λ s. (o : AnyListing) × IsListingIn (form_of json) wanted None text.now o
         × Writes (W.contents out.old) (W.contents out.new) s o.output) }
 {

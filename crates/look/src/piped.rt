@@ -10,7 +10,7 @@ use look_host::Progress;
 use look_options::EndsOptions;
 use std::alloc::Global;
 use std::io::Write;
-use sts_output::{Notes, Sources, TakeError, WriteFailed, failed, file_failed, read_text};
+use sts_output::{Notes, Sources, Status, TakeError, failed, file_failed, read_text};
 
 /// A file, what is asked of its ends, whether they are lines of JSON, and the number of the end with
 /// the trace.
@@ -63,7 +63,7 @@ fn on_piped_text<P: Progress, W: Write, E: Write>(
     out: &mut W,
     err: &mut E,
     notes: &mut Notes,
-) -> Result<u8, WriteFailed>
+) -> Status
     ensures { IfOk result (def.IsPipedText piped.entry text.now (record {
       out_old = W.contents out.old;
       out_new = W.contents out.new;
@@ -96,7 +96,7 @@ pub fn on_piped<S: Sources, P: Progress, W: Write, E: Write>(
     out: &mut W,
     err: &mut E,
     notes: &mut Notes,
-) -> Result<u8, WriteFailed>
+) -> Status
     ensures { IfOk result (def.IsPiped piped.entry (S.held sources.now piped.entry.file.now)
         (record {
           out_old = W.contents out.old;

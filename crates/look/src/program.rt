@@ -23,7 +23,7 @@ use std::rt::{Env, Files};
 use sts_args::LineError;
 use sts_output::{
     Events, FileError, MOST_OF_A_STREAM, NOT_TEXT, Named, Notes, STATUS_OUTSIDE, Sinks, Sources,
-    TakeError, WordsError, WriteFailed, borrowed, failed, file, file_failed, made, placeholder,
+    Status, TakeError, WordsError, borrowed, failed, file, file_failed, made, placeholder,
     read_text, read_texts, spared, words, written,
 };
 use sts_remarks::{Remarks, Watched};
@@ -40,7 +40,7 @@ fn on_texts<S: Sources, W: Write>(
     trace: &str,
     out: &mut W,
     remarks: &mut Remarks,
-) -> Result<u8, WriteFailed>
+) -> Status
     ensures { IfOk result (λ s. (o : Output)
         × def.IsOfTexts (ShowsInFull showing.entry) (S.held sources.now path.now)
         (S.held sources.now trace.now) o
@@ -70,7 +70,7 @@ fn on_text<S: Sources, W: Write>(
     form: ExplainForm,
     out: &mut W,
     notes: &mut Notes,
-) -> Result<u8, WriteFailed>
+) -> Status
     ensures { IfOk result (λ s. (o : Output)
         × def.IsOfText (IsExplainedIn form path.now) (S.held sources.now path.now) o
         × Writes (W.contents out.old) (W.contents out.new) s o) }
@@ -88,7 +88,7 @@ fn on_cases<S: Sources, W: Write>(
     path: &str,
     out: &mut W,
     notes: &mut Notes,
-) -> Result<u8, WriteFailed>
+) -> Status
     ensures { IfOk result (λ s. (o : Output)
         × def.IsOfStream IsRepliesTo (S.held sources.now path.now) o
         × Writes (W.contents out.old) (W.contents out.new) s o) }
@@ -108,7 +108,7 @@ fn on_explain<S: Sources, W: Write>(
     form: ExplainForm,
     out: &mut W,
     remarks: &mut Remarks,
-) -> Result<u8, WriteFailed>
+) -> Status
     ensures { IfOk result (λ s. (o : Output)
         × def.IsExplained (S.held sources.now) path.now trace.entry form o
         × Writes (W.contents out.old) (W.contents out.new) s o) }
@@ -126,7 +126,7 @@ fn on_kept<T: Write, W: Write>(
     trace: &mut T,
     out: &mut W,
     notes: &mut Notes,
-) -> Result<u8, WriteFailed>
+) -> Status
     ensures { IfOk result (λ s. (o : Output) × def.IsWritten listing.now ⊤ o
         × Writes (W.contents out.old) (W.contents out.new) s o) }
 {
@@ -146,7 +146,7 @@ fn on_listing<S: Sinks, W: Write>(
     listing: &Listing,
     out: &mut W,
     notes: &mut Notes,
-) -> Result<u8, WriteFailed>
+) -> Status
     ensures { IfOk result (λ s. (o : Output)
         × def.IsWritten listing.now
         (def.SparesFile (same_file (S.same sinks.old) (S.said_yes sinks.old) (S.said_yes sinks.new))
@@ -176,7 +176,7 @@ fn on_ends_text<S: Sinks, P: Progress, W: Write>(
     progress: &mut P,
     out: &mut W,
     notes: &mut Notes,
-) -> Result<u8, WriteFailed>
+) -> Status
     ensures { IfOk result (λ s. (o : Output)
         × def.IsPrinted ends.entry (def.Spares
         (same_file (S.same sinks.old) (S.said_yes sinks.old) (S.said_yes sinks.new))
@@ -204,7 +204,7 @@ fn on_ends<S: Sources + Sinks, P: Progress, W: Write>(
     progress: &mut P,
     out: &mut W,
     notes: &mut Notes,
-) -> Result<u8, WriteFailed>
+) -> Status
     ensures { IfOk result (λ s. (o : Output)
         × def.IsOfEnds ends.entry (def.Spares
         (same_file (S.same sources.old) (S.said_yes sources.old) (S.said_yes sources.new))
@@ -234,7 +234,7 @@ fn on_line<S: Sources + Sinks, P: Progress, W: Write>(
     progress: &mut P,
     out: &mut W,
     remarks: &mut Remarks,
-) -> Result<u8, WriteFailed>
+) -> Status
     ensures { IfOk result (λ s. (o : Output)
         × def.IsShown asked.entry (S.held sources.old)
         (same_file (S.same sources.old) (S.said_yes sources.old) (S.said_yes sources.new)) o
@@ -305,7 +305,7 @@ pub fn run<S: Sources + Sinks, P: Progress, W: Write, E: Write>(
     out: &mut W,
     err: &mut E,
     remarks: &mut Remarks,
-) -> Result<u8, WriteFailed>
+) -> Status
     ensures { IfOk result (def.Ends (map (λ w. w.now) words.now) (S.held sources.old)
         (same_file (S.same sources.old) (S.said_yes sources.old) (S.said_yes sources.new))
         (record {
@@ -342,7 +342,7 @@ pub fn run_words<S: Sources + Sinks, P: Progress, W: Write, E: Write>(
     out: &mut W,
     err: &mut E,
     remarks: &mut Remarks,
-) -> Result<u8, WriteFailed>
+) -> Status
     ensures { IfOk result (def.EndsFrom words.now (S.held sources.old)
         (same_file (S.same sources.old) (S.said_yes sources.old) (S.said_yes sources.new))
         (record {

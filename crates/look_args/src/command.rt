@@ -6,12 +6,25 @@ ghost use Rattle.look_args.specs.Command as def;
 
 use clap::Command;
 use std::alloc::{AllocError, Global};
-use sts_args::command::{Argument, ArgumentForm, FILE, Subcommand, TRACE, with_subcommands};
+use sts_args::command::ArgumentForm::{Flag, Values, Word};
+use sts_args::command::{Argument, FILE, Subcommand, TRACE, with_subcommands};
 
 /// What `--version` prints after the name of the program.
 const VERSION: &str = "1.0.0\n\
     proved with rattle-kit-13f logic dac8208d650f15bf\n\
     differences from JDK 25: docs/JDK.md";
+
+/// An argument that may be left out: its name, what is written for it, and its help.
+macro_rules! optional {
+    ($name:literal, $form:expr, $help:literal) => {
+        Argument {
+            name: $name,
+            form: $form,
+            required: false,
+            help: $help,
+        }
+    };
+}
 
 /// The commands, in the order in which help lists them.
 const SUBCOMMANDS: &[Subcommand<'static>] = &[
@@ -21,30 +34,22 @@ const SUBCOMMANDS: &[Subcommand<'static>] = &[
         arguments: &[
             FILE,
             TRACE,
-            Argument {
-                name: "each",
-                form: ArgumentForm::Flag,
-                required: false,
-                help: "also before the first event and after each one",
-            },
-            Argument {
-                name: "full",
-                form: ArgumentForm::Flag,
-                required: false,
-                help: "also the operands, locals and bindings of living tasks, and the ends that joiners got",
-            },
-            Argument {
-                name: "living",
-                form: ArgumentForm::Flag,
-                required: false,
-                help: "only the tasks that live and the open scopes, and how many others there are",
-            },
-            Argument {
-                name: "json",
-                form: ArgumentForm::Flag,
-                required: false,
-                help: "as lines of JSON, one for each view",
-            },
+            optional!(
+                "each",
+                Flag,
+                "also before the first event and after each one"
+            ),
+            optional!(
+                "full",
+                Flag,
+                "also the operands, locals and bindings of living tasks, and the ends that joiners got"
+            ),
+            optional!(
+                "living",
+                Flag,
+                "only the tasks that live and the open scopes, and how many others there are"
+            ),
+            optional!("json", Flag, "as lines of JSON, one for each view"),
         ],
     },
     Subcommand {
@@ -52,24 +57,13 @@ const SUBCOMMANDS: &[Subcommand<'static>] = &[
         about: "Says what is wrong with a text, with line numbers; with a trace, where each task is",
         arguments: &[
             FILE,
-            Argument {
-                name: "TRACE",
-                form: ArgumentForm::Word,
-                required: false,
-                help: "a trace to run first",
-            },
-            Argument {
-                name: "lines",
-                form: ArgumentForm::Flag,
-                required: false,
-                help: "as lines FILE:LINE:COLUMN: WORDS, which editors jump by; without a trace",
-            },
-            Argument {
-                name: "json",
-                form: ArgumentForm::Flag,
-                required: false,
-                help: "as lines of JSON; without a trace",
-            },
+            optional!("TRACE", Word, "a trace to run first"),
+            optional!(
+                "lines",
+                Flag,
+                "as lines FILE:LINE:COLUMN: WORDS, which editors jump by; without a trace"
+            ),
+            optional!("json", Flag, "as lines of JSON; without a trace"),
         ],
     },
     Subcommand {
@@ -78,18 +72,16 @@ const SUBCOMMANDS: &[Subcommand<'static>] = &[
         arguments: &[
             FILE,
             TRACE,
-            Argument {
-                name: "events",
-                form: ArgumentForm::Values(&["A..B"]),
-                required: false,
-                help: "draws the events from line A to line B of the trace (the last 2000)",
-            },
-            Argument {
-                name: "brief",
-                form: ArgumentForm::Flag,
-                required: false,
-                help: "a column only for each event that `tell` lists",
-            },
+            optional!(
+                "events",
+                Values(&["A..B"]),
+                "draws the events from line A to line B of the trace (the last 2000)"
+            ),
+            optional!(
+                "brief",
+                Flag,
+                "a column only for each event that `tell` lists"
+            ),
         ],
     },
     Subcommand {
@@ -98,36 +90,19 @@ const SUBCOMMANDS: &[Subcommand<'static>] = &[
         arguments: &[
             FILE,
             TRACE,
-            Argument {
-                name: "FROM",
-                form: ArgumentForm::Word,
-                required: false,
-                help: "the first event that is told (1)",
-            },
-            Argument {
-                name: "TO",
-                form: ArgumentForm::Word,
-                required: false,
-                help: "the last event that is told; the run ends there",
-            },
-            Argument {
-                name: "each",
-                form: ArgumentForm::Flag,
-                required: false,
-                help: "also the steps that no other task can notice",
-            },
-            Argument {
-                name: "strict",
-                form: ArgumentForm::Flag,
-                required: false,
-                help: "stops at the first event that does nothing, with status 5, and ends with the end of each task",
-            },
-            Argument {
-                name: "json",
-                form: ArgumentForm::Flag,
-                required: false,
-                help: "as lines of JSON, one for each line",
-            },
+            optional!("FROM", Word, "the first event that is told (1)"),
+            optional!(
+                "TO",
+                Word,
+                "the last event that is told; the run ends there"
+            ),
+            optional!("each", Flag, "also the steps that no other task can notice"),
+            optional!(
+                "strict",
+                Flag,
+                "stops at the first event that does nothing, with status 5, and ends with the end of each task"
+            ),
+            optional!("json", Flag, "as lines of JSON, one for each line"),
         ],
     },
     Subcommand {
@@ -135,60 +110,51 @@ const SUBCOMMANDS: &[Subcommand<'static>] = &[
         about: "Finds every end that a program can come to, over all schedules, with a trace for each",
         arguments: &[
             FILE,
-            Argument {
-                name: "no-expiries",
-                form: ArgumentForm::Flag,
-                required: false,
-                help: "no scope expires; else a scope with a timeout may expire at any time",
-            },
-            Argument {
-                name: "interrupts",
-                form: ArgumentForm::Values(&["N"]),
-                required: false,
-                help: "up to N interrupts from outside, of any living task (0)",
-            },
-            Argument {
-                name: "most",
-                form: ArgumentForm::Values(&["N"]),
-                required: false,
-                help: "stops when it has N states (1000000, or fewer if a search by calls has the ends)",
-            },
-            Argument {
-                name: "seconds",
-                form: ArgumentForm::Values(&["N"]),
-                required: false,
-                help: "stops after N seconds, and keeps what it found",
-            },
-            Argument {
-                name: "calls",
-                form: ArgumentForm::Flag,
-                required: false,
-                help: "what each call can come to, heard by its joiner or not",
-            },
-            Argument {
-                name: "sample",
-                form: ArgumentForm::Values(&["N"]),
-                required: false,
-                help: "tries N random schedules, not all",
-            },
-            Argument {
-                name: "seed",
-                form: ArgumentForm::Values(&["S"]),
-                required: false,
-                help: "a number that fixes the random schedules (1)",
-            },
-            Argument {
-                name: "trace",
-                form: ArgumentForm::Values(&["K", "TRACE"]),
-                required: false,
-                help: "writes the trace of the end with number K to the file TRACE; `-` is standard output",
-            },
-            Argument {
-                name: "json",
-                form: ArgumentForm::Flag,
-                required: false,
-                help: "as lines of JSON, one for each end and one more",
-            },
+            optional!(
+                "no-expiries",
+                Flag,
+                "no scope expires; else a scope with a timeout may expire at any time"
+            ),
+            optional!(
+                "interrupts",
+                Values(&["N"]),
+                "up to N interrupts from outside, of any living task (0)"
+            ),
+            optional!(
+                "most",
+                Values(&["N"]),
+                "stops when it has N states (1000000, or fewer if a search by calls has the ends)"
+            ),
+            optional!(
+                "seconds",
+                Values(&["N"]),
+                "stops after N seconds, and keeps what it found"
+            ),
+            optional!(
+                "calls",
+                Flag,
+                "what each call can come to, heard by its joiner or not"
+            ),
+            optional!(
+                "sample",
+                Values(&["N"]),
+                "tries N random schedules, not all"
+            ),
+            optional!(
+                "seed",
+                Values(&["S"]),
+                "a number that fixes the random schedules (1)"
+            ),
+            optional!(
+                "trace",
+                Values(&["K", "TRACE"]),
+                "writes the trace of the end with number K to the file TRACE; `-` is standard output"
+            ),
+            optional!(
+                "json",
+                Flag,
+                "as lines of JSON, one for each end and one more"
+            ),
         ],
     },
     Subcommand {
@@ -196,7 +162,7 @@ const SUBCOMMANDS: &[Subcommand<'static>] = &[
         about: "Answers many cases: for each line of JSON with a text and a trace, a line of JSON",
         arguments: &[Argument {
             name: "FILE",
-            form: ArgumentForm::Word,
+            form: Word,
             required: true,
             help: "cases, each a line of JSON with a text and maybe a trace",
         }],

@@ -4,9 +4,10 @@ use ends_known::call::number;
 use ends_known::own::Own;
 use ends_known::part::{Part, count_parts};
 use ends_known::pick::some_fits;
-use ends_known::seen::{Knowledge, Seen};
+use ends_known::seen::Seen;
 use ends_known::table::{Explored, Table};
 use ends_player::aim::{Aim, Leg, Role, with_role};
+use laws_calls::table::Knowledge;
 use std::alloc::{AllocError, Global};
 
 /// The task of a call, which the task of a leg forks. A run is about it.
@@ -31,6 +32,16 @@ struct Chances {
 #[derive(Drop)]
 pub struct Goals {
     chances: Vec<Chances>,
+}
+
+/// A table whose states are looked at, and what was found so far.
+#[derive(Drop)]
+struct Finding<'a> {
+    alloc: Global,
+    table: &'a Table,
+    /// How many interrupts may come.
+    interrupts: u32,
+    goals: Goals,
 }
 
 /// A close of a scope: the scope before it, its place among the open ones, and how many interrupts
@@ -185,94 +196,6 @@ impl Goals {
         }
     }
 
-    /// Notes that this may come of a subtask at the close of its scope, if it may.
-    fn try_role(
-        &mut self,
-        alloc: Global,
-        table: &Table,
-        close: &Closing<'_>,
-        forked: u32,
-        leg: Leg,
-    ) -> Result<(), AllocError> {
-        if self.has(forked, leg.aim.role) {
-            return Ok(());
-        }
-        let scope = with_role(alloc, close.scope, leg.aim.part, leg.aim.role)?;
-        if some_fits(alloc, table, &scope, close.left)? {
-            self.note(forked, leg);
-        }
-        Ok(())
-    }
-
-    /// Notes what may have come of a part at the close of its scope.
-    fn note_part(
-        &mut self,
-        alloc: Global,
-        table: &Table,
-        close: &Closing<'_>,
-        part: Part,
-        leg: Leg,
-    ) -> Result<(), AllocError> {
-        let Some(forked) = part.call else {
-            return Ok(());
-        };
-        let mut way: u32 = 0;
-        for it in table.ways_of(part) {
-            if part.filter.allows(close.scope.facts.joiner, way, it.end) {
-                let heard = with(leg, Role::Heard(way));
-                self.try_role(alloc, table, close, forked, heard)?;
-            }
-            way = way.saturating_add(1);
-        }
-        if part.is_open {
-            self.try_role(alloc, table, close, forked, with(leg, Role::Unheard))?;
-        }
-        Ok(())
-    }
-
-    /// Notes what may have come of the subtasks of a scope at its close.
-    fn note_close(
-        &mut self,
-        alloc: Global,
-        table: &Table,
-        close: &Closing<'_>,
-        call: Option<u32>,
-        place: u32,
-    ) -> Result<(), AllocError> {
-        let mut part: u32 = 0;
-        for run in close.scope.runs.as_slice() {
-            let aim = Aim {
-                scope: close.place,
-                part,
-                role: Role::Entered,
-            };
-            let leg = Leg { call, place, aim };
-            self.note_part(alloc, table, close, run.part, leg)?;
-            part = part.saturating_add(run.count);
-        }
-        Ok(())
-    }
-
-    /// Notes what the states of a task lead to.
-    fn visit(
-        &mut self,
-        alloc: Global,
-        table: &Table,
-        explored: &Explored,
-        call: Option<u32>,
-        interrupts: u32,
-    ) -> Result<(), AllocError> {
-        for place in 0..explored.nodes.len() {
-            if let Some(node) = explored.nodes.get(place) {
-                self.note_forks(&node.own, call, number(place));
-            }
-            if let Some(close) = close_before(explored, place, interrupts) {
-                self.note_close(alloc, table, &close, call, number(place))?;
-            }
-        }
-        Ok(())
-    }
-
     /// What a table and the root's call show of each call. A call is forked only by calls that are
     /// behind it in the table, and by the root's.
     pub fn find(
@@ -281,17 +204,22 @@ impl Goals {
         root: &Explored,
         interrupts: u32,
     ) -> Result<Goals, AllocError> {
-        let mut goals = Goals::none(alloc, table)?;
-        goals.visit(alloc, table, root, None, interrupts)?;
+        let mut finding = Finding {
+            alloc,
+            table,
+            interrupts,
+            goals: Goals::none(alloc, table)?,
+        };
+        finding.visit(root, None)?;
         for place in (0..table.calls.len()).rev() {
             let call = number(place);
-            if goals.entry(call).is_some() {
+            if finding.goals.entry(call).is_some() {
                 if let Some(explored) = table.calls.get(place) {
-                    goals.visit(alloc, table, explored, Some(call), interrupts)?;
+                    finding.visit(explored, Some(call))?;
                 }
             }
         }
-        Ok(goals)
+        Ok(finding.goals)
     }
 
     /// The goals, call by call.
@@ -320,6 +248,73 @@ impl Goals {
             };
         }
         Ok(legs)
+    }
+}
+
+impl<'a> Finding<'a> {
+    /// Notes that this may come of a subtask at the close of its scope, if it may.
+    fn try_role(&mut self, close: &Closing<'_>, forked: u32, leg: Leg) -> Result<(), AllocError> {
+        if self.goals.has(forked, leg.aim.role) {
+            return Ok(());
+        }
+        let scope = with_role(self.alloc, close.scope, leg.aim.part, leg.aim.role)?;
+        if some_fits(self.alloc, self.table, &scope, close.left)? {
+            self.goals.note(forked, leg);
+        }
+        Ok(())
+    }
+
+    /// Notes what may have come of a part at the close of its scope.
+    fn note_part(&mut self, close: &Closing<'_>, part: Part, leg: Leg) -> Result<(), AllocError> {
+        let Some(forked) = part.call else {
+            return Ok(());
+        };
+        let table = self.table;
+        let mut way: u32 = 0;
+        for it in table.ways_of(part) {
+            if part.filter.allows(close.scope.facts.joiner, way, it.end) {
+                self.try_role(close, forked, with(leg, Role::Heard(way)))?;
+            }
+            way = way.saturating_add(1);
+        }
+        if part.is_open {
+            self.try_role(close, forked, with(leg, Role::Unheard))?;
+        }
+        Ok(())
+    }
+
+    /// Notes what may have come of the subtasks of a scope at its close.
+    fn note_close(
+        &mut self,
+        close: &Closing<'_>,
+        call: Option<u32>,
+        place: u32,
+    ) -> Result<(), AllocError> {
+        let mut part: u32 = 0;
+        for run in close.scope.runs.as_slice() {
+            let aim = Aim {
+                scope: close.place,
+                part,
+                role: Role::Entered,
+            };
+            let leg = Leg { call, place, aim };
+            self.note_part(close, run.part, leg)?;
+            part = part.saturating_add(run.count);
+        }
+        Ok(())
+    }
+
+    /// Notes what the states of a task lead to.
+    fn visit(&mut self, explored: &Explored, call: Option<u32>) -> Result<(), AllocError> {
+        for place in 0..explored.nodes.len() {
+            if let Some(node) = explored.nodes.get(place) {
+                self.goals.note_forks(&node.own, call, number(place));
+            }
+            if let Some(close) = close_before(explored, place, self.interrupts) {
+                self.note_close(&close, call, number(place))?;
+            }
+        }
+        Ok(())
     }
 }
 

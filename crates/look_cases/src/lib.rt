@@ -12,7 +12,7 @@ mod verdicts;
 
 pub use answering::answer;
 pub use faults::{text_fault, trace_fault};
-pub use objects::{Made, Scalar, object_of, widened, with_list, with_member, with_text};
+pub use objects::{Made, Scalar, object_of, value_of, widened, with_list, with_member, with_text};
 pub use reading::{Case, case_of};
 pub use replies::{answers, write_answers};
-pub use runs::ended;
+pub use runs::{ended, outcome, running};

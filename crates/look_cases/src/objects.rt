@@ -44,7 +44,12 @@ fn count_or_null(number: Option<u64>) -> Value
     }
 }
 
-fn value_of(alloc: Global, scalar: Scalar<'_>) -> Made
+/// Returns the value of a scalar.
+///
+/// # Errors
+///
+/// Memory was refused.
+pub fn value_of(alloc: Global, scalar: Scalar<'_>) -> Made
     ensures { IfOk result (λ v. view v ≡ def.data_of scalar.entry) }
 {
     match scalar {

@@ -12,7 +12,7 @@ use crate::reading::case_of;
 use serde_json::Value;
 use std::alloc::{AllocError, Global};
 use std::io::Write;
-use sts_output::{TakeError, WriteFailed, failed, written};
+use sts_output::{Status, TakeError, failed, written};
 use sts_text::cut_at_newline;
 
 /// Returns the answer to a line, which may be JSON.
@@ -72,7 +72,7 @@ pub fn answers(alloc: Global, input: &[u8]) -> Result<Vec<u8>, AllocError>
 /// # Errors
 ///
 /// A write failed.
-pub fn write_answers<W: Write>(alloc: Global, input: &[u8], out: &mut W) -> Result<u8, WriteFailed>
+pub fn write_answers<W: Write>(alloc: Global, input: &[u8], out: &mut W) -> Status
     ensures { IfOk result (λ s. (o : Output) × def.IsRepliesTo input.now o
         × Writes (W.contents out.old) (W.contents out.new) s o) }
 {

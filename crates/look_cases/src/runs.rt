@@ -4,7 +4,7 @@ ghost use Rattle.std.specs.Prelude.{◌≡◌, IfOk};
 ghost use Rattle.serde_json.specs.View.{view};
 ghost use Rattle.look_cases.specs.Answer as def;
 
-use crate::objects::{Made, Scalar, object_of};
+use crate::objects::{Made, Scalar, object_of, value_of, with_member};
 use crate::verdicts::line_of;
 use std::alloc::Global;
 use sts_code::{Program, name_of};
@@ -40,23 +40,66 @@ pub fn ended(alloc: Global, end: End, steps: u64) -> Made
     }
 }
 
-fn faulted(alloc: Global, program: &Program, text: &[u8], at: Misstep, steps: u64) -> Made
-    ensures { IfOk result (λ v. view v ≡ def.run program.now text.now
-        (PlainState.Fault at.kind at.task at.function at.pc) steps) }
+/// Returns the state of a run that goes on, and the steps that it took.
+///
+/// # Errors
+///
+/// Memory was refused.
+pub fn running(alloc: Global, steps: u64) -> Made
+    ensures { IfOk result (λ v. view v ≡ def.running steps) }
 {
-    let line = line_of(alloc, text, at.function, at.pc)?;
     object_of(
         alloc,
         &[
-            ("fault", Scalar::Text(fault_word(at.kind))),
-            ("function", Scalar::Text(name_of(program, at.function))),
-            ("line", Scalar::MaybeCount(line)),
-            ("outcome", Scalar::Text("fault")),
-            ("place", Scalar::Count(at.pc as u64)),
+            ("outcome", Scalar::Text("running")),
             ("steps", Scalar::Count(steps)),
-            ("task", Scalar::Count(at.task as u64)),
         ],
     )
+}
+
+/// Returns a fault with its place, and the steps before it.
+fn fault(alloc: Global, program: &Program, fault: Misstep, steps: u64) -> Made
+    ensures { IfOk result (λ v. view v ≡ def.fault program.now fault steps) }
+{
+    object_of(
+        alloc,
+        &[
+            ("fault", Scalar::Text(fault_word(fault.kind))),
+            ("function", Scalar::Text(name_of(program, fault.function))),
+            ("outcome", Scalar::Text("fault")),
+            ("place", Scalar::Count(fault.pc as u64)),
+            ("steps", Scalar::Count(steps)),
+            ("task", Scalar::Count(fault.task as u64)),
+        ],
+    )
+}
+
+/// Returns the state of a run, and the steps that it took. A fault comes without its line.
+///
+/// # Errors
+///
+/// Memory was refused.
+pub fn outcome(alloc: Global, program: &Program, state: PlainState, steps: u64) -> Made
+    ensures { IfOk result (λ v. view v ≡ def.outcome program.now state steps) }
+{
+    match state {
+        PlainState::Running => running(alloc, steps),
+        PlainState::Ended(end) => ended(alloc, end, steps),
+        PlainState::Fault {
+            kind,
+            task,
+            function,
+            pc,
+        } => {
+            let at = Misstep {
+                kind,
+                task,
+                function,
+                pc,
+            };
+            fault(alloc, program, at, steps)
+        }
+    }
 }
 
 /// Returns the state of a run of the program of a text, and the steps that it took.
@@ -74,27 +117,13 @@ pub(crate) fn run(
     ensures { IfOk result (λ v. view v ≡ def.run program.now text.now state steps) }
 {
     match state {
-        PlainState::Running => object_of(
-            alloc,
-            &[
-                ("outcome", Scalar::Text("running")),
-                ("steps", Scalar::Count(steps)),
-            ],
-        ),
+        PlainState::Running => running(alloc, steps),
         PlainState::Ended(end) => ended(alloc, end, steps),
-        PlainState::Fault {
-            kind,
-            task,
-            function,
-            pc,
-        } => {
-            let at = Misstep {
-                kind,
-                task,
-                function,
-                pc,
-            };
-            faulted(alloc, program, text, at, steps)
+        PlainState::Fault { function, pc, .. } => {
+            let line = line_of(alloc, text, function, pc)?;
+            let fault = outcome(alloc, program, state, steps);
+            let number = value_of(alloc, Scalar::MaybeCount(line));
+            with_member(alloc, fault, "line", number)
         }
     }
 }

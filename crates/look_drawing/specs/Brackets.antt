@@ -61,8 +61,7 @@ mark_if is_shown m w x s word = if is_shown then scope_mark m w x s word else []
 -- the mark of a cancel, by the scope's phase after it. If a `close` cancels a scope and closes it at
 -- once, no subtask lives that the cancel could interrupt: its mark is quiet
 abbrev pub cancel_mark : Phase → Mark
-cancel_mark phase.Closed = mark.QuietCancel
-cancel_mark _ = mark.Cancelled
+cancel_mark p = if is_closed p then mark.QuietCancel else mark.Cancelled
 
 abbrev pub cancel_edge : World → World → ℕ → ℕ → List ℕ
 cancel_edge before w x s =

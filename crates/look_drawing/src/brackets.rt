@@ -11,8 +11,7 @@ use crate::change::Change;
 use crate::marks::Mark;
 use crate::place::bracket;
 use crate::writing::{mark_end, mark_start, text_end, text_start};
-use look_lines::{phase_word, scope_place};
-use std::alloc::AllocError;
+use look_lines::{Said, phase_word, scope_place};
 use std::fmt::Write;
 use sts_model::{Entries, Entry, Phase};
 
@@ -56,7 +55,7 @@ fn height_of(change: Change<'_, '_, '_>, s: u32) -> u64
 }
 
 /// The place of a scope, as its line has it.
-fn place_words(out: &mut String, change: Change<'_, '_, '_>, s: u32) -> Result<(), AllocError>
+fn place_words(out: &mut String, change: Change<'_, '_, '_>, s: u32) -> Said
     ensures { OnOk result (string_bytes out.new ≡ string_bytes out.old
         ++ lines.scope_place s (model.scope_at change.entry.world.now s)) }
 {
@@ -71,7 +70,7 @@ fn mark_if(
     change: Change<'_, '_, '_>,
     s: u32,
     word: &str,
-) -> Result<(), AllocError>
+) -> Said
     requires { s < length change.world.now.scopes }
     ensures { OnOk result (string_bytes out.new ≡ string_bytes out.old
         ++ def.mark_if is_shown mark change.entry.world.now change.entry.x s word.now) }
@@ -86,7 +85,7 @@ fn mark_if(
 }
 
 /// The scope's number, at the place of its opening.
-fn scope_number(out: &mut String, change: Change<'_, '_, '_>, s: u32) -> Result<(), AllocError>
+fn scope_number(out: &mut String, change: Change<'_, '_, '_>, s: u32) -> Said
     requires { s < length change.world.now.scopes }
     ensures { OnOk result (string_bytes out.new ≡ string_bytes out.old
         ++ def.scope_number change.entry.world.now change.entry.x s) }
@@ -106,7 +105,7 @@ fn line_mark(phase: Phase) -> Mark
 }
 
 /// A scope that isn't closed: its number in its first column, a line in each later one.
-fn span(out: &mut String, change: Change<'_, '_, '_>, s: u32) -> Result<(), AllocError>
+fn span(out: &mut String, change: Change<'_, '_, '_>, s: u32) -> Said
     requires { s < length change.world.now.scopes }
     ensures { OnOk result (string_bytes out.new ≡ string_bytes out.old
         ++ def.span change.entry.before.now change.entry.world.now change.entry.x s) }
@@ -153,14 +152,15 @@ fn was_cancelled(change: Change<'_, '_, '_>, s: u32) -> bool
 fn cancel_mark(phase: Phase) -> Mark
     ensures { result ≡ def.cancel_mark phase }
 {
-    match phase {
-        Phase::Closed => Mark::QuietCancel,
-        Phase::Opened | Phase::Attempted | Phase::Joined | Phase::Closing => Mark::Cancelled,
+    if phase.is_closed() {
+        Mark::QuietCancel
+    } else {
+        Mark::Cancelled
     }
 }
 
 /// The mark for a cancel, if it was cancelled since the column before.
-fn cancel_edge(out: &mut String, change: Change<'_, '_, '_>, s: u32) -> Result<(), AllocError>
+fn cancel_edge(out: &mut String, change: Change<'_, '_, '_>, s: u32) -> Said
     requires { s < length change.world.now.scopes }
     ensures { OnOk result (string_bytes out.new ≡ string_bytes out.old
         ++ def.cancel_edge change.entry.before.now change.entry.world.now change.entry.x s) }
@@ -173,7 +173,7 @@ fn cancel_edge(out: &mut String, change: Change<'_, '_, '_>, s: u32) -> Result<(
 }
 
 /// The mark for a change of its phase, if it changed since the column before.
-fn phase_edge(out: &mut String, change: Change<'_, '_, '_>, s: u32) -> Result<(), AllocError>
+fn phase_edge(out: &mut String, change: Change<'_, '_, '_>, s: u32) -> Said
     requires { s < length change.world.now.scopes }
     ensures { OnOk result (string_bytes out.new ≡ string_bytes out.old
         ++ def.phase_edge change.entry.before.now change.entry.world.now change.entry.x s) }
@@ -184,7 +184,7 @@ fn phase_edge(out: &mut String, change: Change<'_, '_, '_>, s: u32) -> Result<()
 }
 
 /// The mark for an expiry, if its time was up since the column before.
-fn expiry_edge(out: &mut String, change: Change<'_, '_, '_>, s: u32) -> Result<(), AllocError>
+fn expiry_edge(out: &mut String, change: Change<'_, '_, '_>, s: u32) -> Said
     requires { s < length change.world.now.scopes }
     ensures { OnOk result (string_bytes out.new ≡ string_bytes out.old
         ++ def.expiry_edge change.entry.before.now change.entry.world.now change.entry.x s) }
@@ -194,7 +194,7 @@ fn expiry_edge(out: &mut String, change: Change<'_, '_, '_>, s: u32) -> Result<(
 }
 
 /// The marks for a change of its phase, for an expiry and for a cancel.
-fn edges(out: &mut String, change: Change<'_, '_, '_>, s: u32) -> Result<(), AllocError>
+fn edges(out: &mut String, change: Change<'_, '_, '_>, s: u32) -> Said
     requires { s < length change.world.now.scopes }
     ensures { OnOk result (string_bytes out.new ≡ string_bytes out.old
         ++ def.edges change.entry.before.now change.entry.world.now change.entry.x s) }
@@ -204,7 +204,7 @@ fn edges(out: &mut String, change: Change<'_, '_, '_>, s: u32) -> Result<(), All
     cancel_edge(out, change, s)
 }
 
-fn scope_cell(out: &mut String, change: Change<'_, '_, '_>, s: u32) -> Result<(), AllocError>
+fn scope_cell(out: &mut String, change: Change<'_, '_, '_>, s: u32) -> Said
     requires { s < length change.world.now.scopes }
     ensures { OnOk result (string_bytes out.new ≡ string_bytes out.old
         ++ def.scope_cell change.entry.before.now change.entry.world.now change.entry.x s) }
@@ -222,7 +222,7 @@ fn scope_cell(out: &mut String, change: Change<'_, '_, '_>, s: u32) -> Result<()
 /// # Errors
 ///
 /// Memory ran out; `out` may then have a part of it.
-pub fn scope_cells(out: &mut String, change: Change<'_, '_, '_>) -> Result<(), AllocError>
+pub fn scope_cells(out: &mut String, change: Change<'_, '_, '_>) -> Said
     ensures { OnOk result (string_bytes out.new ≡ string_bytes out.old
         ++ def.scope_cells change.entry.before.now change.entry.world.now change.entry.x
         change.entry.world.now.scopes 0) }

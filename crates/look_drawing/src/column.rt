@@ -16,7 +16,7 @@ use crate::place::{column, lane};
 use crate::present::Present;
 use crate::words::{next_word, step_word};
 use crate::writing::{mark_at, mark_end, mark_start};
-use look_lines::{Applied, Watch};
+use look_lines::{Applied, Said, Watch};
 use look_names::Names;
 use std::alloc::{AllocError, Global};
 use sts_model::Event;
@@ -24,7 +24,7 @@ use sts_output::state_line;
 use sts_plain::PlainState;
 
 /// All cells of a world in a column, with the changes since the column before.
-fn cells(alloc: Global, out: &mut String, change: Change<'_, '_, '_>) -> Result<(), AllocError>
+fn cells(alloc: Global, out: &mut String, change: Change<'_, '_, '_>) -> Said
     ensures { OnOk result (string_bytes out.new ≡ string_bytes out.old
         ++ def.cells change.entry.names.now change.entry.program.now change.entry.before.now
         change.entry.world.now change.entry.x) }
@@ -34,7 +34,7 @@ fn cells(alloc: Global, out: &mut String, change: Change<'_, '_, '_>) -> Result<
 }
 
 /// A step of this task that was a fault.
-fn fault_mark(out: &mut String, watch: &Watch<'_>, x: u128, t: u32) -> Result<(), AllocError>
+fn fault_mark(out: &mut String, watch: &Watch<'_>, x: u128, t: u32) -> Said
     ensures { OnOk result (string_bytes out.new
         ≡ string_bytes out.old ++ def.fault_mark watch.now x t) }
 {
@@ -62,7 +62,7 @@ fn standing(
     seen: Seen<'_, '_>,
     x: u128,
     is_counted: bool,
-) -> Result<(), AllocError>
+) -> Said
     requires { x < 2 ^ 127 }
     ensures { OnOk result (string_bytes out.new ≡ string_bytes out.old
         ++ def.standing names.now seen.entry.before.now seen.entry.watch.now x is_counted
@@ -86,7 +86,7 @@ fn standing(
 }
 
 /// The dot of a step in its task's lane, with these words.
-fn step_dot(out: &mut String, words: &str, x: u128, t: u32) -> Result<(), AllocError>
+fn step_dot(out: &mut String, words: &str, x: u128, t: u32) -> Said
     ensures { OnOk result (string_bytes out.new
         ≡ string_bytes out.old ++ def.step_dot words.now x t) }
 {
@@ -95,13 +95,7 @@ fn step_dot(out: &mut String, words: &str, x: u128, t: u32) -> Result<(), AllocE
 
 /// The dot of a step in its task's lane, with these words, and the word of its instruction.
 #[tactic(auto, unfolding(crate::specs::Column::step_mark))]
-fn step_mark(
-    out: &mut String,
-    words: &str,
-    seen: Seen<'_, '_>,
-    x: u128,
-    t: u32,
-) -> Result<(), AllocError>
+fn step_mark(out: &mut String, words: &str, seen: Seen<'_, '_>, x: u128, t: u32) -> Said
     ensures { OnOk result (string_bytes out.new ≡ string_bytes out.old
         ++ def.step_mark words.now seen.entry.before.now x t) }
 {
@@ -111,48 +105,52 @@ fn step_mark(
     step_word(out, x, t, word)
 }
 
+/// How columns are drawn: with the names of this text, and in brief or not.
+#[derive(Clone, Copy)]
+pub struct Manner<'n, 't> {
+    pub names: &'n Names<'t>,
+    pub brief: bool,
+}
+
+/// An event that was applied, its words, and what is seen of it. Without words it has no column.
+#[derive(Clone, Copy)]
+pub struct Worded<'w, 's, 'p> {
+    pub words: &'w str,
+    pub applied: Applied,
+    pub seen: Seen<'s, 'p>,
+}
+
 /// A step that counts, in its task's lane.
-fn stepped(
-    out: &mut String,
-    words: &str,
-    seen: Seen<'_, '_>,
-    x: u128,
-    applied: Applied,
-) -> Result<(), AllocError>
+fn stepped(out: &mut String, worded: Worded<'_, '_, '_>, x: u128) -> Said
     ensures { OnOk result (string_bytes out.new ≡ string_bytes out.old
-        ++ def.stepped words.now seen.entry.before.now x applied.event applied.is_counted) }
+        ++ def.stepped worded.entry.words.now worded.entry.seen.before.now x
+        worded.entry.applied.event worded.entry.applied.is_counted) }
 {
+    let applied = worded.applied;
     match applied.event {
-        Event::Step(t) if applied.is_counted => step_mark(out, words, seen, x, t),
+        Event::Step(t) if applied.is_counted => step_mark(out, worded.words, worded.seen, x, t),
         Event::Step(_) | Event::Interrupt(_) | Event::Expire(_) => Ok(()),
     }
 }
 
-/// An event with these words in a column.
+/// An event in a column.
 fn event_column(
     alloc: Global,
     out: &mut String,
-    names: &Names<'_>,
-    words: &str,
-    seen: Seen<'_, '_>,
-    brief: bool,
+    manner: Manner<'_, '_>,
+    worded: Worded<'_, '_, '_>,
     at: usize,
-    applied: Applied,
-) -> Result<(), AllocError>
+) -> Said
     ensures { OnOk result (string_bytes out.new ≡ string_bytes out.old
-        ++ def.event_column names.now words.now seen.entry.before.now seen.entry.watch.now brief
-        at applied) }
+        ++ def.event_column manner.entry.names.now worded.entry.words.now
+        worded.entry.seen.before.now worded.entry.seen.watch.now manner.entry.brief at
+        worded.entry.applied) }
 {
-    event_number(alloc, out, words, brief, at, applied)?;
-    standing(
-        alloc,
-        out,
-        names,
-        seen,
-        column(brief, at),
-        applied.is_counted,
-    )?;
-    stepped(out, words, seen, column(brief, at), applied)
+    let is_counted = worded.applied.is_counted;
+    let x = column(manner.brief, at);
+    event_number(alloc, out, worded.words, manner.brief, at, worded.applied)?;
+    standing(alloc, out, manner.names, worded.seen, x, is_counted)?;
+    stepped(out, worded, x)
 }
 
 /// Draws an event after this many columns, unless it has no words. Returns the number of columns
@@ -164,23 +162,21 @@ fn event_column(
 pub fn maybe_column(
     alloc: Global,
     out: &mut String,
-    names: &Names<'_>,
-    words: &str,
-    seen: Seen<'_, '_>,
-    brief: bool,
+    manner: Manner<'_, '_>,
+    worded: Worded<'_, '_, '_>,
     columns: usize,
-    applied: Applied,
 ) -> Result<usize, AllocError>
     requires { columns < 2 ^ 64 - 1 }
-    ensures counted { IfOk result (λ n. n ≡ def.one_more words.now columns) }
+    ensures counted { IfOk result (λ n. n ≡ def.one_more worded.entry.words.now columns) }
     ensures drawn { OnOk result (string_bytes out.new ≡ string_bytes out.old
-        ++ def.maybe_column names.now words.now seen.entry.before.now seen.entry.watch.now
-        brief columns applied) }
+        ++ def.maybe_column manner.entry.names.now worded.entry.words.now
+        worded.entry.seen.before.now worded.entry.seen.watch.now manner.entry.brief columns
+        worded.entry.applied) }
 {
-    if words.len() == 0 {
+    if worded.words.len() == 0 {
         return Ok(columns);
     }
-    event_column(alloc, out, names, words, seen, brief, columns + 1, applied)?;
+    event_column(alloc, out, manner, worded, columns + 1)?;
     Ok(columns + 1)
 }
 
@@ -195,7 +191,7 @@ pub fn first_column(
     names: &Names<'_>,
     watch: &Watch<'_>,
     present: &Present,
-) -> Result<(), AllocError>
+) -> Said
     requires held { AreHeld watch.now.last }
     requires listed { present.now ≡ numbers.present watch.now.last }
     ensures { OnOk result (string_bytes out.new

@@ -9,9 +9,8 @@ ghost use Rattle.look_drawing.specs.declared.legend.TheConstants.{MOST_KEYS};
 use crate::place::{columns_width, height, width};
 use crate::style::style;
 use crate::writing::text_at;
-use look_lines::{Watch, view_lines};
+use look_lines::{Said, Watch, view_lines};
 use look_options::ViewOptions;
-use std::alloc::AllocError;
 use std::fmt::Write;
 
 /// The classes of a picture. The style draws narrower marks in a brief one.
@@ -25,7 +24,7 @@ fn classes(brief: bool) -> &'static str
     }
 }
 
-fn svg_start(out: &mut String, class: &str, wide: u128, high: u64) -> Result<(), AllocError>
+fn svg_start(out: &mut String, class: &str, wide: u128, high: u64) -> Said
     ensures { OnOk result (string_bytes out.new
         ≡ string_bytes out.old ++ def.svg_start class.now wide high) }
 {
@@ -45,7 +44,7 @@ fn sized(
     columns: usize,
     letters: usize,
     keys: usize,
-) -> Result<(), AllocError>
+) -> Said
     requires { keys ≤ MOST_KEYS }
     ensures { OnOk result (string_bytes out.new
         ≡ string_bytes out.old ++ def.sized watch.now brief columns letters keys) }
@@ -60,7 +59,7 @@ fn sized(
 }
 
 /// The lines of all tasks and scopes.
-fn standing_lines(out: &mut String, watch: &Watch<'_>) -> Result<(), AllocError>
+fn standing_lines(out: &mut String, watch: &Watch<'_>) -> Said
     ensures { OnOk result (string_bytes out.new
         ≡ string_bytes out.old ++ def.standing_lines watch.now) }
 {
@@ -72,13 +71,13 @@ fn standing_lines(out: &mut String, watch: &Watch<'_>) -> Result<(), AllocError>
     view_lines(out, watch, wanted)
 }
 
-fn description_start(out: &mut String) -> Result<(), AllocError>
+fn description_start(out: &mut String) -> Said
     ensures { OnOk result (string_bytes out.new ≡ string_bytes out.old ++ def.description_start) }
 {
     write!(out, "</title>\n<desc>")
 }
 
-fn description_end(out: &mut String) -> Result<(), AllocError>
+fn description_end(out: &mut String) -> Said
     ensures { OnOk result (string_bytes out.new ≡ string_bytes out.old ++ def.description_end) }
 {
     writeln!(out, "</desc>")
@@ -86,7 +85,7 @@ fn description_end(out: &mut String) -> Result<(), AllocError>
 
 /// The description for readers who don't see the picture: after the state of the run, all tasks and
 /// scopes.
-fn description(out: &mut String, watch: &Watch<'_>) -> Result<(), AllocError>
+fn description(out: &mut String, watch: &Watch<'_>) -> Said
     ensures { OnOk result (string_bytes out.new
         ≡ string_bytes out.old ++ def.description watch.now) }
 {
@@ -107,7 +106,7 @@ pub fn head(
     brief: bool,
     columns: usize,
     keys: usize,
-) -> Result<(), AllocError>
+) -> Said
     requires { keys ≤ MOST_KEYS }
     ensures { OnOk result (string_bytes out.new
         ≡ string_bytes out.old ++ def.head heading.now watch.now brief columns keys) }
@@ -118,7 +117,7 @@ pub fn head(
 }
 
 /// The style, and the grid behind the lanes.
-fn grid(out: &mut String, style: &str, wide: u128, high: usize) -> Result<(), AllocError>
+fn grid(out: &mut String, style: &str, wide: u128, high: usize) -> Said
     ensures { OnOk result (string_bytes out.new
         ≡ string_bytes out.old ++ def.grid style.now wide high) }
 {
@@ -129,7 +128,7 @@ fn grid(out: &mut String, style: &str, wide: u128, high: usize) -> Result<(), Al
 }
 
 /// The style, and the grid behind these many columns and lanes.
-fn grid_of(out: &mut String, brief: bool, columns: usize, tasks: usize) -> Result<(), AllocError>
+fn grid_of(out: &mut String, brief: bool, columns: usize, tasks: usize) -> Said
     requires { tasks ≤ MAX_BIRTHS }
     ensures { OnOk result (string_bytes out.new
         ≡ string_bytes out.old ++ def.grid_of brief columns tasks) }
@@ -148,7 +147,7 @@ pub fn backdrop(
     watch: &Watch<'_>,
     brief: bool,
     columns: usize,
-) -> Result<(), AllocError>
+) -> Said
     ensures { OnOk result (string_bytes out.new
         ≡ string_bytes out.old ++ def.backdrop heading.now watch.now brief columns) }
 {

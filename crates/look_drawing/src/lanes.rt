@@ -7,20 +7,14 @@ ghost use Rattle.look_drawing.specs.Lanes as def;
 use crate::change::Change;
 use crate::marks::Mark;
 use crate::place::{lane, over_lane};
-use crate::writing::{Room, fitted_text, mark_end, mark_start};
-use look_lines::{is_heard, stand_words};
+use crate::writing::{VALUE_ROOM, fitted_text, mark_end, mark_start};
+use look_lines::{Said, is_heard, stand_words};
 use look_names::say_value;
-use std::alloc::{AllocError, Global};
+use std::alloc::Global;
 use std::fmt::Write;
 use sts_model::End;
 use sts_plain::can_step;
 use sts_world::Records;
-
-/// The room for a value to the right of the last column.
-const VALUE_ROOM: Room = Room {
-    letters: 21,
-    size: 11,
-};
 
 /// The line of a task that lives.
 fn life_mark(is_ready: bool) -> Mark
@@ -49,7 +43,7 @@ fn rests(records: &Records, t: u32) -> bool
 }
 
 /// `task T`, and its state.
-fn told(out: &mut String, change: Change<'_, '_, '_>, t: u32) -> Result<(), AllocError>
+fn told(out: &mut String, change: Change<'_, '_, '_>, t: u32) -> Said
     requires { t < length change.world.now.tasks }
     ensures { OnOk result (string_bytes out.new
         ≡ string_bytes out.old ++ def.told change.entry.program.now change.entry.world.now t) }
@@ -65,7 +59,7 @@ fn named_value(
     change: Change<'_, '_, '_>,
     t: u32,
     value: i64,
-) -> Result<(), AllocError>
+) -> Said
     ensures { OnOk result (string_bytes out.new
         ≡ string_bytes out.old ++ def.named_value change.entry.names.now change.entry.x t value) }
 {
@@ -82,7 +76,7 @@ fn value_text(
     change: Change<'_, '_, '_>,
     t: u32,
     end: Option<End>,
-) -> Result<(), AllocError>
+) -> Said
     ensures { OnOk result (string_bytes out.new
         ≡ string_bytes out.old ++ def.value_text change.entry.names.now change.entry.x t end) }
 {
@@ -95,12 +89,7 @@ fn value_text(
 }
 
 /// A mark of a task, described by its state.
-fn task_mark(
-    out: &mut String,
-    change: Change<'_, '_, '_>,
-    t: u32,
-    mark: Mark,
-) -> Result<(), AllocError>
+fn task_mark(out: &mut String, change: Change<'_, '_, '_>, t: u32, mark: Mark) -> Said
     requires { t < length change.world.now.tasks }
     ensures { OnOk result (string_bytes out.new ≡ string_bytes out.old
         ++ def.task_mark change.entry.program.now change.entry.world.now change.entry.x t mark) }
@@ -111,7 +100,7 @@ fn task_mark(
 }
 
 /// A task that lives.
-fn life(out: &mut String, change: Change<'_, '_, '_>, t: u32) -> Result<(), AllocError>
+fn life(out: &mut String, change: Change<'_, '_, '_>, t: u32) -> Said
     requires { t < length change.world.now.tasks }
     ensures { OnOk result (string_bytes out.new ≡ string_bytes out.old
         ++ def.life change.entry.program.now change.entry.world.now change.entry.x t) }
@@ -121,12 +110,7 @@ fn life(out: &mut String, change: Change<'_, '_, '_>, t: u32) -> Result<(), Allo
 }
 
 /// A task that doesn't live.
-fn rest(
-    alloc: Global,
-    out: &mut String,
-    change: Change<'_, '_, '_>,
-    t: u32,
-) -> Result<(), AllocError>
+fn rest(alloc: Global, out: &mut String, change: Change<'_, '_, '_>, t: u32) -> Said
     requires { t < length change.world.now.tasks }
     ensures { OnOk result (string_bytes out.new ≡ string_bytes out.old
         ++ def.rest change.entry.names.now change.entry.program.now change.entry.world.now
@@ -139,12 +123,7 @@ fn rest(
 }
 
 /// A task that lives in this column, or that lived or wasn't born in the column before.
-fn stand(
-    alloc: Global,
-    out: &mut String,
-    change: Change<'_, '_, '_>,
-    t: u32,
-) -> Result<(), AllocError>
+fn stand(alloc: Global, out: &mut String, change: Change<'_, '_, '_>, t: u32) -> Said
     requires { t < length change.world.now.tasks }
     ensures { OnOk result (string_bytes out.new ≡ string_bytes out.old
         ++ def.stand change.entry.names.now change.entry.program.now change.entry.before.now
@@ -160,20 +139,14 @@ fn stand(
 }
 
 /// A line from one height to another.
-fn fork_path(out: &mut String, x: u128, from: u64, to: u64) -> Result<(), AllocError>
+fn fork_path(out: &mut String, x: u128, from: u64, to: u64) -> Said
     ensures { OnOk result (string_bytes out.new ≡ string_bytes out.old ++ def.fork_path x from to) }
 {
     writeln!(out, "<path class='fork' d='M{x} {from}V{to}'/>")
 }
 
 /// The line of a fork, from the lane of the scope's owner to that of the task.
-fn fork_line(
-    out: &mut String,
-    records: &Records,
-    x: u128,
-    t: u32,
-    scope: Option<u32>,
-) -> Result<(), AllocError>
+fn fork_line(out: &mut String, records: &Records, x: u128, t: u32, scope: Option<u32>) -> Said
     ensures { OnOk result (string_bytes out.new
         ≡ string_bytes out.old ++ def.fork_line records.now x t scope) }
 {
@@ -184,7 +157,7 @@ fn fork_line(
 }
 
 /// The fork of a task that wasn't born in the column before.
-fn birth(out: &mut String, change: Change<'_, '_, '_>, t: u32) -> Result<(), AllocError>
+fn birth(out: &mut String, change: Change<'_, '_, '_>, t: u32) -> Said
     ensures { OnOk result (string_bytes out.new ≡ string_bytes out.old
         ++ def.birth change.entry.before.now change.entry.world.now change.entry.x t) }
 {
@@ -196,7 +169,7 @@ fn birth(out: &mut String, change: Change<'_, '_, '_>, t: u32) -> Result<(), All
 }
 
 /// An interrupt flag that wasn't set in the column before.
-fn interrupted(out: &mut String, change: Change<'_, '_, '_>, t: u32) -> Result<(), AllocError>
+fn interrupted(out: &mut String, change: Change<'_, '_, '_>, t: u32) -> Said
     ensures { OnOk result (string_bytes out.new ≡ string_bytes out.old
         ++ def.interrupted change.entry.before.now change.entry.world.now change.entry.x t) }
 {
@@ -208,12 +181,7 @@ fn interrupted(out: &mut String, change: Change<'_, '_, '_>, t: u32) -> Result<(
     mark_end(out)
 }
 
-fn task_cell(
-    alloc: Global,
-    out: &mut String,
-    change: Change<'_, '_, '_>,
-    t: u32,
-) -> Result<(), AllocError>
+fn task_cell(alloc: Global, out: &mut String, change: Change<'_, '_, '_>, t: u32) -> Said
     requires { t < length change.world.now.tasks }
     ensures { OnOk result (string_bytes out.new ≡ string_bytes out.old
         ++ def.task_cell change.entry.names.now change.entry.program.now change.entry.before.now
@@ -229,11 +197,7 @@ fn task_cell(
 /// # Errors
 ///
 /// Memory ran out; `out` may then have a part of it.
-pub fn task_cells(
-    alloc: Global,
-    out: &mut String,
-    change: Change<'_, '_, '_>,
-) -> Result<(), AllocError>
+pub fn task_cells(alloc: Global, out: &mut String, change: Change<'_, '_, '_>) -> Said
     ensures { OnOk result (string_bytes out.new ≡ string_bytes out.old
         ++ def.task_cells change.entry.names.now change.entry.program.now change.entry.before.now
         change.entry.world.now change.entry.x change.entry.world.now.tasks 0) }

@@ -9,6 +9,7 @@ ghost use Rattle.look_drawing.specs.Frame as frame;
 use crate::marks::Mark;
 use crate::place::{key_x, key_y, lane};
 use crate::writing::{mark_at, text_at};
+use look_lines::Said;
 use memchr::memmem;
 use std::alloc::{AllocError, Global};
 use std::fmt::Write;
@@ -73,7 +74,7 @@ pub fn keys(alloc: Global, columns: &str) -> Result<Vec<Mark>, AllocError>
 }
 
 /// The mark of a key.
-fn key_mark(out: &mut String, n: usize, mark: Mark) -> Result<(), AllocError>
+fn key_mark(out: &mut String, n: usize, mark: Mark) -> Said
     requires { n ≤ MOST_KEYS }
     ensures { OnOk result (string_bytes out.new ≡ string_bytes out.old ++ def.key_mark n mark) }
 {
@@ -81,7 +82,7 @@ fn key_mark(out: &mut String, n: usize, mark: Mark) -> Result<(), AllocError>
 }
 
 /// The words of a key, next to its mark.
-fn key_text(out: &mut String, n: usize, words: &str) -> Result<(), AllocError>
+fn key_text(out: &mut String, n: usize, words: &str) -> Said
     requires { n ≤ MOST_KEYS }
     ensures { OnOk result (string_bytes out.new
         ≡ string_bytes out.old ++ def.key_text n words.now) }
@@ -90,7 +91,7 @@ fn key_text(out: &mut String, n: usize, words: &str) -> Result<(), AllocError>
 }
 
 /// The key of this number: a mark, and what it means.
-fn key(out: &mut String, n: usize, mark: Mark) -> Result<(), AllocError>
+fn key(out: &mut String, n: usize, mark: Mark) -> Said
     requires { n ≤ MOST_KEYS }
     ensures { OnOk result (string_bytes out.new ≡ string_bytes out.old ++ def.key n mark) }
 {
@@ -99,7 +100,7 @@ fn key(out: &mut String, n: usize, mark: Mark) -> Result<(), AllocError>
 }
 
 /// The keys of these marks.
-fn legend(out: &mut String, keys: &[Mark]) -> Result<(), AllocError>
+fn legend(out: &mut String, keys: &[Mark]) -> Said
     requires { length keys.now ≤ MOST_KEYS }
     ensures { OnOk result (string_bytes out.new ≡ string_bytes out.old ++ def.legend keys.now) }
 {
@@ -110,13 +111,13 @@ fn legend(out: &mut String, keys: &[Mark]) -> Result<(), AllocError>
 }
 
 /// The group of the legend begins, from this height on.
-fn foot_start(out: &mut String, y: u64) -> Result<(), AllocError>
+fn foot_start(out: &mut String, y: u64) -> Said
     ensures { OnOk result (string_bytes out.new ≡ string_bytes out.old ++ frame.foot_start y) }
 {
     writeln!(out, "<g transform='translate(12 {y})'>")
 }
 
-fn foot_end(out: &mut String) -> Result<(), AllocError>
+fn foot_end(out: &mut String) -> Said
     ensures { OnOk result (string_bytes out.new ≡ string_bytes out.old ++ frame.foot_end) }
 {
     out.push_str("</g>\n</svg>\n")
@@ -127,7 +128,7 @@ fn foot_end(out: &mut String) -> Result<(), AllocError>
 /// # Errors
 ///
 /// Memory ran out; `out` may then have a part of it.
-pub fn foot(out: &mut String, tasks: usize, keys: &[Mark]) -> Result<(), AllocError>
+pub fn foot(out: &mut String, tasks: usize, keys: &[Mark]) -> Said
     requires tasks { tasks ≤ MAX_BIRTHS }
     requires few { length keys.now ≤ MOST_KEYS }
     ensures { OnOk result (string_bytes out.new

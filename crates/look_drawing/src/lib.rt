@@ -16,7 +16,7 @@ pub mod window;
 mod words;
 pub mod writing;
 
-pub use column::{Seen, first_column, maybe_column};
+pub use column::{Manner, Seen, Worded, first_column, maybe_column};
 pub use frame::{backdrop, head};
 pub use legend::{foot, keys};
 pub use marks::Mark;

@@ -6,19 +6,13 @@ ghost use Rattle.look_drawing.specs.Column as def;
 
 use crate::marks::Mark;
 use crate::place::{column, number_line};
-use crate::writing::{Room, fitted_start, mark_at};
-use look_lines::Applied;
-use std::alloc::{AllocError, Global};
+use crate::writing::{NUMBER_ROOM, fitted_start, mark_at};
+use look_lines::{Applied, Said};
+use std::alloc::Global;
 use std::fmt::Write;
 
-/// The room for a number above its column.
-const NUMBER_ROOM: Room = Room {
-    letters: 3,
-    size: 10,
-};
-
 /// The words of an event, then its number.
-fn number_words(out: &mut String, words: &str, digits: &str) -> Result<(), AllocError>
+fn number_words(out: &mut String, words: &str, digits: &str) -> Said
     ensures { OnOk result (string_bytes out.new
         ≡ string_bytes out.old ++ def.number_words words.now digits.now) }
 {
@@ -26,13 +20,7 @@ fn number_words(out: &mut String, words: &str, digits: &str) -> Result<(), Alloc
 }
 
 /// The digits of an event's number above the lanes.
-fn digits_text(
-    out: &mut String,
-    words: &str,
-    brief: bool,
-    at: usize,
-    digits: &str,
-) -> Result<(), AllocError>
+fn digits_text(out: &mut String, words: &str, brief: bool, at: usize, digits: &str) -> Said
     ensures { OnOk result (string_bytes out.new
         ≡ string_bytes out.old ++ def.digits_text words.now brief at digits.now) }
 {
@@ -42,14 +30,7 @@ fn digits_text(
 }
 
 /// The event's number above the lanes.
-fn number(
-    alloc: Global,
-    out: &mut String,
-    words: &str,
-    brief: bool,
-    at: usize,
-    n: usize,
-) -> Result<(), AllocError>
+fn number(alloc: Global, out: &mut String, words: &str, brief: bool, at: usize, n: usize) -> Said
     ensures { OnOk result (string_bytes out.new
         ≡ string_bytes out.old ++ def.number words.now brief at n) }
 {
@@ -58,13 +39,7 @@ fn number(
 }
 
 /// A stroke through the number of an event that doesn't count.
-fn idle_mark(
-    out: &mut String,
-    words: &str,
-    brief: bool,
-    at: usize,
-    is_counted: bool,
-) -> Result<(), AllocError>
+fn idle_mark(out: &mut String, words: &str, brief: bool, at: usize, is_counted: bool) -> Said
     ensures { OnOk result (string_bytes out.new
         ≡ string_bytes out.old ++ def.idle_mark words.now brief at is_counted) }
 {
@@ -84,7 +59,7 @@ pub(crate) fn event_number(
     brief: bool,
     at: usize,
     applied: Applied,
-) -> Result<(), AllocError>
+) -> Said
     ensures { OnOk result (string_bytes out.new
         ≡ string_bytes out.old ++ def.event_number words.now brief at applied) }
 {

@@ -7,6 +7,7 @@ ghost use Rattle.sts_model.specs.World.{scope_at, task_at};
 ghost use Rattle.sts_model.specs.Living.{lives};
 ghost use Rattle.look_drawing.specs.Present as def;
 
+use look_lines::Said;
 use std::alloc::{AllocError, Global};
 use std::marker::Model;
 use sts_world::Records;
@@ -28,7 +29,7 @@ impl Model for Present {
 }
 
 /// Adds the birth numbers from one up to another.
-fn add_births(births: &mut Vec<u32>, from: usize, to: usize) -> Result<(), AllocError>
+fn add_births(births: &mut Vec<u32>, from: usize, to: usize) -> Said
     requires { to ≤ MAX_BIRTHS }
     ensures { OnOk result (births.new.items
         ≡ births.old.items ++ range_with_len from (to - from)) }
@@ -99,7 +100,7 @@ impl Present {
     /// # Errors
     ///
     /// Memory ran out; some may have been added.
-    pub fn add_born(&mut self, before: &Records, records: &Records) -> Result<(), AllocError>
+    pub fn add_born(&mut self, before: &Records, records: &Records) -> Said
         ensures { OnOk result (self.new ≡ def.with_born self.old before.now records.now) }
     {
         add_births(&mut self.tasks, before.tasks_born(), records.tasks_born())?;

@@ -4,8 +4,8 @@ ghost use Rattle.std.specs.Prelude.{◌≡◌, ◌≤◌, ◌++◌, OnOk};
 ghost use Rattle.std.specs.String.{string_bytes};
 ghost use Rattle.look_drawing.specs.Windows as def;
 
+use look_lines::Said;
 use look_options::Window;
-use std::alloc::AllocError;
 use std::cmp;
 use std::fmt::Write;
 
@@ -45,7 +45,7 @@ pub fn shown_events(window: Option<Window>, events: usize) -> Drawn
 }
 
 /// Says that one event is left out.
-fn one_left_out(out: &mut String, n: usize) -> Result<(), AllocError>
+fn one_left_out(out: &mut String, n: usize) -> Said
     ensures { OnOk result (string_bytes out.new
         ≡ string_bytes out.old ++ def.one_left_out n) }
 {
@@ -53,14 +53,14 @@ fn one_left_out(out: &mut String, n: usize) -> Result<(), AllocError>
 }
 
 /// Says that the events from one number to another are left out.
-fn some_left_out(out: &mut String, first: usize, last: usize) -> Result<(), AllocError>
+fn some_left_out(out: &mut String, first: usize, last: usize) -> Said
     ensures { OnOk result (string_bytes out.new
         ≡ string_bytes out.old ++ def.some_left_out first last) }
 {
     writeln!(out, " (events {first} to {last} left out)")
 }
 
-fn left_out_words(out: &mut String, first: usize, last: usize) -> Result<(), AllocError>
+fn left_out_words(out: &mut String, first: usize, last: usize) -> Said
     ensures { OnOk result (string_bytes out.new
         ≡ string_bytes out.old ++ def.left_out_words first last) }
 {
@@ -72,7 +72,7 @@ fn left_out_words(out: &mut String, first: usize, last: usize) -> Result<(), All
 }
 
 /// Says that the first events are left out.
-fn earlier_words(out: &mut String, before: usize) -> Result<(), AllocError>
+fn earlier_words(out: &mut String, before: usize) -> Said
     ensures { OnOk result (string_bytes out.new
         ≡ string_bytes out.old ++ def.earlier_words before) }
 {
@@ -83,7 +83,7 @@ fn earlier_words(out: &mut String, before: usize) -> Result<(), AllocError>
 }
 
 /// Says that the events after this one are left out.
-fn later_words(out: &mut String, last: usize, all: usize) -> Result<(), AllocError>
+fn later_words(out: &mut String, last: usize, all: usize) -> Said
     requires { last ≤ all }
     ensures { OnOk result (string_bytes out.new
         ≡ string_bytes out.old ++ def.later_words last all) }
@@ -99,7 +99,7 @@ fn later_words(out: &mut String, last: usize, all: usize) -> Result<(), AllocErr
 /// # Errors
 ///
 /// Memory ran out; `out` may then have a part of it.
-pub fn left_out(out: &mut String, drawn: Drawn) -> Result<(), AllocError>
+pub fn left_out(out: &mut String, drawn: Drawn) -> Said
     requires { drawn.last ≤ drawn.all }
     ensures { OnOk result (string_bytes out.new ≡ string_bytes out.old ++ def.left_out drawn) }
 {

@@ -6,7 +6,7 @@ ghost use Rattle.look_drawing.specs.Words as def;
 
 use crate::place::word_line;
 use crate::writing::text_at;
-use std::alloc::AllocError;
+use look_lines::Said;
 use sts_code::{Instr, Program};
 use sts_frames::instr_at;
 use sts_world::Records;
@@ -37,12 +37,7 @@ pub(crate) fn next_word(program: &Program, records: &Records, t: u32) -> Option<
 }
 
 /// The word over the dot of a step.
-pub(crate) fn step_word(
-    out: &mut String,
-    x: u128,
-    t: u32,
-    word: Option<&str>,
-) -> Result<(), AllocError>
+pub(crate) fn step_word(out: &mut String, x: u128, t: u32, word: Option<&str>) -> Said
     ensures { OnOk result (string_bytes out.new ≡ string_bytes out.old
         ++ def.step_word x t (option_map (λ word. word.now) word.entry)) }
 {

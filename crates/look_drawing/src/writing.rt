@@ -5,13 +5,14 @@ ghost use Rattle.std.specs.String.{string_bytes};
 ghost use Rattle.look_drawing.specs.Writing as def;
 
 use crate::marks::Mark;
+use look_lines::Said;
 use std::alloc::{AllocError, Global};
 use std::cmp;
 use std::fmt::Write;
 
 /// A mark at a point, up to the words that describe it.
 #[tactic(auto, unfolding(crate::specs::Writing::mark_start))]
-pub(crate) fn mark_start(out: &mut String, mark: Mark, x: u128, y: u64) -> Result<(), AllocError>
+pub(crate) fn mark_start(out: &mut String, mark: Mark, x: u128, y: u64) -> Said
     ensures { OnOk result (string_bytes out.new
         ≡ string_bytes out.old ++ def.mark_start mark x y) }
 {
@@ -20,20 +21,14 @@ pub(crate) fn mark_start(out: &mut String, mark: Mark, x: u128, y: u64) -> Resul
     write!(out, "{begins} d='M{x} {y}{shape}'><title>")
 }
 
-pub(crate) fn mark_end(out: &mut String) -> Result<(), AllocError>
+pub(crate) fn mark_end(out: &mut String) -> Said
     ensures { OnOk result (string_bytes out.new ≡ string_bytes out.old ++ def.mark_end) }
 {
     writeln!(out, "</title></path>")
 }
 
 /// A mark at a point, described by these words.
-pub(crate) fn mark_at(
-    out: &mut String,
-    mark: Mark,
-    x: u128,
-    y: u64,
-    words: &str,
-) -> Result<(), AllocError>
+pub(crate) fn mark_at(out: &mut String, mark: Mark, x: u128, y: u64, words: &str) -> Said
     ensures { OnOk result (string_bytes out.new
         ≡ string_bytes out.old ++ def.mark_at mark x y words.now) }
 {
@@ -48,7 +43,7 @@ pub(crate) fn mark_at(
 ///
 /// Memory ran out; `out` may then have a part of it.
 #[tactic(auto, unfolding(crate::specs::Writing::text_start))]
-pub fn text_start(out: &mut String, class: &str, x: u128, y: u64) -> Result<(), AllocError>
+pub fn text_start(out: &mut String, class: &str, x: u128, y: u64) -> Said
     ensures { OnOk result (string_bytes out.new
         ≡ string_bytes out.old ++ def.text_start class.now x y) }
 {
@@ -60,20 +55,14 @@ pub fn text_start(out: &mut String, class: &str, x: u128, y: u64) -> Result<(), 
 /// # Errors
 ///
 /// Memory ran out; `out` may then have a part of it.
-pub fn text_end(out: &mut String) -> Result<(), AllocError>
+pub fn text_end(out: &mut String) -> Said
     ensures { OnOk result (string_bytes out.new ≡ string_bytes out.old ++ def.text_end) }
 {
     writeln!(out, "</text>")
 }
 
 /// These words as a text of a class at a point.
-pub(crate) fn text_at(
-    out: &mut String,
-    class: &str,
-    x: u128,
-    y: u64,
-    words: &str,
-) -> Result<(), AllocError>
+pub(crate) fn text_at(out: &mut String, class: &str, x: u128, y: u64, words: &str) -> Said
     ensures { OnOk result (string_bytes out.new
         ≡ string_bytes out.old ++ def.text_at class.now x y words.now) }
 {
@@ -83,7 +72,7 @@ pub(crate) fn text_at(
 }
 
 /// A character of a text, or its escape.
-fn escape_char(out: &mut String, c: char) -> Result<(), AllocError>
+fn escape_char(out: &mut String, c: char) -> Said
     ensures { OnOk result (string_bytes out.new ≡ string_bytes out.old ++ def.escaped_char c) }
 {
     if c == '<' {
@@ -102,7 +91,7 @@ fn escape_char(out: &mut String, c: char) -> Result<(), AllocError>
 /// # Errors
 ///
 /// Memory ran out; `out` may then have a part of it.
-pub fn escape_words(out: &mut String, text: &str) -> Result<(), AllocError>
+pub fn escape_words(out: &mut String, text: &str) -> Said
     ensures { OnOk result (string_bytes out.new
         ≡ string_bytes out.old ++ def.escaped_words text.now) }
 {
@@ -113,7 +102,7 @@ pub fn escape_words(out: &mut String, text: &str) -> Result<(), AllocError>
 }
 
 /// A text of one byte for each character, with the escapes that XML needs.
-pub(crate) fn escape(out: &mut String, text: &[u8]) -> Result<(), AllocError>
+pub(crate) fn escape(out: &mut String, text: &[u8]) -> Said
     ensures { OnOk result (string_bytes out.new ≡ string_bytes out.old ++ def.escaped text.now) }
 {
     for byte in text {
@@ -127,7 +116,7 @@ pub(crate) fn escape(out: &mut String, text: &[u8]) -> Result<(), AllocError>
 /// # Errors
 ///
 /// Memory ran out; `out` may then have a part of it.
-pub fn escaped_line(out: &mut String, text: &[u8]) -> Result<(), AllocError>
+pub fn escaped_line(out: &mut String, text: &[u8]) -> Said
     ensures { OnOk result (string_bytes out.new
         ≡ string_bytes out.old ++ def.escaped_line text.now) }
 {
@@ -155,6 +144,18 @@ pub struct Room {
     pub size: u32,
 }
 
+/// The room for a number above its column.
+pub(crate) const NUMBER_ROOM: Room = Room {
+    letters: 3,
+    size: 10,
+};
+
+/// The room for a value to the right of the last column.
+pub(crate) const VALUE_ROOM: Room = Room {
+    letters: 21,
+    size: 11,
+};
+
 /// The size of letters that are more than a room has: so small that they fit, but at least a pixel.
 fn small(letters: usize, room: Room) -> u64
     requires { 0 < letters }
@@ -166,14 +167,14 @@ fn small(letters: usize, room: Room) -> u64
 
 /// The attribute of a size of letters.
 #[tactic(auto, unfolding(crate::specs::Writing::sized))]
-fn say_size(out: &mut String, size: u64) -> Result<(), AllocError>
+fn say_size(out: &mut String, size: u64) -> Said
     ensures { OnOk result (string_bytes out.new ≡ string_bytes out.old ++ def.sized size) }
 {
     write!(out, " style='font-size:{size}px'")
 }
 
 /// The attribute of words of more letters than their room has: they are written smaller.
-fn shrink(out: &mut String, letters: usize, room: Room) -> Result<(), AllocError>
+fn shrink(out: &mut String, letters: usize, room: Room) -> Said
     ensures { OnOk result (string_bytes out.new
         ≡ string_bytes out.old ++ def.shrunk letters room) }
 {
@@ -185,7 +186,7 @@ fn shrink(out: &mut String, letters: usize, room: Room) -> Result<(), AllocError
 
 /// A text of a class at a point, before its further attributes.
 #[tactic(auto, unfolding(crate::specs::Writing::text_place))]
-fn text_place(out: &mut String, class: &str, x: u128, y: u64) -> Result<(), AllocError>
+fn text_place(out: &mut String, class: &str, x: u128, y: u64) -> Said
     ensures { OnOk result (string_bytes out.new
         ≡ string_bytes out.old ++ def.text_place class.now x y) }
 {
@@ -200,7 +201,7 @@ pub(crate) fn fitted_start(
     y: u64,
     letters: usize,
     room: Room,
-) -> Result<(), AllocError>
+) -> Said
     ensures { OnOk result (string_bytes out.new
         ≡ string_bytes out.old ++ def.fitted_start class.now x y letters room) }
 {
@@ -214,14 +215,7 @@ pub(crate) fn fitted_start(
 /// # Errors
 ///
 /// Memory ran out; `out` may then have a part of it.
-pub fn fitted_text(
-    out: &mut String,
-    class: &str,
-    x: u128,
-    y: u64,
-    words: &[u8],
-    room: Room,
-) -> Result<(), AllocError>
+pub fn fitted_text(out: &mut String, class: &str, x: u128, y: u64, words: &[u8], room: Room) -> Said
     ensures { OnOk result (string_bytes out.new
         ≡ string_bytes out.old ++ def.fitted_text class.now x y words.now room) }
 {

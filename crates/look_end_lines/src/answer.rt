@@ -1,8 +1,17 @@
-//! What a search found, and what else its listing shows.
+//! What a search or random schedules found, and what else their listing shows.
 
 use ends_plain::config::{Found, Setting};
+use ends_plain::sample::Sample;
 use look_names::Names;
+use look_run::Told;
 use std::alloc::Global;
+
+/// The program of an end, and the end's place, which is counted from 0.
+#[derive(Clone, Copy)]
+pub struct At<'a, 't> {
+    pub told: Told<'a, 't>,
+    pub place: usize,
+}
 
 /// The ends of a program, as far as they were found.
 #[derive(Drop)]
@@ -27,4 +36,14 @@ pub struct Searched<'a, 't> {
     pub is_refused: bool,
     pub number: Option<u32>,
     pub ends: &'a Answer,
+}
+
+/// Random schedules of a program, the number of the end that is asked for, and the ends.
+#[derive(Clone, Copy)]
+pub struct Sampled<'a, 't> {
+    pub told: Told<'a, 't>,
+    pub schedules: u32,
+    pub seed: u32,
+    pub number: Option<u32>,
+    pub sample: &'a Sample,
 }

@@ -3,6 +3,7 @@
 ghost use Rattle.std.specs.Prelude.{◌≡◌, ◌++◌, OnOk};
 ghost use Rattle.look_end_lines.specs.Calls as def;
 
+use crate::answer::At;
 use crate::lines::say_head;
 use look_calls::{CallEnd, CallsFound};
 use look_names::{say_arguments, say_function};
@@ -40,22 +41,16 @@ fn say_unheard(out: &mut Vec<u8>, is_heard: bool) -> Said
 }
 
 /// `K after N events: charge(10): unheard success 10`
-fn say_call_line(
-    alloc: Global,
-    out: &mut Vec<u8>,
-    told: Told<'_, '_>,
-    place: usize,
-    call: &CallEnd,
-) -> Said
-    ensures { OnOk result (out.new.items ≡ out.old.items
-        ++ def.call_line told.entry.names.now told.entry.program.now place call.now) }
+fn say_call_line(alloc: Global, out: &mut Vec<u8>, at: At<'_, '_>, call: &CallEnd) -> Said
+    ensures { OnOk result (out.new.items ≡ out.old.items ++ def.call_line
+        at.entry.told.names.now at.entry.told.program.now at.entry.place call.now) }
 {
-    say_head(alloc, out, place, call.trace.len())?;
+    say_head(alloc, out, at.place, call.trace.len())?;
     say(out, ": ")?;
-    say_call(alloc, out, told, call)?;
+    say_call(alloc, out, at.told, call)?;
     say(out, ": ")?;
     say_unheard(out, call.is_heard)?;
-    say_end_line(alloc, out, told.names, call.end)
+    say_end_line(alloc, out, at.told.names, call.end)
 }
 
 /// The lines of the ends of calls, numbered from 1.
@@ -73,7 +68,7 @@ pub(crate) fn say_calls(
         ++ def.call_lines told.entry.names.now told.entry.program.now found.now 0) }
 {
     for k in 0..found.len() {
-        say_call_line(alloc, out, told, k, &found[k])?;
+        say_call_line(alloc, out, At { told, place: k }, &found[k])?;
     }
     Ok(())
 }

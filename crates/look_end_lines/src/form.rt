@@ -2,22 +2,23 @@
 
 ghost use Rattle.std.specs.Prelude.{◌≡◌, ◌++◌, IfOk, OnOk, Ok};
 ghost use Rattle.sts_asm.specs.Text.{judged};
-ghost use Rattle.look_refusal.specs.Stops.{Gives};
+ghost use Rattle.sts_output.specs.Stops.{Gives};
 ghost use Rattle.look_end_lines.specs.Calls.{calls_lines};
 ghost use Rattle.look_end_lines.specs.Form.{IsFaultIn};
 ghost use Rattle.look_end_lines.specs.InLines as def;
 
-use crate::answer::Searched;
+use crate::answer::{Sampled, Searched};
 use crate::below::{
     say_by_calls, say_no_number, say_refused, say_schedules, say_states, say_unfinished,
 };
 use crate::calls::{Called, say_below, say_calls};
-use crate::lines::{Sampled, say_all, say_shares};
-use look_refusal::{ExplainError, program_of};
+use crate::lines::{say_all, say_shares};
+use look_refusal::{Explanation, program_of};
 use look_run::Told;
 use look_text::Said;
 use std::alloc::{AllocError, Global};
 use sts_code::Program;
+use sts_output::Stopped;
 
 /// What is shown: bytes, if there was memory for them.
 pub type Bytes = Result<Vec<u8>, AllocError>;
@@ -51,7 +52,7 @@ pub trait EndsForm {
             called.entry.calls.now.is_cut_off) };
 
     /// Returns the program of a text, or what is shown of its fault.
-    fn program_of(&self, alloc: Global, text: &[u8]) -> Result<Program, ExplainError>
+    fn program_of(&self, alloc: Global, text: &[u8]) -> Result<Program, Stopped<Explanation>>
         ensures { Gives result (λ p. judged text.now ≡ Ok p)
             (IsFaultIn (shows self.now) text.now) };
 }
@@ -133,7 +134,7 @@ impl EndsForm for EndLines {
         Ok(out)
     }
 
-    fn program_of(&self, alloc: Global, text: &[u8]) -> Result<Program, ExplainError> {
+    fn program_of(&self, alloc: Global, text: &[u8]) -> Result<Program, Stopped<Explanation>> {
         program_of(alloc, text)
     }
 }

@@ -7,9 +7,9 @@ mod calls;
 mod form;
 mod lines;
 
-pub use answer::{Answer, Searched};
+pub use answer::{Answer, At, Sampled, Searched};
 pub use below::{found_at, has_number};
 pub use calls::Called;
 pub use form::{Bytes, EndLines, EndsForm};
-pub use lines::{Sampled, say_found, times_at};
+pub use lines::{say_found, times_at};
 pub use look_run::Told;

@@ -3,21 +3,11 @@
 ghost use Rattle.std.specs.Prelude.{◌≡◌, ◌++◌, OnOk};
 ghost use Rattle.look_end_lines.specs.Lines as def;
 
+use crate::answer::At;
 use ends_plain::config::Found;
-use ends_plain::sample::Sample;
 use look_run::Told;
 use look_text::{Said, say, say_number};
 use std::alloc::Global;
-
-/// Random schedules of a program, the number of the end that is asked for, and the ends.
-#[derive(Clone, Copy)]
-pub struct Sampled<'a, 't> {
-    pub told: Told<'a, 't>,
-    pub schedules: u32,
-    pub seed: u32,
-    pub number: Option<u32>,
-    pub sample: &'a Sample,
-}
 
 /// `K after N events`
 pub(crate) fn say_head(alloc: Global, out: &mut Vec<u8>, place: usize, events: usize) -> Said
@@ -33,19 +23,13 @@ pub(crate) fn say_head(alloc: Global, out: &mut Vec<u8>, place: usize, events: u
 /// # Errors
 ///
 /// Memory was refused; a part of the line may then be in `out`.
-pub fn say_found(
-    alloc: Global,
-    out: &mut Vec<u8>,
-    told: Told<'_, '_>,
-    place: usize,
-    one: &Found,
-) -> Said
-    ensures { OnOk result (out.new.items ≡ out.old.items
-        ++ def.found_line told.entry.names.now told.entry.program.now place one.now) }
+pub fn say_found(alloc: Global, out: &mut Vec<u8>, at: At<'_, '_>, one: &Found) -> Said
+    ensures { OnOk result (out.new.items ≡ out.old.items ++ def.found_line
+        at.entry.told.names.now at.entry.told.program.now at.entry.place one.now) }
 {
-    say_head(alloc, out, place, one.trace.len())?;
+    say_head(alloc, out, at.place, one.trace.len())?;
     say(out, ": ")?;
-    told.say_state(alloc, out, one.end)
+    at.told.say_state(alloc, out, one.end)
 }
 
 /// The lines of the ends, numbered from 1.
@@ -58,7 +42,7 @@ pub(crate) fn say_all(alloc: Global, out: &mut Vec<u8>, told: Told<'_, '_>, foun
         ++ def.found_lines told.entry.names.now told.entry.program.now found.now 0) }
 {
     for k in 0..found.len() {
-        say_found(alloc, out, told, k, &found[k])?;
+        say_found(alloc, out, At { told, place: k }, &found[k])?;
     }
     Ok(())
 }
@@ -76,19 +60,18 @@ fn say_share(alloc: Global, out: &mut Vec<u8>, times: u64, schedules: u32) -> Sa
 fn say_sampled(
     alloc: Global,
     out: &mut Vec<u8>,
-    told: Told<'_, '_>,
-    place: usize,
+    at: At<'_, '_>,
     one: &Found,
     times: u64,
     schedules: u32,
 ) -> Said
-    ensures { OnOk result (out.new.items ≡ out.old.items
-        ++ def.sampled_line told.entry.names.now told.entry.program.now place one.now times
+    ensures { OnOk result (out.new.items ≡ out.old.items ++ def.sampled_line
+        at.entry.told.names.now at.entry.told.program.now at.entry.place one.now times
         schedules) }
 {
-    say_head(alloc, out, place, one.trace.len())?;
+    say_head(alloc, out, at.place, one.trace.len())?;
     say_share(alloc, out, times, schedules)?;
-    told.say_state(alloc, out, one.end)
+    at.told.say_state(alloc, out, one.end)
 }
 
 /// How often the end at a place came.
@@ -119,15 +102,8 @@ pub(crate) fn say_shares(
         schedules 0) }
 {
     for k in 0..found.len() {
-        say_sampled(
-            alloc,
-            out,
-            told,
-            k,
-            &found[k],
-            times_at(times, k),
-            schedules,
-        )?;
+        let at = At { told, place: k };
+        say_sampled(alloc, out, at, &found[k], times_at(times, k), schedules)?;
     }
     Ok(())
 }

@@ -4,7 +4,7 @@ ghost use Rattle.std.specs.Prelude.{◌≡◌, IfOk};
 
 use ends_plain::config::{Found, Setting};
 use ends_plain::exploration::Exploration;
-use look_end_lines::say_found;
+use look_end_lines::{At, say_found};
 use look_host::Progress;
 use look_names::Names;
 use look_run::Told;
@@ -25,7 +25,8 @@ fn say_new(
 ) -> Said {
     for one in found {
         if !reported.contains(&one.end) {
-            say_found(alloc, out, told, reported.len(), one)?;
+            let place = reported.len();
+            say_found(alloc, out, At { told, place }, one)?;
             reported.push(one.end)?;
         }
     }

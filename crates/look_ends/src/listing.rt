@@ -21,12 +21,13 @@ use look_end_lines::{Answer, EndLines, EndsForm, Sampled, Searched, found_at, ha
 use look_host::Progress;
 use look_names::Names;
 use look_options::{EndsOptions, Limits, Manner};
-use look_refusal::{ExplainError, Explanation};
+use look_refusal::Explanation;
 use look_run::Told;
 use std::alloc::{AllocError, Global};
 use std::marker::Model;
 use sts_code::Program;
 use sts_model::Event;
+use sts_output::Stopped;
 
 /// The status where an answer is not about all schedules, or an end that was asked for isn't there.
 pub(crate) const STATUS_PART: u8 = 5;
@@ -271,8 +272,8 @@ pub fn listed_in<F: EndsForm, P: Progress>(
 {
     match form.program_of(alloc, text) {
         Ok(program) => of_program(alloc, form, program, wanted, number, text, progress),
-        Err(ExplainError::Shown(output)) => Ok(alone(alloc, output)),
-        Err(ExplainError::Memory) => Err(AllocError),
+        Err(Stopped::Shown(output)) => Ok(alone(alloc, output)),
+        Err(Stopped::Memory) => Err(AllocError),
     }
 }
 

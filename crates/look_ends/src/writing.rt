@@ -14,7 +14,7 @@ use std::alloc::Global;
 use std::io;
 use std::io::Write;
 use sts_model::Event;
-use sts_output::{TakeError, WriteFailed, failed, written};
+use sts_output::{Status, TakeError, failed, written};
 use sts_trace::write_trace;
 
 /// Finds the ends of a text, writes what is shown of them in a form, and returns the status.
@@ -31,7 +31,7 @@ pub fn write_ends_in<F: EndsForm, P: Progress, W: Write>(
     text: &[u8],
     progress: &mut P,
     out: &mut W,
-) -> Result<u8, WriteFailed>
+) -> Status
     ensures { IfOk result (λ s. (o : def.Listing)
         × def.IsListingIn (F.shows form.now) wanted None text.now o
         × cli.Writes (W.contents out.old) (W.contents out.new) s o.output) }
@@ -53,7 +53,7 @@ pub fn write_ends<P: Progress, W: Write>(
     text: &[u8],
     progress: &mut P,
     out: &mut W,
-) -> Result<u8, WriteFailed>
+) -> Status
     ensures { IfOk result (λ s. (o : def.Listing) × def.IsListingOf wanted None text.now o
         × cli.Writes (W.contents out.old) (W.contents out.new) s o.output) }
 {
@@ -80,7 +80,7 @@ pub fn write_listing<T: Write, W: Write>(
     trace: &mut T,
     out: &mut W,
     unwritten: &mut Option<io::Error>,
-) -> Result<u8, WriteFailed>
+) -> Status
     ensures { IfOk result (λ s. def.ListingWrites (record {
       trace_old = T.contents trace.old;
       trace_new = T.contents trace.new;

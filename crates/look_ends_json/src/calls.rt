@@ -7,12 +7,12 @@ ghost use Rattle.look_views.specs.Views.{line};
 ghost use Rattle.look_ends_json.specs.Calls as def;
 ghost use Rattle.look_ends_json.specs.Outcome.{missing};
 
-use crate::outcome::{Made, ended, missing, push_made};
+use crate::outcome::{ended, missing};
 use look_calls::CallEnd;
-use look_cases::{Scalar, object_of, widened, with_list, with_member};
+use look_cases::{Made, Scalar, object_of, widened, with_list, with_member};
 use look_end_lines::{Called, Told};
 use look_names::Said;
-use look_views::{VERSION, integers, with_name};
+use look_views::{VERSION, integers, push_made, with_name};
 use std::alloc::Global;
 use sts_code::{Program, name_of};
 

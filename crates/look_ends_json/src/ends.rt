@@ -12,17 +12,18 @@ ghost use Rattle.look_ends_json.specs.Ends as def;
 ghost use Rattle.look_ends_json.specs.Outcome.{missing};
 
 use crate::calls::say_calls;
-use crate::outcome::{Made, ended, missing, push_made};
+use crate::outcome::{ended, missing};
 use ends_plain::config::Found;
-use look_cases::{Scalar, object_of, widened, with_member};
+use look_cases::{Made, Scalar, object_of, value_of, widened, with_member};
 use look_end_lines::{Bytes, Called, EndsForm, Sampled, Searched, Told, times_at};
 use look_names::Said;
-use look_refusal::{ExplainError, Explanation};
-use look_views::{VERSION, faulty_text, line_at, placed};
+use look_refusal::Explanation;
+use look_views::{VERSION, faulty_text, line_at, placed, push_made};
 use std::alloc::{AllocError, Global};
 use sts_asm::{AsmError, assemble};
 use sts_code::{Program, name_of};
 use sts_model::Fault;
+use sts_output::Stopped;
 use sts_output::printed::fault_word;
 use sts_plain::PlainState;
 
@@ -126,16 +127,9 @@ fn sampled_end(alloc: Global, told: Told<'_, '_>, place: usize, found: &Found, t
     ensures { IfOk result (λ v. view v
         ≡ def.sampled_end told.entry.names.now told.entry.program.now place found.now times) }
 {
-    let value = object_of(
-        alloc,
-        &[
-            ("after", Scalar::Count(found.trace.len() as u64)),
-            ("end", Scalar::Count((place + 1) as u64)),
-            ("times", Scalar::Count(times)),
-            ("version", Scalar::Count(VERSION)),
-        ],
-    );
-    with_member(alloc, value, "run", run(alloc, told, found.end))
+    let value = found_end(alloc, told, place, found);
+    let count = value_of(alloc, Scalar::Count(times));
+    with_member(alloc, value, "times", count)
 }
 
 fn say_sampled_end(
@@ -280,10 +274,10 @@ impl EndsForm for JsonEnds {
         Ok(out.into_bytes())
     }
 
-    fn program_of(&self, alloc: Global, text: &[u8]) -> Result<Program, ExplainError> {
+    fn program_of(&self, alloc: Global, text: &[u8]) -> Result<Program, Stopped<Explanation>> {
         match assemble(alloc, text) {
             Ok(program) => Ok(program),
-            Err(error) => Err(ExplainError::Shown(fault_shown(alloc, error)?)),
+            Err(error) => Err(Stopped::Shown(fault_shown(alloc, error)?)),
         }
     }
 }

@@ -1,3 +1,2 @@
 mod AnswerFloats
 mod Plain
-mod WrittenLemmas

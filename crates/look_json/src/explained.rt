@@ -1,27 +1,27 @@
 //! What is wrong with a text, as lines of JSON.
 
-ghost use Rattle.std.specs.Prelude.{◌≡◌, ◌≢◌, ◌++◌, IfOk, OnOk, Some, false};
+ghost use Rattle.std.specs.Prelude.{◌≡◌, ◌++◌, IfOk, OnOk, Some, false};
 ghost use Rattle.std.specs.String.{string_bytes};
 ghost use Rattle.serde_json.specs.View.{view};
 ghost use Rattle.serde_json.specs.Written.{has_float};
 ghost use Rattle.sts_output.specs.Output as cli;
 ghost use Rattle.sts_text.specs.Words.{lines};
 ghost use Rattle.look_cases.specs.Answer.{IsAnswer};
-ghost use Rattle.look_refusal.specs.Output.{IsExplanation};
 ghost use Rattle.look_views.specs.Views.{line};
 ghost use Rattle.look_json.specs.Explained as def;
 
-use crate::lines::{Said, text_of};
-use look_cases::{Case, answer};
-use look_refusal::{Explanation, explain};
-use look_views::{VERSION, push_line};
+use crate::lines::text_of;
+use look_cases::{Case, Made, answer};
+use look_lines::Said;
+use look_refusal::{Explanation, explanation_of, whole};
+use look_views::{VERSION, push_line, push_made};
 use serde_json::{Value, json};
 use std::alloc::{AllocError, Global};
 use std::io::Write;
-use sts_output::{Output, STATUS_OUTSIDE, TakeError, WriteFailed, failed, written};
+use sts_output::{Output, Status, TakeError, failed, written};
 use sts_text::cut_at_newline;
 
-fn said(alloc: Global, words: &[u8]) -> Result<Value, AllocError>
+fn said(alloc: Global, words: &[u8]) -> Made
     ensures { IfOk result (λ v. view v ≡ def.said words.now) }
 {
     let words = text_of(words)?;
@@ -32,8 +32,8 @@ fn say_filled(alloc: Global, out: &mut String, words: &[u8]) -> Said
     ensures { OnOk result (string_bytes out.new
         ≡ string_bytes out.old ++ line (def.said words.now)) }
 {
-    let value = said(alloc, words)?;
-    push_line(alloc, out, &value)
+    let value = said(alloc, words);
+    push_made(alloc, out, value)
 }
 
 fn say_said(alloc: Global, out: &mut String, words: &[u8]) -> Said
@@ -69,31 +69,8 @@ fn say_explained(alloc: Global, out: &mut String, words: &[u8]) -> Said
     }
 }
 
-/// What `explain` prints of a text.
-fn explained(alloc: Global, text: &[u8]) -> Result<Explanation, AllocError>
-    ensures { IfOk result (λ o. IsExplanation text.now o) }
-{
-    let mut bytes = Vec::new(alloc);
-    match explain(alloc, text, &mut bytes) {
-        Ok(status) => Ok(Explanation { bytes, status }),
-        Err(_) => Err(AllocError),
-    }
-}
-
-/// The output, unless it says that memory ran out.
-pub(crate) fn whole(told: Explanation) -> Result<Explanation, AllocError>
-    ensures same { IfOk result (λ o. o ≡ told) }
-    ensures whole { IfOk result (λ o. o.status ≢ 6) }
-{
-    if told.status == STATUS_OUTSIDE {
-        Err(AllocError)
-    } else {
-        Ok(told)
-    }
-}
-
 /// The answer to a text as a case.
-fn answered(alloc: Global, text: &[u8]) -> Result<Value, AllocError>
+fn answered(alloc: Global, text: &[u8]) -> Made
     ensures { IfOk result (λ v. IsAnswer 1 (Some (def.case_of text.now)) (view v)) }
 {
     answer(alloc, 1, Some(Case { text, trace: None }))
@@ -123,7 +100,7 @@ fn said_by(alloc: Global, answer: &Value, told: &Explanation) -> Result<String, 
 fn said_of(alloc: Global, text: &[u8]) -> Result<Output, AllocError>
     ensures { IfOk result (λ o. def.IsExplained text.now o) }
 {
-    let printed = explained(alloc, text)?;
+    let printed = explanation_of(alloc, text)?;
     let told = whole(printed)?;
     let value = answered(alloc, text)?;
     let said = said_by(alloc, &value, &told)?;
@@ -138,7 +115,7 @@ fn said_of(alloc: Global, text: &[u8]) -> Result<Output, AllocError>
 /// # Errors
 ///
 /// A write failed.
-pub fn write_explained<W: Write>(alloc: Global, text: &[u8], out: &mut W) -> Result<u8, WriteFailed>
+pub fn write_explained<W: Write>(alloc: Global, text: &[u8], out: &mut W) -> Status
     ensures { IfOk result (λ s. (o : cli.Output) × def.IsExplainedBy text.now o
         × cli.Writes (W.contents out.old) (W.contents out.new) s o) }
 {

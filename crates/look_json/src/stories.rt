@@ -1,8 +1,6 @@
 //! The story of a text's run of a trace as lines of JSON, or the line of a fault.
 
-ghost use Rattle.std.specs.Prelude.{◌≡◌, IfOk};
-ghost use Rattle.std.specs.String.{string_bytes};
-ghost use Rattle.sts_text.specs.Words.{lines};
+ghost use Rattle.std.specs.Prelude.{IfOk};
 ghost use Rattle.sts_asm.specs.Text.{judged};
 ghost use Rattle.sts_trace.specs.Reading.{trace_read};
 ghost use Rattle.sts_output.specs.Output as cli;
@@ -10,16 +8,16 @@ ghost use Rattle.look_tell.specs.Telling.{IsStoryOf};
 ghost use Rattle.look_json.specs.Stories as def;
 
 use crate::asked::StoryOf;
-use crate::explained::{whole, with_status};
-use crate::lines::say_lines;
-use look_refusal::Explanation;
+use crate::explained::with_status;
+use crate::lines::said;
+use look_refusal::{Explanation, whole};
 use look_tell::tell;
 use look_views::{faulty_text, faulty_trace};
 use std::alloc::{AllocError, Global};
 use std::io::Write;
 use sts_asm::assemble;
 use sts_model::Event;
-use sts_output::{Output, TakeError, WriteFailed, failed, written};
+use sts_output::{Output, Status, TakeError, failed, written};
 use sts_trace::read_trace;
 
 /// What `tell` prints.
@@ -32,14 +30,6 @@ fn story_of(alloc: Global, asked: StoryOf<'_>) -> Result<Explanation, AllocError
         Ok(status) => Ok(Explanation { bytes, status }),
         Err(_) => Err(AllocError),
     }
-}
-
-fn said(alloc: Global, events: &[Event], story: &Explanation) -> Result<String, AllocError>
-    ensures { IfOk result (λ s. string_bytes s ≡ def.story_lines events.now (lines story.now.bytes)) }
-{
-    let mut out = String::new(alloc);
-    say_lines(alloc, &mut out, events, story.bytes.as_slice())?;
-    Ok(out)
 }
 
 /// The story of these events, which the trace spells.
@@ -82,11 +72,7 @@ fn told(alloc: Global, asked: StoryOf<'_>) -> Result<Output, AllocError>
 /// # Errors
 ///
 /// A write failed.
-pub fn write_stories<W: Write>(
-    alloc: Global,
-    asked: StoryOf<'_>,
-    out: &mut W,
-) -> Result<u8, WriteFailed>
+pub fn write_stories<W: Write>(alloc: Global, asked: StoryOf<'_>, out: &mut W) -> Status
     ensures { IfOk result (λ s. (o : cli.Output) × def.AreStoriesOf
         asked.entry.options asked.entry.text.now asked.entry.trace.now o
         × cli.Writes (W.contents out.old) (W.contents out.new) s o) }

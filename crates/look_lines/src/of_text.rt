@@ -11,7 +11,7 @@ use std::alloc::{AllocError, Global};
 use std::io::Write;
 use sts_asm::assemble;
 use sts_code::Program;
-use sts_output::{Output, TakeError, WriteFailed, failed, written};
+use sts_output::{Output, Status, TakeError, failed, written};
 use sts_trace::read_trace;
 
 /// Reads the trace, and returns what is shown of the run of the program.
@@ -70,7 +70,7 @@ pub fn write_run<F: Form, W: Write>(
     text: &[u8],
     trace: &[u8],
     out: &mut W,
-) -> Result<u8, WriteFailed>
+) -> Status
     ensures { IfOk result (λ s. (o : Output)
         × def.IsShownOf (F.shows form.now) text.now trace.now o
         × Writes (W.contents out.old) (W.contents out.new) s o) }

@@ -1,54 +1,17 @@
 //! Marked comments, and what a line names.
 
 ghost use Rattle.std.specs.Prelude.{◌≡◌, option_and_then, option_map, true};
-ghost use Rattle.std.specs.List.{after_first, before_first, list_all, position};
-ghost use Rattle.sts_asm.specs.Outline.{is_semicolon};
+ghost use Rattle.std.specs.List.{list_all};
 ghost use Rattle.sts_text.specs.Words.{is_blank};
 ghost use Rattle.look_names.specs.Marked as def;
 
 use std::str;
-use sts_text::{Words, number};
-
-fn semicolon_in(line: &[u8]) -> Option<usize>
-    ensures { result ≡ position is_semicolon line.now }
-{
-    line.iter().position(|b| *b == b';')
-}
-
-/// The parts before and after the first semicolon, or the whole line and nothing.
-#[tactic(auto, using(sts_text::proofs::WordLemmas::positions))]
-fn cut_at_semicolon(line: &[u8]) -> (&[u8], &[u8])
-    ensures front { result.0.now ≡ before_first is_semicolon line.now }
-    ensures back { result.1.now ≡ after_first is_semicolon line.now }
-{
-    match semicolon_in(line) {
-        Some(end) => (&line[..end], &line[end + 1..]),
-        None => (line, &[]),
-    }
-}
+use sts_text::{Words, cut_at, cut_at_blank, number};
 
 fn is_blank(b: u8) -> bool
     ensures { result ≡ is_blank b }
 {
     matches!(b, b' ' | b'\t' | b'\r')
-}
-
-fn blank_in(bytes: &[u8]) -> Option<usize>
-    ensures { result ≡ position is_blank bytes.now }
-{
-    bytes.iter().position(|b| is_blank(*b))
-}
-
-/// The parts before and after the first blank, or all bytes and nothing.
-#[tactic(auto, using(sts_text::proofs::WordLemmas::positions))]
-fn cut_at_blank(bytes: &[u8]) -> (&[u8], &[u8])
-    ensures front { result.0.now ≡ before_first is_blank bytes.now }
-    ensures back { result.1.now ≡ after_first is_blank bytes.now }
-{
-    match blank_in(bytes) {
-        Some(end) => (&bytes[..end], &bytes[end + 1..]),
-        None => (bytes, &[]),
-    }
 }
 
 /// The bytes of a comment after its mark, if it has one.
@@ -65,7 +28,7 @@ fn behind_mark(comment: &[u8]) -> Option<&[u8]>
 fn marked(line: &[u8]) -> Option<&[u8]>
     ensures { option_map (λ b. b.now) result ≡ def.marked line.now }
 {
-    behind_mark(cut_at_semicolon(line).1)
+    behind_mark(cut_at(line, b';').1)
 }
 
 fn begun(bytes: &[u8]) -> &[u8]
@@ -131,7 +94,7 @@ pub(crate) fn name_in(line: &[u8]) -> Option<&str>
 pub(crate) fn begins_function(line: &[u8]) -> bool
     ensures { result ≡ def.begins_function line.now }
 {
-    match Words::new(cut_at_semicolon(line).0).word() {
+    match Words::new(cut_at(line, b';').0).word() {
         Some(word) => word == b"func".as_slice(),
         None => false,
     }
@@ -158,7 +121,7 @@ fn marked_value(line: &[u8]) -> Option<(i64, &str)>
 pub(crate) fn value_in(line: &[u8]) -> Option<(i64, &str)>
     ensures { option_map (λ n. (n.0, n.1.now)) result ≡ def.value_in line.now }
 {
-    match Words::new(cut_at_semicolon(line).0).word() {
+    match Words::new(cut_at(line, b';').0).word() {
         Some(_) => None,
         None => marked_value(line),
     }

@@ -1,9 +1,8 @@
 //! The names of a text's lines, functions and values.
 
-ghost use Rattle.std.specs.Prelude.{◌≡◌, IfOk, ℤ, filter, map, option_map};
+ghost use Rattle.std.specs.Prelude.{◌≡◌, IfOk, ℤ, filter, map, option_copied, option_map};
 ghost use Rattle.std.specs.BTreeMap.{get};
 ghost use Rattle.std.specs.Ordering.{int_cmp};
-ghost use Rattle.std.specs.Option.{option_copied};
 ghost use Rattle.sts_asm.specs.Source.{sentence_at};
 ghost use Rattle.sts_text.specs.Words.{lines};
 ghost use Rattle.look_names.specs.Marked as marks;

@@ -2,14 +2,13 @@
 
 ghost use Rattle.std.specs.List.{flat_map};
 ghost use Rattle.std.specs.Prelude.{◌≡◌, ◌++◌, OnOk, Some, codes};
-ghost use Rattle.sts_list.specs.Spelling.{after_spaces};
 ghost use Rattle.look_names.specs.Words as def;
 
 use crate::names::Names;
 use std::alloc::{AllocError, Global};
 use sts_asm::Sentence;
 use sts_code::{Program, name_of};
-use sts_text::Words;
+use sts_list::write_words;
 
 /// What a call that appends words returns: memory may run out.
 pub type Said = Result<(), AllocError>;
@@ -137,18 +136,6 @@ pub fn say_place(
     }
 }
 
-/// Appends each word after a space.
-fn say_words<'a>(out: &mut Vec<u8>, words: Words<'a>) -> Said
-    ensures { OnOk result (out.new.items ≡ out.old.items ++ after_spaces words.entry) }
-{
-    let mut left = words;
-    while let Some(word) = left.word() {
-        out.push(b' ')?;
-        out.extend_from_slice(word)?;
-    }
-    Ok(())
-}
-
 fn say_line_and_words(
     alloc: Global,
     out: &mut Vec<u8>,
@@ -160,7 +147,7 @@ fn say_line_and_words(
 {
     say_line(alloc, out, names, sentence.line())?;
     say(out, ":")?;
-    say_words(out, sentence.words())
+    write_words(out, sentence.words())
 }
 
 /// Appends the line of the instruction at a place of a function and its words, or `at its end`.

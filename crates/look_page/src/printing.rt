@@ -13,7 +13,7 @@ use look_places::write_named;
 use look_run::explain_run;
 use look_view::write_view;
 use std::alloc::Global;
-use sts_output::{TextMode, WriteFailed, play_text};
+use sts_output::{Status, TextMode, play_text};
 
 /// The events from the first to the last that a trace may have.
 const ALL: Window = Window {
@@ -47,7 +47,7 @@ pub(crate) fn print(
     text: &[u8],
     trace: &[u8],
     printed: &mut Vec<u8>,
-) -> Result<u8, WriteFailed>
+) -> Status
     ensures { IfOk result (λ s. (o : Output) × Prints asked text.now trace.now o
         × Writes (Some printed.old.items) (Some printed.new.items) s o) }
 {

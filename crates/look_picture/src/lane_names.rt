@@ -5,9 +5,9 @@ ghost use Rattle.std.specs.String.{string_bytes};
 ghost use Rattle.look_picture.specs.LaneNames as def;
 
 use look_drawing::{Room, fitted_text, lane, text_end, text_start};
-use look_lines::under_words;
+use look_lines::{Said, under_words};
 use look_tell::Told;
-use std::alloc::{AllocError, Global};
+use std::alloc::Global;
 use std::fmt::Write;
 use sts_world::Records;
 
@@ -18,7 +18,7 @@ const CALL_ROOM: Room = Room {
 };
 
 /// `task T under S`
-fn task_name(out: &mut String, t: u32, scope: Option<u32>) -> Result<(), AllocError>
+fn task_name(out: &mut String, t: u32, scope: Option<u32>) -> Said
     ensures { OnOk result (string_bytes out.new ≡ string_bytes out.old ++ def.task_name t scope) }
 {
     text_start(out, "name", 196, lane(t))?;
@@ -28,12 +28,7 @@ fn task_name(out: &mut String, t: u32, scope: Option<u32>) -> Result<(), AllocEr
 }
 
 /// The function and the arguments of a task, below the name of its lane.
-fn call_name(
-    alloc: Global,
-    out: &mut String,
-    told: Told<'_, '_, '_, '_>,
-    t: u32,
-) -> Result<(), AllocError>
+fn call_name(alloc: Global, out: &mut String, told: Told<'_, '_, '_, '_>, t: u32) -> Said
     ensures { OnOk result (string_bytes out.new
         ≡ string_bytes out.old ++ def.call_name told.entry.names.now told.entry.story.now t) }
 {
@@ -42,12 +37,7 @@ fn call_name(
     fitted_text(out, "code", 196, lane(t) + 13, called.as_slice(), CALL_ROOM)
 }
 
-fn lane_name(
-    alloc: Global,
-    out: &mut String,
-    told: Told<'_, '_, '_, '_>,
-    t: u32,
-) -> Result<(), AllocError>
+fn lane_name(alloc: Global, out: &mut String, told: Told<'_, '_, '_, '_>, t: u32) -> Said
     ensures { OnOk result (string_bytes out.new
         ≡ string_bytes out.old ++ def.lane_name told.entry.names.now told.entry.story.now t) }
 {
@@ -60,11 +50,7 @@ fn lane_name(
 /// # Errors
 ///
 /// Memory ran out; `out` may then have a part of it.
-pub fn lane_names(
-    alloc: Global,
-    out: &mut String,
-    told: Told<'_, '_, '_, '_>,
-) -> Result<(), AllocError>
+pub fn lane_names(alloc: Global, out: &mut String, told: Told<'_, '_, '_, '_>) -> Said
     ensures { OnOk result (string_bytes out.new ≡ string_bytes out.old
         ++ def.lane_names told.entry.names.now told.entry.story.now
         told.entry.story.now.watched.last.tasks 0) }

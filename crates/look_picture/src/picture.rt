@@ -14,10 +14,10 @@ use crate::lane_names::lane_names;
 use crate::title::{FileNames, say_title};
 use crate::told::event_words;
 use look_drawing::{
-    Drawn, Mark, Present, Seen, backdrop, escaped_line, first_column, foot, head, keys, left_out,
-    maybe_column, shown_events,
+    Drawn, Manner, Mark, Present, Seen, Worded, backdrop, escaped_line, first_column, foot, head,
+    keys, left_out, maybe_column, shown_events,
 };
-use look_lines::{Applied, Form, Run, Watch, after, write_run};
+use look_lines::{Applied, Form, Run, Said, Watch, after, write_run};
 use look_names::Names;
 use look_options::DrawOptions;
 use look_run::say_end;
@@ -27,9 +27,7 @@ use std::io;
 use sts_asm::AsmError;
 use sts_code::Program;
 use sts_model::{End, Event};
-use sts_output::{
-    Output, WriteFailed, state_line, state_status, steps_line, text_fault, trace_fault,
-};
+use sts_output::{Output, Status, state_line, state_status, steps_line, text_fault, trace_fault};
 use sts_plain::PlainState;
 use sts_trace::TraceError;
 
@@ -38,8 +36,7 @@ use sts_trace::TraceError;
 fn event_columns(
     alloc: Global,
     out: &mut String,
-    names: &Names<'_>,
-    brief: bool,
+    manner: Manner<'_, '_>,
     before: &mut Watch<'_>,
     story: &mut Story<'_>,
     present: &mut Present,
@@ -51,16 +48,17 @@ fn event_columns(
     requires listed { present.old ≡ numbers.present before.old.last }
     requires inside { skipped ≤ length events.now }
     ensures told { OnOk result (story.new ≡ after_events before.old.program events.now) }
-    ensures counted { IfOk result (λ n. n ≡ def.count_from names.now brief before.old.program 0
+    ensures counted { IfOk result (λ n. n ≡ def.count_from manner.entry.names.now
+        manner.entry.brief before.old.program 0
         (take skipped events.now) (drop skipped events.now)) }
     ensures drawn { OnOk result (string_bytes out.new ≡ string_bytes out.old
-        ++ def.columns_from names.now brief before.old.program 0 (take skipped events.now)
-        (drop skipped events.now)) }
+        ++ def.columns_from manner.entry.names.now manner.entry.brief before.old.program 0
+        (take skipped events.now) (drop skipped events.now)) }
 {
     let mut columns = 0;
     for i in skipped..events.len() {
         let is_counted = story.counts(events[i]);
-        let words = event_words(alloc, names, story, brief, i + 1, events[i])?;
+        let words = event_words(alloc, manner.names, story, manner.brief, i + 1, events[i])?;
         let watch = story.watch();
         present.add_born(before.world().records(), watch.world().records())?;
         let seen = Seen {
@@ -73,57 +71,17 @@ fn event_columns(
             event: events[i],
             is_counted,
         };
-        let more = maybe_column(
-            alloc,
-            out,
-            names,
-            words.as_str(),
-            seen,
-            brief,
-            columns,
+        let worded = Worded {
+            words: words.as_str(),
             applied,
-        )?;
+            seen,
+        };
+        let more = maybe_column(alloc, out, manner, worded, columns)?;
         columns = more;
         before.apply(alloc, events[i])?;
         present.keep(before.world().records());
     }
     Ok(columns)
-}
-
-/// Draws the column before the first event that has one, and one after each event that has words,
-/// from a machine and a story after the skipped events. Returns the number of those columns.
-fn columns_after(
-    alloc: Global,
-    out: &mut String,
-    names: &Names<'_>,
-    brief: bool,
-    before: &mut Watch<'_>,
-    story: &mut Story<'_>,
-    skipped: usize,
-    events: &[Event],
-) -> Result<usize, AllocError>
-    requires behind { before.old ≡ watched before.old.program (take skipped events.now) }
-    requires told { story.old ≡ after_events before.old.program (take skipped events.now) }
-    requires inside { skipped ≤ length events.now }
-    ensures told { OnOk result (story.new ≡ after_events before.old.program events.now) }
-    ensures counted { IfOk result (λ n. n
-        ≡ def.count names.now brief before.old.program skipped events.now) }
-    ensures drawn { OnOk result (string_bytes out.new ≡ string_bytes out.old
-        ++ def.columns names.now brief before.old.program skipped events.now) }
-{
-    let mut present = Present::of(alloc, before.world().records())?;
-    first_column(alloc, out, names, before, &present)?;
-    event_columns(
-        alloc,
-        out,
-        names,
-        brief,
-        before,
-        story,
-        &mut present,
-        skipped,
-        events,
-    )
 }
 
 /// The story of the events, and how many of them have a column.
@@ -137,8 +95,7 @@ struct Drawing<'p> {
 fn drawn_columns<'p>(
     alloc: Global,
     out: &mut String,
-    names: &Names<'_>,
-    brief: bool,
+    manner: Manner<'_, '_>,
     program: &'p Program,
     before: &mut Watch<'_>,
     skipped: usize,
@@ -148,13 +105,22 @@ fn drawn_columns<'p>(
     requires inside { skipped ≤ length events.now }
     ensures told { IfOk result (λ r. r.story ≡ after_events program.now events.now) }
     ensures counted { IfOk result (λ r. r.count
-        ≡ def.count names.now brief program.now skipped events.now) }
-    ensures drawn { OnOk result (string_bytes out.new
-        ≡ string_bytes out.old ++ def.columns names.now brief program.now skipped events.now) }
+        ≡ def.count manner.entry.names.now manner.entry.brief program.now skipped events.now) }
+    ensures drawn { OnOk result (string_bytes out.new ≡ string_bytes out.old
+        ++ def.columns manner.entry.names.now manner.entry.brief program.now skipped events.now) }
 {
     let mut story = Story::after(alloc, program, &events[..skipped])?;
-    let count = columns_after(
-        alloc, out, names, brief, before, &mut story, skipped, events,
+    let mut present = Present::of(alloc, before.world().records())?;
+    first_column(alloc, out, manner.names, before, &present)?;
+    let count = event_columns(
+        alloc,
+        out,
+        manner,
+        before,
+        &mut story,
+        &mut present,
+        skipped,
+        events,
     )?;
     Ok(Drawing { story, count })
 }
@@ -164,8 +130,7 @@ fn drawn_columns<'p>(
 fn columns<'p>(
     alloc: Global,
     out: &mut String,
-    names: &Names<'_>,
-    brief: bool,
+    manner: Manner<'_, '_>,
     program: &'p Program,
     skipped: usize,
     events: &[Event],
@@ -173,25 +138,16 @@ fn columns<'p>(
     requires { skipped ≤ length events.now }
     ensures told { IfOk result (λ r. r.story ≡ after_events program.now events.now) }
     ensures counted { IfOk result (λ r. r.count
-        ≡ def.count names.now brief program.now skipped events.now) }
-    ensures drawn { OnOk result (string_bytes out.new
-        ≡ string_bytes out.old ++ def.columns names.now brief program.now skipped events.now) }
+        ≡ def.count manner.entry.names.now manner.entry.brief program.now skipped events.now) }
+    ensures drawn { OnOk result (string_bytes out.new ≡ string_bytes out.old
+        ++ def.columns manner.entry.names.now manner.entry.brief program.now skipped events.now) }
 {
     let mut before = after(alloc, program, &events[..skipped])?;
-    drawn_columns(
-        alloc,
-        out,
-        names,
-        brief,
-        program,
-        &mut before,
-        skipped,
-        events,
-    )
+    drawn_columns(alloc, out, manner, program, &mut before, skipped, events)
 }
 
 /// The end of a run, with the name of its value or code.
-fn end_line(alloc: Global, out: &mut String, names: &Names<'_>, end: End) -> Result<(), AllocError>
+fn end_line(alloc: Global, out: &mut String, names: &Names<'_>, end: End) -> Said
     ensures { OnOk result (string_bytes out.new
         ≡ string_bytes out.old ++ def.end_line names.now end) }
 {
@@ -201,12 +157,7 @@ fn end_line(alloc: Global, out: &mut String, names: &Names<'_>, end: End) -> Res
 }
 
 /// The state of the run.
-fn run_line(
-    alloc: Global,
-    out: &mut String,
-    names: &Names<'_>,
-    watch: &Watch<'_>,
-) -> Result<(), AllocError>
+fn run_line(alloc: Global, out: &mut String, names: &Names<'_>, watch: &Watch<'_>) -> Said
     ensures { OnOk result (string_bytes out.new ≡ string_bytes out.old
         ++ def.run_line names.now watch.now.program (shown watch.now.state)) }
 {
@@ -226,7 +177,7 @@ fn say_heading(
     names: &Names<'_>,
     watch: &Watch<'_>,
     drawn: Drawn,
-) -> Result<(), AllocError>
+) -> Said
     requires { drawn.last ≤ drawn.all }
     ensures { OnOk result (string_bytes out.new ≡ string_bytes out.old
         ++ def.heading files.entry names.now watch.now drawn) }
@@ -256,12 +207,7 @@ fn heading(
 }
 
 /// The names of the lanes, and the legend.
-fn below(
-    alloc: Global,
-    out: &mut String,
-    told: Told<'_, '_, '_, '_>,
-    keys: &[Mark],
-) -> Result<(), AllocError>
+fn below(alloc: Global, out: &mut String, told: Told<'_, '_, '_, '_>, keys: &[Mark]) -> Said
     requires { length keys.now ≤ MOST_KEYS }
     ensures { OnOk result (string_bytes out.new
         ≡ string_bytes out.old ++ def.below told.entry.names.now told.entry.story.now keys.now) }
@@ -273,7 +219,9 @@ fn below(
 
 /// These many columns that are drawn, and what their frame is made of.
 #[derive(Clone, Copy)]
-struct Sheet<'s, 't, 'p> {
+struct Sheet<'s, 't, 'p, 'f> {
+    files: Option<FileNames<'f>>,
+    drawn: Drawn,
     names: &'s Names<'t>,
     story: &'s Story<'p>,
     brief: bool,
@@ -286,9 +234,9 @@ fn framed_under(
     alloc: Global,
     out: &mut String,
     heading: &str,
-    sheet: Sheet<'_, '_, '_>,
+    sheet: Sheet<'_, '_, '_, '_>,
     keys: &[Mark],
-) -> Result<(), AllocError>
+) -> Said
     requires { length keys.now ≤ MOST_KEYS }
     ensures { OnOk result (string_bytes out.new ≡ string_bytes out.old
         ++ def.framed_under heading.now sheet.entry.names.now sheet.entry.story.now
@@ -306,39 +254,32 @@ fn framed_under(
 }
 
 /// Puts the columns under the heading, with these keys in the legend.
-fn framed_with(
-    alloc: Global,
-    out: &mut String,
-    files: Option<FileNames<'_>>,
-    drawn: Drawn,
-    sheet: Sheet<'_, '_, '_>,
-    keys: &[Mark],
-) -> Result<(), AllocError>
-    requires ordered { drawn.last ≤ drawn.all }
+fn framed_with(alloc: Global, out: &mut String, sheet: Sheet<'_, '_, '_, '_>, keys: &[Mark]) -> Said
+    requires ordered { sheet.drawn.last ≤ sheet.drawn.all }
     requires few { length keys.now ≤ MOST_KEYS }
     ensures { OnOk result (string_bytes out.new ≡ string_bytes out.old
-        ++ def.framed_with files.entry sheet.entry.names.now sheet.entry.story.now drawn
-        sheet.entry.brief sheet.entry.count sheet.entry.columns.now keys.now) }
+        ++ def.framed_with sheet.entry.files sheet.entry.names.now sheet.entry.story.now
+        sheet.entry.drawn sheet.entry.brief sheet.entry.count sheet.entry.columns.now keys.now) }
 {
-    let words = heading(alloc, files, sheet.names, sheet.story.watch(), drawn)?;
+    let words = heading(
+        alloc,
+        sheet.files,
+        sheet.names,
+        sheet.story.watch(),
+        sheet.drawn,
+    )?;
     framed_under(alloc, out, words.as_str(), sheet, keys)
 }
 
 /// Puts the columns in their frame. The legend has the marks that they have.
-fn framed(
-    alloc: Global,
-    out: &mut String,
-    files: Option<FileNames<'_>>,
-    drawn: Drawn,
-    sheet: Sheet<'_, '_, '_>,
-) -> Result<(), AllocError>
-    requires { drawn.last ≤ drawn.all }
+fn framed(alloc: Global, out: &mut String, sheet: Sheet<'_, '_, '_, '_>) -> Said
+    requires { sheet.drawn.last ≤ sheet.drawn.all }
     ensures { OnOk result (string_bytes out.new ≡ string_bytes out.old
-        ++ def.framed files.entry sheet.entry.names.now sheet.entry.story.now drawn
-        sheet.entry.brief sheet.entry.count sheet.entry.columns.now) }
+        ++ def.framed sheet.entry.files sheet.entry.names.now sheet.entry.story.now
+        sheet.entry.drawn sheet.entry.brief sheet.entry.count sheet.entry.columns.now) }
 {
     let keys = keys(alloc, sheet.columns)?;
-    framed_with(alloc, out, files, drawn, sheet, keys.as_slice())
+    framed_with(alloc, out, sheet, keys.as_slice())
 }
 
 /// The status of the machine's state.
@@ -349,19 +290,14 @@ fn status_of(story: &Story<'_>) -> u8
 }
 
 /// The columns in their frame, and the status of the machine's state.
-fn sheet_output(
-    alloc: Global,
-    files: Option<FileNames<'_>>,
-    drawn: Drawn,
-    sheet: Sheet<'_, '_, '_>,
-) -> Result<Output, AllocError>
-    requires { drawn.last ≤ drawn.all }
+fn sheet_output(alloc: Global, sheet: Sheet<'_, '_, '_, '_>) -> Result<Output, AllocError>
+    requires { sheet.drawn.last ≤ sheet.drawn.all }
     ensures { IfOk result (λ o. o
-        ≡ def.sheet_output files.entry sheet.entry.names.now sheet.entry.story.now drawn
-        sheet.entry.brief sheet.entry.count sheet.entry.columns.now) }
+        ≡ def.sheet_output sheet.entry.files sheet.entry.names.now sheet.entry.story.now
+        sheet.entry.drawn sheet.entry.brief sheet.entry.count sheet.entry.columns.now) }
 {
     let mut text = String::new(alloc);
-    framed(alloc, &mut text, files, drawn, sheet)?;
+    framed(alloc, &mut text, sheet)?;
     Ok(Output {
         text,
         status: status_of(sheet.story),
@@ -372,8 +308,7 @@ fn sheet_output(
 fn picture_of(
     alloc: Global,
     files: Option<FileNames<'_>>,
-    names: &Names<'_>,
-    brief: bool,
+    manner: Manner<'_, '_>,
     program: &Program,
     drawn: Drawn,
     events: &[Event],
@@ -381,26 +316,28 @@ fn picture_of(
     requires skips { drawn.before ≤ length events.now }
     requires ordered { drawn.last ≤ drawn.all }
     ensures { IfOk result (λ o. o
-        ≡ def.drawn_output files.entry names.now brief program.now drawn events.now) }
+        ≡ def.drawn_output files.entry manner.entry.names.now manner.entry.brief program.now drawn
+        events.now) }
 {
     let mut columns_text = String::new(alloc);
     let found = columns(
         alloc,
         &mut columns_text,
-        names,
-        brief,
+        manner,
         program,
         drawn.before,
         events,
     )?;
     let sheet = Sheet {
-        names,
+        files,
+        drawn,
+        names: manner.names,
         story: &found.story,
-        brief,
+        brief: manner.brief,
         count: found.count,
         columns: columns_text.as_str(),
     };
-    sheet_output(alloc, files, drawn, sheet)
+    sheet_output(alloc, sheet)
 }
 
 /// The picture of a run, of a window of its events or of the last ones, with the lines and the names
@@ -419,11 +356,14 @@ impl<'t> Form for Picture<'t> {
     fn of_run(&self, alloc: Global, run: Run<'_>) -> Result<Output, AllocError> {
         let names = Names::read(alloc, self.text)?;
         let shown = shown_events(self.options.window, run.events.len());
+        let manner = Manner {
+            names: &names,
+            brief: self.options.brief,
+        };
         picture_of(
             alloc,
             self.files,
-            &names,
-            self.options.brief,
+            manner,
             run.program,
             shown,
             &run.events[..shown.last],
@@ -454,7 +394,7 @@ pub fn draw<W: io::Write>(
     text: &[u8],
     trace: &[u8],
     out: &mut W,
-) -> Result<u8, WriteFailed>
+) -> Status
     ensures { IfOk result (λ s. (o : cli.Output) × def.IsPictureOf options files.entry text.now trace.now o
         × cli.Writes (W.contents out.old) (W.contents out.new) s o) }
 {

@@ -5,7 +5,7 @@ ghost use Rattle.std.specs.String.{string_bytes};
 ghost use Rattle.look_picture.specs.Title as def;
 
 use look_drawing::escape_words;
-use std::alloc::AllocError;
+use look_lines::Said;
 
 /// The files of a text and of a trace, by the names that a person knows them by.
 #[derive(Clone, Copy)]
@@ -15,7 +15,7 @@ pub struct FileNames<'a> {
 }
 
 /// `sum.sts, sum.trace: `
-fn say_names(out: &mut String, files: FileNames<'_>) -> Result<(), AllocError>
+fn say_names(out: &mut String, files: FileNames<'_>) -> Said
     ensures { OnOk result (string_bytes out.new
         ≡ string_bytes out.old ++ def.names_words files.entry) }
 {
@@ -26,7 +26,7 @@ fn say_names(out: &mut String, files: FileNames<'_>) -> Result<(), AllocError>
 }
 
 /// Appends the names, if the text and the trace are files.
-pub(crate) fn say_title(out: &mut String, files: Option<FileNames<'_>>) -> Result<(), AllocError>
+pub(crate) fn say_title(out: &mut String, files: Option<FileNames<'_>>) -> Said
     ensures { OnOk result (string_bytes out.new
         ≡ string_bytes out.old ++ def.title_words files.entry) }
 {

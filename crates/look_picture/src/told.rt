@@ -6,6 +6,7 @@ ghost use Rattle.look_tell.specs.Story.{next};
 ghost use Rattle.look_picture.specs.Told as def;
 
 use look_drawing::escaped;
+use look_lines::Said;
 use look_names::Names;
 use look_options::TellOptions;
 use look_tell::{Story, Telling};
@@ -22,7 +23,7 @@ fn say_lines(
     brief: bool,
     number: usize,
     event: Event,
-) -> Result<(), AllocError>
+) -> Said
     ensures after { OnOk result (story.new ≡ next false story.old event) }
     ensures said { OnOk result (out.new.items
         ≡ out.old.items ++ def.lines names.now brief number story.old event) }

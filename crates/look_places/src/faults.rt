@@ -10,7 +10,7 @@ use look_text::{
 };
 use std::alloc::{AllocError, Global};
 use sts_asm::{AsmError, AsmKind, Outline};
-use sts_code::{CodeError, Program};
+use sts_code::CodeError;
 use sts_rules::Cause;
 
 /// Why a text has a problem, as its code says it.
@@ -25,15 +25,6 @@ pub(crate) enum Problem {
 pub(crate) struct Finding {
     pub(crate) line: u32,
     pub(crate) problem: Problem,
-}
-
-/// The place of an instruction in a program, and why the program is refused there.
-#[derive(Clone, Copy)]
-pub(crate) struct Refusal<'p> {
-    pub(crate) program: &'p Program,
-    pub(crate) function: u32,
-    pub(crate) pc: u32,
-    pub(crate) cause: Cause,
 }
 
 /// The line of a failed check.

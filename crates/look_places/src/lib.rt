@@ -5,7 +5,6 @@
 //! and `ways` the lines that two ways come from.
 #![tactic(auto)]
 
-mod explained;
 mod faults;
 mod marks;
 mod named;

@@ -1,7 +1,7 @@
 //! A line of a text in the form that editors, `make` and CI jump by.
 
 ghost use Rattle.std.specs.Prelude.{◌≡◌, ◌++◌, OnOk, option_map};
-ghost use Rattle.std.specs.List.{after_first, before_first, position};
+ghost use Rattle.std.specs.List.{position};
 ghost use Rattle.std.specs.Option.{option_copied};
 ghost use Rattle.sts_asm.specs.Source.{line_at as line_of_text};
 ghost use Rattle.look_names.specs.Names.{line_name};
@@ -12,7 +12,7 @@ use look_text::say;
 use std::alloc::Global;
 use std::marker::Model;
 use sts_output::line_at;
-use sts_text::digits_up_to;
+use sts_text::{cut_at, digits_up_to};
 
 /// A text with its names, and the name of its file.
 #[derive(Drop)]
@@ -113,28 +113,10 @@ fn column_at(text: &[u8], line: u32) -> usize
     column_of(line_at(text, u64::from(line)))
 }
 
-fn colon_in(name: &[u8]) -> Option<usize>
-    ensures { result ≡ position def.is_colon name.now }
-{
-    name.iter().position(|b| *b == b':')
-}
-
-/// The parts before and after the first colon, or the whole name and nothing.
-#[tactic(auto, using(sts_text::proofs::WordLemmas::positions))]
-fn cut_at_colon(name: &[u8]) -> (&[u8], &[u8])
-    ensures front { result.0.now ≡ before_first def.is_colon name.now }
-    ensures back { result.1.now ≡ after_first def.is_colon name.now }
-{
-    match colon_in(name) {
-        Some(end) => (&name[..end], &name[end + 1..]),
-        None => (name, &[]),
-    }
-}
-
 fn is_place(name: &[u8]) -> bool
     ensures { result ≡ def.is_place name.now }
 {
-    let (file, line) = cut_at_colon(name);
+    let (file, line) = cut_at(name, b':');
     !file.is_empty() && digits_up_to(line, u32::MAX).is_some()
 }
 

@@ -3,17 +3,16 @@
 ghost use Rattle.std.specs.Prelude.{◌≡◌, ◌++◌, IfOk, OnOk, false};
 ghost use Rattle.std.specs.List.{before_first, position};
 ghost use Rattle.sts_output.specs.Output as cli;
+ghost use Rattle.sts_output.specs.Stops.{Prints};
 ghost use Rattle.sts_text.specs.Words.{lines};
-ghost use Rattle.look_refusal.specs.Stops.{Prints};
 ghost use Rattle.look_places.specs.Named as def;
 
-use crate::explained::explained;
 use look_names::{Names, Said};
-use look_refusal::{ExplainError, Explanation, write_explained};
+use look_refusal::{Explanation, explanation_of, write_explained};
 use look_text::say;
 use std::alloc::{AllocError, Global};
 use std::io::Write;
-use sts_output::WriteFailed;
+use sts_output::{Status, Stopped};
 use sts_text::{Words, cut_at_newline, digits_up_to};
 
 /// The status for a fault of a text.
@@ -153,10 +152,10 @@ fn named_if(alloc: Global, text: &[u8], told: Explanation) -> Result<Explanation
     }
 }
 
-fn named_of(alloc: Global, text: &[u8]) -> Result<Explanation, ExplainError>
+fn named_of(alloc: Global, text: &[u8]) -> Result<Explanation, Stopped<Explanation>>
     ensures { Prints result (def.IsNamed text.now) }
 {
-    let told = explained(alloc, text)?;
+    let told = explanation_of(alloc, text)?;
     Ok(named_if(alloc, text, told)?)
 }
 
@@ -168,7 +167,7 @@ fn named_of(alloc: Global, text: &[u8]) -> Result<Explanation, ExplainError>
 /// # Errors
 ///
 /// A write failed.
-pub fn write_named<W: Write>(alloc: Global, text: &[u8], out: &mut W) -> Result<u8, WriteFailed>
+pub fn write_named<W: Write>(alloc: Global, text: &[u8], out: &mut W) -> Status
     ensures { IfOk result (λ s. (o : cli.Output) × def.IsNamedExplanation text.now o
         × cli.Writes (W.contents out.old) (W.contents out.new) s o) }
 {

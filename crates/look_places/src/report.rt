@@ -1,32 +1,30 @@
 //! Reports what is wrong with a text, if anything is, by its lines.
 
-ghost use Rattle.std.specs.Prelude.{◌≡◌, ◌≢◌, IfOk, Result, Err};
+ghost use Rattle.std.specs.Prelude.{◌≡◌, IfOk, Result, Err};
 ghost use Rattle.sts_asm.specs.Fault.{FailsAt};
 ghost use Rattle.sts_asm.specs.Text.{judged};
 ghost use Rattle.sts_asm.specs.declared.fault.AsmError.{AsmError};
 ghost use Rattle.sts_code.specs.Program.{Program as AnyProgram};
 ghost use Rattle.sts_output.specs.Output as cli;
+ghost use Rattle.sts_output.specs.Stops.{Prints};
 ghost use Rattle.sts_rules.specs.Refusal.{IsAccepted, IsRefusal};
 ghost use Rattle.sts_text.specs.Words.{lines};
 ghost use Rattle.look_text.specs.Lines.{fault_lines as lines_of_fault};
-ghost use Rattle.look_refusal.specs.Stops.{Prints};
 ghost use Rattle.look_places.specs.Faults.{code, refusal_code};
 ghost use Rattle.look_places.specs.Marks.{line_of};
 ghost use Rattle.look_places.specs.Reports as def;
 
-use crate::explained::explained;
-use crate::faults::{Finding, Problem, Refusal, fault_line};
+use crate::faults::{Finding, Problem, fault_line};
 use crate::marks::Source;
 use look_accepted::all_notes;
-use look_names::{Names, outline_of};
-use look_refusal::{ExplainError, Explanation, write_explained};
+use look_names::Names;
+use look_refusal::{Explanation, explanation_of, whole, write_explained};
 use look_text::fault_lines;
 use std::alloc::{AllocError, Global};
 use std::io::Write;
 use sts_asm::{AsmError, AsmKind, assemble};
 use sts_code::Program;
-use sts_output::{STATUS_OUTSIDE, WriteFailed};
-use sts_verify::{VerifyError, verify};
+use sts_output::{Refusal, Status, Stopped, judge};
 
 /// The lines of a problem whose explanation is known.
 fn problem_lines(
@@ -82,23 +80,11 @@ fn faulty(
     Ok(Explanation { bytes, status: 3 })
 }
 
-/// The explanation, unless it says that memory ran out.
-fn whole(told: Explanation) -> Result<Explanation, AllocError>
-    ensures same { IfOk result (λ o. o ≡ told) }
-    ensures whole { IfOk result (λ o. o.status ≢ 6) }
-{
-    if told.status == STATUS_OUTSIDE {
-        Err(AllocError)
-    } else {
-        Ok(told)
-    }
-}
-
 /// The lines of an explanation of a refusal.
 fn refusal_lines(
     alloc: Global,
     source: &Source<'_, '_>,
-    refusal: &Refusal<'_>,
+    refusal: &Refusal,
     told: &Explanation,
 ) -> Result<Vec<u8>, AllocError>
     ensures { IfOk result (λ b. b.items ≡ def.reported source.now
@@ -119,13 +105,13 @@ fn refusal_lines(
 fn refused(
     alloc: Global,
     source: &Source<'_, '_>,
-    refusal: &Refusal<'_>,
+    refusal: &Refusal,
 ) -> Result<Explanation, AllocError>
-    requires { IsRefusal refusal.now.program.now
-        refusal.now.function refusal.now.pc refusal.now.cause }
-    ensures { IfOk result (λ o. def.IsRefused source.now refusal.now.program.now o) }
+    requires { IsRefusal refusal.now.program refusal.now.function refusal.now.pc
+        refusal.now.cause }
+    ensures { IfOk result (λ o. def.IsRefused source.now refusal.now.program o) }
 {
-    let printed = explained(alloc, source.text())?;
+    let printed = explanation_of(alloc, source.text())?;
     let told = whole(printed)?;
     let mut bytes = refusal_lines(alloc, source, refusal, &told)?;
     source.say_ways(alloc, &mut bytes, refusal)?;
@@ -142,9 +128,8 @@ fn accepted(
     ensures { IfOk result (λ o. def.IsVerdict source.now program.now o) }
 {
     let notes = all_notes(alloc, program)?;
-    let outline = outline_of(alloc, source.text())?;
     let mut bytes = Vec::new(alloc);
-    source.say_rules(alloc, &mut bytes, &outline, program, notes.as_slice())?;
+    source.say_rules(alloc, &mut bytes, program, notes.as_slice())?;
     Ok(Explanation { bytes, status: 0 })
 }
 
@@ -155,25 +140,9 @@ fn verdict(
 ) -> Result<Explanation, AllocError>
     ensures { IfOk result (λ o. def.IsVerdict source.now program o) }
 {
-    match verify(alloc, program) {
+    match judge(alloc, program)? {
         Ok(verified) => accepted(alloc, source, verified.program()),
-        Err(VerifyError::Memory(_)) => Err(AllocError),
-        Err(
-            VerifyError::Refused {
-                program,
-                function,
-                pc,
-                cause,
-            },
-        ) => {
-            let refusal = Refusal {
-                program: &program,
-                function,
-                pc,
-                cause,
-            };
-            refused(alloc, source, &refusal)
-        }
+        Err(refusal) => refused(alloc, source, &refusal),
     }
 }
 
@@ -186,7 +155,7 @@ fn reported(alloc: Global, source: &Source<'_, '_>) -> Result<Explanation, Alloc
     }
 }
 
-fn report(alloc: Global, file: &str, text: &[u8]) -> Result<Explanation, ExplainError>
+fn report(alloc: Global, file: &str, text: &[u8]) -> Result<Explanation, Stopped<Explanation>>
     ensures { Prints result (def.Reports (record { file = file.now; text = text.now })
         (judged text.now)) }
 {
@@ -202,12 +171,7 @@ fn report(alloc: Global, file: &str, text: &[u8]) -> Result<Explanation, Explain
 /// # Errors
 ///
 /// A write failed.
-pub fn write_places<W: Write>(
-    alloc: Global,
-    file: &str,
-    text: &[u8],
-    out: &mut W,
-) -> Result<u8, WriteFailed>
+pub fn write_places<W: Write>(alloc: Global, file: &str, text: &[u8], out: &mut W) -> Status
     ensures { IfOk result (λ s. (o : cli.Output)
         × def.IsReport (record { file = file.now; text = text.now }) o
         × cli.Writes (W.contents out.old) (W.contents out.new) s o) }

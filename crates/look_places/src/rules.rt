@@ -7,7 +7,7 @@ ghost use Rattle.look_places.specs.Reports as def;
 
 use crate::marks::Source;
 use look_accepted::{Note, note_lines};
-use look_names::Said;
+use look_names::{Said, outline_of};
 use look_text::say;
 use std::alloc::Global;
 use sts_asm::Outline;
@@ -40,16 +40,15 @@ impl Source<'_, '_> {
         &self,
         alloc: Global,
         out: &mut Vec<u8>,
-        outline: &Outline<'_>,
         program: &Program,
         notes: &[Note],
     ) -> Said
-        requires { outline.now ≡ outline_of self.now.text }
         ensures { OnOk result (out.new.items
             ≡ out.old.items ++ flat_map (def.rule_note self.now program.now) notes.now) }
     {
+        let outline = outline_of(alloc, self.text())?;
         for note in notes {
-            self.say_rule(alloc, out, outline, program, *note)?;
+            self.say_rule(alloc, out, &outline, program, *note)?;
         }
         Ok(())
     }

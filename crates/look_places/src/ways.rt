@@ -4,12 +4,12 @@ ghost use Rattle.std.specs.Prelude.{◌≡◌, ◌++◌, OnOk};
 ghost use Rattle.sts_rules.specs.Refusal.{IsRefusal};
 ghost use Rattle.look_places.specs.Reports as def;
 
-use crate::faults::Refusal;
 use crate::marks::Source;
 use look_names::Said;
 use look_refusal::ways::{Meeting, WayOrigin, find_meeting};
 use std::alloc::Global;
 use sts_code::Program;
+use sts_output::Refusal;
 use sts_rules::Cause;
 
 impl Source<'_, '_> {
@@ -68,15 +68,15 @@ impl Source<'_, '_> {
     /// # Errors
     ///
     /// Memory ran out; `out` may then have a part of them.
-    pub(crate) fn say_ways(&self, alloc: Global, out: &mut Vec<u8>, refusal: &Refusal<'_>) -> Said
-        requires { IsRefusal refusal.now.program.now
-            refusal.now.function refusal.now.pc refusal.now.cause }
-        ensures { OnOk result (def.AddsWays self.now refusal.now.program.now refusal.now.function
+    pub(crate) fn say_ways(&self, alloc: Global, out: &mut Vec<u8>, refusal: &Refusal) -> Said
+        requires { IsRefusal refusal.now.program refusal.now.function refusal.now.pc
+            refusal.now.cause }
+        ensures { OnOk result (def.AddsWays self.now refusal.now.program refusal.now.function
             refusal.now.pc refusal.now.cause out.old.items out.new.items) }
     {
         match refusal.cause {
             Cause::StatesDiffer => {
-                self.say_met(alloc, out, refusal.program, refusal.function, refusal.pc)
+                self.say_met(alloc, out, &refusal.program, refusal.function, refusal.pc)
             }
             _ => Ok(()),
         }

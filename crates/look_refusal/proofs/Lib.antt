@@ -17,10 +17,10 @@ pub mod PartLemmas
 pub mod PointLemmas
 pub mod Reading
 pub mod RemedyLemmas
-pub mod StopLemmas
 pub mod Tables
 pub mod TellLemmas
 pub mod Walking
 pub mod WayLemmas
 pub mod Weighed
 pub mod WeightLemmas
+pub mod WrittenLemmas

@@ -9,8 +9,10 @@ use Rattle.sts_rules.specs.Budget.{skeleton}
 use Rattle.sts_rules.specs.ControlPaths.{Skeleton, Repeats, EndsTurn, Among}
 use Rattle.sts_budget.specs.declared.change.Resource.{Resource}
 use Rattle.sts_budget.specs.declared.change.Resource.TheVariants.{Steps}
+use Rattle.sts_budget.specs.declared.change.SumChange.{SumChange}
+use Rattle.sts_budget.specs.Change.{change_of}
 use Rattle.sts_budget.specs.Handing.{turns_of}
-use Rattle.sts_budget.specs.Ready.{IsLaidFor, flows_in}
+use Rattle.sts_budget.specs.Ready.{IsLaidFor, flows_in, names_in}
 use Rattle.sts_budget.specs.Sums.{Flows}
 use Rattle.look_refusal.specs.declared.search.Search.{Search}
 use Rattle.look_refusal.specs.declared.search.Spot.{Spot}
@@ -27,6 +29,11 @@ paths s = skeleton s.earlier.now s.code.now
 -- how the sums flow
 abbrev pub flow : Search → Flows
 flow s = flows_in s.resource s.earlier.now s.code.now s.layout.now
+
+-- how the instruction changes the sums
+abbrev pub change_at : Search → ℕ → SumChange
+change_at s pc =
+    change_of s.resource s.earlier.now (instr_at s.code.now pc) (names_in s.layout.now pc)
 
 -- does it end a loop's turn?
 abbrev pub ends_turn : Instr → Bool

@@ -6,13 +6,11 @@ ghost use Rattle.sts_asm.specs.Source.{outlined};
 ghost use Rattle.sts_asm.specs.Text.{judged};
 ghost use Rattle.sts_budget.specs.Change.{cause_of};
 ghost use Rattle.sts_output.specs.Output as cli;
+ghost use Rattle.sts_output.specs.Stops.{Prints};
 ghost use Rattle.look_refusal.specs.Output as def;
-ghost use Rattle.look_refusal.specs.Stops.{Prints};
 
 use crate::differences::difference_lines;
-use crate::explanation::{
-    ExplainError, Explanation, Made, outline_of, program_of, write_explained,
-};
+use crate::explanation::{Explanation, Made, outline_of, program_of, write_explained};
 use crate::heavy::heaviest;
 use crate::lines::refused_lines;
 use crate::remedy::remedy_for;
@@ -20,12 +18,12 @@ use crate::ways::find_meeting;
 use crate::weights::weight_lines;
 use look_accepted::{all_notes, note_lines};
 use look_text::{Said, say};
-use std::alloc::Global;
+use std::alloc::{AllocError, Global};
 use std::io::Write;
 use sts_asm::Outline;
 use sts_budget::Resource;
 use sts_code::Program;
-use sts_output::{Refusal, WriteFailed, judge};
+use sts_output::{Refusal, Status, Stopped, judge};
 use sts_rules::Cause;
 
 /// A program, and the outline of the text that spells it.
@@ -147,7 +145,7 @@ fn explained_by(
     alloc: Global,
     outline: &Outline<'_>,
     text: &[u8],
-) -> Result<Explanation, ExplainError>
+) -> Result<Explanation, Stopped<Explanation>>
     requires { outlined text.now ≡ Ok outline.now }
     ensures { Prints result (def.Explains (judged text.now) text.now) }
 {
@@ -156,7 +154,7 @@ fn explained_by(
     Ok(output)
 }
 
-fn explained(alloc: Global, text: &[u8]) -> Result<Explanation, ExplainError>
+fn explained(alloc: Global, text: &[u8]) -> Result<Explanation, Stopped<Explanation>>
     ensures { Prints result (def.Explains (judged text.now) text.now) }
 {
     let outline = outline_of(alloc, text)?;
@@ -171,9 +169,24 @@ fn explained(alloc: Global, text: &[u8]) -> Result<Explanation, ExplainError>
 /// # Errors
 ///
 /// A write failed.
-pub fn explain<W: Write>(alloc: Global, text: &[u8], out: &mut W) -> Result<u8, WriteFailed>
+pub fn explain<W: Write>(alloc: Global, text: &[u8], out: &mut W) -> Status
     ensures { IfOk result (λ s. (o : cli.Output) × def.IsExplanation text.now o
         × cli.Writes (W.contents out.old) (W.contents out.new) s o) }
 {
     write_explained(explained(alloc, text), out)
+}
+
+/// Returns what `explain` prints of a text; it may be that memory ran out.
+///
+/// # Errors
+///
+/// Memory ran out.
+pub fn explanation_of(alloc: Global, text: &[u8]) -> Made
+    ensures { IfOk result (λ o. def.IsExplanation text.now o) }
+{
+    let mut bytes = Vec::new(alloc);
+    match explain(alloc, text, &mut bytes) {
+        Ok(status) => Ok(Explanation { bytes, status }),
+        Err(_) => Err(AllocError),
+    }
 }

@@ -1,14 +1,15 @@
-//! What is printed for a text, and why an explanation goes no further.
+//! What is printed for a text, and for its fault.
 
-ghost use Rattle.std.specs.Prelude.{◌≡◌, IfOk, Result, Ok, Err};
+ghost use Rattle.std.specs.Prelude.{◌≡◌, ◌≢◌, IfOk, Result, Ok, Err};
 ghost use Rattle.sts_code.specs.Program.{Program as AnyProgram};
 ghost use Rattle.sts_asm.specs.Fault.{FailsAt};
 ghost use Rattle.sts_asm.specs.Source.{outlined as outlined_of};
 ghost use Rattle.sts_asm.specs.Text.{judged};
 ghost use Rattle.sts_asm.specs.declared.fault.AsmError.{AsmError};
 ghost use Rattle.sts_output.specs.Output as cli;
+ghost use Rattle.sts_output.specs.Stops as stops;
 ghost use Rattle.look_refusal.specs.Output as def;
-ghost use Rattle.look_refusal.specs.Stops as stops;
+ghost use Rattle.look_refusal.specs.Stops.{IsTextFault};
 
 use look_text::fault_lines;
 use std::alloc::{AllocError, Global};
@@ -16,7 +17,7 @@ use std::io::Write;
 use std::marker::Model;
 use sts_asm::{AsmError, AsmKind, Outline, assemble, outlined};
 use sts_code::Program;
-use sts_output::{TakeError, WriteFailed, failed, written};
+use sts_output::{STATUS_OUTSIDE, Status, Stopped, TakeError, failed, written};
 
 /// The output, and the status.
 #[derive(Drop)]
@@ -36,23 +37,19 @@ impl Model for Explanation {
 /// An explanation, if memory was enough for it.
 pub type Made = Result<Explanation, AllocError>;
 
-/// Why an explanation goes no further.
-#[derive(Drop)]
-pub enum ExplainError {
-    /// This output says why: a fault of the text.
-    Shown(Explanation),
-    /// Memory ran out.
-    Memory,
-}
-
-impl From<AllocError> for ExplainError {
-    ghost use Rattle.std.specs.Prelude.{◌≡◌};
-    ghost use Rattle.look_refusal.specs.declared.explanation.ExplainError.TheVariants.{Memory};
-
-    ghost from_gives = { λ _ e. e ≡ Memory };
-
-    fn from(_error: AllocError) -> ExplainError {
-        ExplainError::Memory
+/// Returns the explanation, unless it says that memory ran out.
+///
+/// # Errors
+///
+/// It says that memory ran out.
+pub fn whole(told: Explanation) -> Made
+    ensures same { IfOk result (λ o. o ≡ told) }
+    ensures whole { IfOk result (λ o. o.status ≢ 6) }
+{
+    if told.status == STATUS_OUTSIDE {
+        Err(AllocError)
+    } else {
+        Ok(told)
     }
 }
 
@@ -74,12 +71,12 @@ fn text_fault(alloc: Global, error: AsmError, text: &[u8]) -> Made
 /// # Errors
 ///
 /// The text has a fault, or memory ran out.
-pub fn outline_of(alloc: Global, text: &[u8]) -> Result<Outline<'_>, ExplainError>
-    ensures { stops.Gives result (λ o. outlined_of text.now ≡ Ok o) (stops.IsTextFault text.now) }
+pub fn outline_of(alloc: Global, text: &[u8]) -> Result<Outline<'_>, Stopped<Explanation>>
+    ensures { stops.Gives result (λ o. outlined_of text.now ≡ Ok o) (IsTextFault text.now) }
 {
     match outlined(alloc, text) {
         Ok(outline) => Ok(outline),
-        Err(error) => Err(ExplainError::Shown(text_fault(alloc, error, text)?)),
+        Err(error) => Err(Stopped::Shown(text_fault(alloc, error, text)?)),
     }
 }
 
@@ -88,12 +85,12 @@ pub fn outline_of(alloc: Global, text: &[u8]) -> Result<Outline<'_>, ExplainErro
 /// # Errors
 ///
 /// The text has a fault, or memory ran out.
-pub fn program_of(alloc: Global, text: &[u8]) -> Result<Program, ExplainError>
-    ensures { stops.Gives result (λ p. judged text.now ≡ Ok p) (stops.IsTextFault text.now) }
+pub fn program_of(alloc: Global, text: &[u8]) -> Result<Program, Stopped<Explanation>>
+    ensures { stops.Gives result (λ p. judged text.now ≡ Ok p) (IsTextFault text.now) }
 {
     match assemble(alloc, text) {
         Ok(program) => Ok(program),
-        Err(error) => Err(ExplainError::Shown(text_fault(alloc, error, text)?)),
+        Err(error) => Err(Stopped::Shown(text_fault(alloc, error, text)?)),
     }
 }
 
@@ -103,15 +100,15 @@ pub fn program_of(alloc: Global, text: &[u8]) -> Result<Program, ExplainError>
 ///
 /// A write failed.
 pub fn write_explained<W: Write>(
-    output: Result<Explanation, ExplainError>,
+    output: Result<Explanation, Stopped<Explanation>>,
     out: &mut W,
-) -> Result<u8, WriteFailed>
+) -> Status
     ensures { IfOk result (λ s. (o : cli.Output) × stops.IsShown output o
         × cli.Writes (W.contents out.old) (W.contents out.new) s o) }
 {
     match output {
         Ok(output) => written(out, output.bytes.as_slice(), output.status),
-        Err(ExplainError::Shown(output)) => written(out, output.bytes.as_slice(), output.status),
-        Err(ExplainError::Memory) => failed(TakeError::Memory, out),
+        Err(Stopped::Shown(output)) => written(out, output.bytes.as_slice(), output.status),
+        Err(Stopped::Memory) => failed(TakeError::Memory, out),
     }
 }

@@ -25,7 +25,7 @@ pub mod walk;
 pub mod ways;
 mod weights;
 
-pub use explaining::explain;
-pub use explanation::{ExplainError, Explanation, Made, outline_of, program_of, write_explained};
+pub use explaining::{explain, explanation_of};
+pub use explanation::{Explanation, Made, outline_of, program_of, whole, write_explained};
 pub use remedy::{Remedy, label_remedy};
 pub use sentences::remedy_sentence;

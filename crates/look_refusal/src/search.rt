@@ -5,7 +5,9 @@ ghost use Rattle.sts_budget.specs.Ready.{IsLaidFor, head_in};
 ghost use Rattle.sts_code.specs.Program.{instr_at};
 ghost use Rattle.look_refusal.specs.Search as def;
 
-use sts_budget::{Layout, Resource, added_of, change_of, depth_of, end_of, source_of, turns_of};
+use sts_budget::{
+    Layout, Resource, SumChange, added_of, change_of, depth_of, end_of, source_of, turns_of,
+};
 use sts_code::{Instr, MAX_ENTRIES};
 use sts_rules::Budgets;
 
@@ -44,15 +46,23 @@ pub(crate) fn depth_at(search: &Search<'_>, pc: usize) -> usize
     depth_of(search.resource, search.layout.typing.entries(pc))
 }
 
+/// How the instruction changes the sums.
+fn change_at(search: &Search<'_>, pc: usize) -> SumChange
+    requires ready { def.IsReady search.now }
+    requires in_code { pc < length search.now.code.now }
+    ensures { result ≡ def.change_at search.now pc }
+{
+    let entries = search.layout.typing.entries(pc);
+    change_of(search.resource, search.earlier, search.code[pc], entries)
+}
+
 /// The number of entries that the sum goes over before the instruction.
 pub(crate) fn depth_before(search: &Search<'_>, pc: usize, depth: usize) -> usize
     requires ready { def.IsReady search.now }
     requires in_code { pc < length search.now.code.now }
     ensures { result ≡ (def.flow search.now).source pc depth }
 {
-    let entries = search.layout.typing.entries(pc);
-    let change = change_of(search.resource, search.earlier, search.code[pc], entries);
-    source_of(change, depth_of(search.resource, entries), depth)
+    source_of(change_at(search, pc), depth_at(search, pc), depth)
 }
 
 /// The amount that the instruction adds to the sum.
@@ -61,9 +71,7 @@ pub(crate) fn added_at(search: &Search<'_>, pc: usize, depth: usize) -> u128
     requires in_code { pc < length search.now.code.now }
     ensures { result ≡ (def.flow search.now).added pc depth }
 {
-    let entries = search.layout.typing.entries(pc);
-    let change = change_of(search.resource, search.earlier, search.code[pc], entries);
-    added_of(change, depth_of(search.resource, entries), depth) as u128
+    added_of(change_at(search, pc), depth_at(search, pc), depth) as u128
 }
 
 /// Does the instruction end a loop's turn?

@@ -4,19 +4,18 @@ ghost use Rattle.std.specs.Prelude.{◌≡◌, IfOk};
 ghost use Rattle.sts_asm.specs.Text.{judged};
 ghost use Rattle.sts_trace.specs.Reading.{trace_read};
 ghost use Rattle.sts_output.specs.Output as cli;
-ghost use Rattle.look_refusal.specs.Stops.{Prints};
-ghost use Rattle.look_lines.specs.Watched.{watched};
+ghost use Rattle.sts_output.specs.Stops.{Prints};
 ghost use Rattle.look_run.specs.Output as def;
 
 use crate::states::Told;
 use crate::traces::trace_fault;
 use look_lines::{Watch, after};
 use look_names::Names;
-use look_refusal::{ExplainError, Explanation, Made, program_of, write_explained};
+use look_refusal::{Explanation, Made, program_of, write_explained};
 use std::alloc::Global;
 use std::io::Write;
 use sts_code::Program;
-use sts_output::{WriteFailed, state_status};
+use sts_output::{Status, Stopped, state_status};
 use sts_trace::read_trace;
 
 /// The state of a watched machine, and each task that lives.
@@ -51,7 +50,11 @@ fn of_trace(alloc: Global, names: &Names<'_>, program: &Program, trace: &[u8]) -
     }
 }
 
-fn explanation(alloc: Global, text: &[u8], trace: &[u8]) -> Result<Explanation, ExplainError>
+fn explanation(
+    alloc: Global,
+    text: &[u8],
+    trace: &[u8],
+) -> Result<Explanation, Stopped<Explanation>>
     ensures { Prints result (def.Explains (judged text.now) text.now trace.now) }
 {
     let program = program_of(alloc, text)?;
@@ -70,12 +73,7 @@ fn explanation(alloc: Global, text: &[u8], trace: &[u8]) -> Result<Explanation, 
 /// # Errors
 ///
 /// A write failed.
-pub fn explain_run<W: Write>(
-    alloc: Global,
-    text: &[u8],
-    trace: &[u8],
-    out: &mut W,
-) -> Result<u8, WriteFailed>
+pub fn explain_run<W: Write>(alloc: Global, text: &[u8], trace: &[u8], out: &mut W) -> Status
     ensures { IfOk result (λ s. (o : cli.Output) × def.IsRunExplanation text.now trace.now o
         × cli.Writes (W.contents out.old) (W.contents out.new) s o) }
 {

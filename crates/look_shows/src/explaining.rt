@@ -9,7 +9,7 @@ use look_json::write_explained;
 use look_places::{write_named, write_places};
 use std::alloc::Global;
 use std::io::Write;
-use sts_output::WriteFailed;
+use sts_output::Status;
 
 /// Writes what is wrong with the text of a file, and returns the status.
 ///
@@ -22,7 +22,7 @@ pub fn explain_in<W: Write>(
     path: &str,
     text: &[u8],
     out: &mut W,
-) -> Result<u8, WriteFailed>
+) -> Status
     ensures { IfOk result (λ s. (o : Output) × def.IsExplainedIn form path.now text.now o
         × Writes (W.contents out.old) (W.contents out.new) s o) }
 {

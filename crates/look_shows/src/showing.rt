@@ -15,7 +15,7 @@ use look_view::write_view;
 use look_views::write_views;
 use std::alloc::Global;
 use std::io::Write;
-use sts_output::{Events, Named, TakeError, WriteFailed, failed};
+use sts_output::{Events, Named, Status, TakeError, failed};
 use sts_remarks::Remarks;
 
 /// The output for a text and a trace.
@@ -69,7 +69,7 @@ impl Showing<'_> {
 
     /// Writes what is shown of a text and a trace. The views and the story of a run are shown in
     /// lines or as JSON.
-    fn show<W: Write>(self, alloc: Global, given: Given<'_>, out: &mut W) -> Result<u8, WriteFailed>
+    fn show<W: Write>(self, alloc: Global, given: Given<'_>, out: &mut W) -> Status
         ensures { IfOk result (λ s. (o : Output)
             × def.Shows self.entry given.entry.text.now given.entry.trace.now o
             × Writes (W.contents out.old) (W.contents out.new) s o) }
@@ -127,7 +127,7 @@ pub fn show_in_full<W: Write>(
     text: &[u8],
     trace: &[u8],
     out: &mut W,
-) -> Result<u8, WriteFailed>
+) -> Status
     ensures { IfOk result (λ s. (o : Output) × def.ShowsInFull showing.entry text.now trace.now o
         × Writes (W.contents out.old) (W.contents out.new) s o) }
 {

@@ -4,7 +4,7 @@ ghost use Rattle.std.specs.Prelude.{◌≡◌, IfOk, take};
 ghost use Rattle.sts_asm.specs.Text.{judged};
 ghost use Rattle.sts_trace.specs.Reading.{trace_read};
 ghost use Rattle.sts_output.specs.Output as cli;
-ghost use Rattle.look_refusal.specs.Stops.{Prints};
+ghost use Rattle.sts_output.specs.Stops.{Prints};
 ghost use Rattle.look_tell.specs.Telling as def;
 
 use crate::line::say_events;
@@ -12,13 +12,13 @@ use crate::story::Story;
 use crate::words::Told;
 use look_names::Names;
 use look_options::TellOptions;
-use look_refusal::{ExplainError, Explanation, Made, program_of, write_explained};
+use look_refusal::{Explanation, Made, program_of, write_explained};
 use look_run::trace_fault;
 use std::alloc::Global;
 use std::io::Write;
 use sts_code::Program;
 use sts_model::Event;
-use sts_output::{WriteFailed, state_status};
+use sts_output::{Status, Stopped, state_status};
 use sts_trace::read_trace;
 
 fn status_of(story: &Story<'_>) -> u8
@@ -106,7 +106,7 @@ fn story_of(
     options: TellOptions,
     text: &[u8],
     trace: &[u8],
-) -> Result<Explanation, ExplainError>
+) -> Result<Explanation, Stopped<Explanation>>
     ensures { Prints result (def.Tells options (judged text.now) text.now trace.now) }
 {
     let program = program_of(alloc, text)?;
@@ -129,7 +129,7 @@ pub fn tell<W: Write>(
     text: &[u8],
     trace: &[u8],
     out: &mut W,
-) -> Result<u8, WriteFailed>
+) -> Status
     ensures { IfOk result (λ s. (o : cli.Output) × def.IsStoryOf options text.now trace.now o
         × cli.Writes (W.contents out.old) (W.contents out.new) s o) }
 {

@@ -1,7 +1,6 @@
 //! The labels that come after the last instruction of a function.
 
-ghost use Rattle.std.specs.Prelude.{◌≡◌, [], drop, slice_get, MatchOption};
-ghost use Rattle.std.specs.Option.{option_copied};
+ghost use Rattle.std.specs.Prelude.{◌≡◌, option_copied, slice_get};
 ghost use Rattle.sts_text.specs.Words.{lines};
 ghost use Rattle.sts_asm.specs.Source.{sentences_of};
 ghost use Rattle.sts_asm.specs.Outline.{label_of};
@@ -9,7 +8,7 @@ ghost use Rattle.look_text.specs.Labels as def;
 
 use crate::heads::begins_with;
 use sts_asm::{Outline, Sentence, label_of, words_at};
-use sts_text::{Words, cut_at_newline};
+use sts_text::{Words, after_lines, cut_at_newline};
 
 fn is_end<'a>(words: Words<'a>) -> bool
     ensures { result ≡ def.is_end words.entry }
@@ -50,23 +49,6 @@ fn are_giving(text: &[u8], name: &[u8]) -> bool
     !is_end(words_at(rest, 1)) && gives(words_at(rest, 1), name)
 }
 
-/// The text after the first `count` lines, if there are more.
-fn behind_lines(text: &[u8], count: u32) -> Option<&[u8]>
-    ensures { MatchOption result (drop count (lines text.now) ≡ [])
-        (λ rest. lines rest.now ≡ drop count (lines text.now)) }
-{
-    let mut rest = text;
-    let mut left = count;
-    while let Some((_, after)) = cut_at_newline(rest) {
-        if left == 0 {
-            return Some(rest);
-        }
-        rest = after;
-        left -= 1;
-    }
-    if left == 0 { Some(rest) } else { None }
-}
-
 fn number_of(sentence: Option<&Sentence<'_>>) -> u32
     ensures { result ≡ def.number_of (option_copied sentence.entry) }
 {
@@ -91,7 +73,7 @@ fn last_line(outline: &Outline<'_>, function: u32) -> u32
 pub(crate) fn is_behind(outline: &Outline<'_>, function: u32, text: &[u8], name: &[u8]) -> bool
     ensures { result ≡ def.is_behind text.now outline.now function name.now }
 {
-    match behind_lines(text, last_line(outline, function)) {
+    match after_lines(text, last_line(outline, function)) {
         None => false,
         Some(rest) => are_giving(rest, name),
     }

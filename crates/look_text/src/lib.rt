@@ -26,4 +26,4 @@ mod wrong;
 pub use checks::{failing_function, is_of_head};
 pub use functions::functions_of;
 pub use heads::head_line;
-pub use lines::{Said, fault_lines, say, say_check, say_number, say_place, say_words};
+pub use lines::{Said, fault_lines, say, say_check, say_number, say_place};

@@ -3,13 +3,13 @@
 ghost use Rattle.std.specs.Prelude.{◌≡◌, ◌++◌, OnOk};
 ghost use Rattle.std.specs.Fmt.{decimal};
 ghost use Rattle.std.specs.Option.{option_copied};
-ghost use Rattle.sts_list.specs.Spelling.{after_spaces};
 ghost use Rattle.look_text.specs.Checks.{line_words};
 ghost use Rattle.look_text.specs.Lines as def;
 
 use crate::functions::{Source, functions_of};
 use std::alloc::{AllocError, Global};
 use sts_asm::{AsmError, AsmKind, Sentence, words_at};
+use sts_list::write_words;
 use sts_text::Words;
 
 /// What a call that appends words returns: memory may run out.
@@ -48,28 +48,12 @@ pub fn say_number(alloc: Global, out: &mut Vec<u8>, words: &str, number: u128) -
     say(out, said.as_str())
 }
 
-/// Appends each word after a space.
-///
-/// # Errors
-///
-/// Memory ran out; `out` may then have a part of them.
-pub fn say_words<'a>(out: &mut Vec<u8>, words: Words<'a>) -> Said
-    ensures { OnOk result (out.new.items ≡ out.old.items ++ after_spaces words.entry) }
-{
-    let mut left = words;
-    while let Some(word) = left.word() {
-        out.push(b' ')?;
-        out.extend_from_slice(word)?;
-    }
-    Ok(())
-}
-
 pub(crate) fn say_line<'a>(alloc: Global, out: &mut Vec<u8>, line: u32, words: Words<'a>) -> Said
     ensures { OnOk result (out.new.items ≡ out.old.items ++ line_words line words.entry) }
 {
     say_number(alloc, out, ", line ", line as u128)?;
     say(out, ":")?;
-    say_words(out, words)
+    write_words(out, words)
 }
 
 /// The line of an instruction and its words, or that there is none.

@@ -12,7 +12,7 @@ use look_options::ViewOptions;
 use std::alloc::{AllocError, Global};
 use std::io;
 use sts_asm::AsmError;
-use sts_output::{Output, WriteFailed, text_fault, trace_fault};
+use sts_output::{Output, Status, text_fault, trace_fault};
 use sts_trace::TraceError;
 
 /// A view with the lines and the names of this text. It reads them if the text and its trace have
@@ -54,7 +54,7 @@ pub fn write_view<W: io::Write>(
     text: &[u8],
     trace: &[u8],
     out: &mut W,
-) -> Result<u8, WriteFailed>
+) -> Status
     ensures { IfOk result (λ s. (o : Output) × def.IsNamedViewOf wanted text.now trace.now o
         × Writes (W.contents out.old) (W.contents out.new) s o) }
 {

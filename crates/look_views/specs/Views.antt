@@ -5,27 +5,25 @@ use Rattle.std.specs.Prelude.{if◌then◌else◌}
 use Rattle.serde_json.specs.Data.{Data, array, boolean, string}
 use Rattle.serde_json.specs.View.{items_of}
 use Rattle.serde_json.specs.Written.{compact_text}
-use Rattle.sts_code.specs.Program.{Program, routine}
+use Rattle.sts_code.specs.Program.{Program}
 use Rattle.sts_model.specs.declared.event.End.{End}
 use Rattle.sts_model.specs.declared.event.End.TheVariants.{Success, Failed}
 use Rattle.sts_model.specs.World.{World}
 use Rattle.sts_asm.specs.Fault.{code_error}
 use Rattle.sts_asm.specs.declared.fault.AsmError.{AsmError}
 use Rattle.sts_plain.specs.Seen.{shown}
-use Rattle.sts_plain.specs.declared.misstep.Misstep.{Misstep}
 use Rattle.sts_plain.specs.declared.misstep.PlainState.{PlainState}
 use Rattle.sts_plain.specs.declared.misstep.PlainState.TheVariants as plain
 use Rattle.sts_trace.specs.Spelling.{event_text}
 use Rattle.sts_trace.specs.declared.error.TraceError.{TraceError}
 use Rattle.sts_output.specs.Output.{Output}
-use Rattle.sts_output.specs.Printed.{fault_word}
 use Rattle.look_lines.specs.Form.{Form, IsShownOf}
 use Rattle.look_lines.specs.Lines.{closed, resting}
 use Rattle.look_lines.specs.Views.{View, view_output}
 use Rattle.look_lines.specs.Watched.{Watched}
 use Rattle.look_options.specs.declared.views.ViewOptions.{ViewOptions}
 use Rattle.look_lines.specs.declared.watch.Applied.{Applied}
-use Rattle.look_cases.specs.Answer.{ended, running, text_fault, trace_fault}
+use Rattle.look_cases.specs.Answer.{ended, fault, running, text_fault, trace_fault}
 use Rattle.look_cases.specs.Json.{count, object_of}
 use Rattle.look_names.specs.Names.{value_name}
 use Rattle.look_views.specs.Named.{named, placed}
@@ -41,16 +39,6 @@ version = count 1
 abbrev pub named_end : List ℕ → End → ℕ → Data
 named_end text (Success v) steps = named (codes "name") (value_name text v) (ended (Success v) steps)
 named_end text (Failed c) steps = named (codes "name") (value_name text c) (ended (Failed c) steps)
-
--- a fault with its place, and the steps before it
-abbrev pub fault : Program → Misstep → ℕ → Data
-fault p m steps = object_of (
-    (codes "fault", string (fault_word m.kind)) ∷
-    (codes "function", string (routine p m.function).name) ∷
-    (codes "outcome", string (codes "fault")) ∷
-    (codes "place", count m.pc) ∷
-    (codes "steps", count steps) ∷
-    (codes "task", count m.task) ∷ [])
 
 -- the state of a run, and the steps that it took
 abbrev pub run : List ℕ → Program → PlainState → ℕ → Data

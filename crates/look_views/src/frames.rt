@@ -6,8 +6,8 @@ ghost use Rattle.sts_model.specs.Living as living;
 ghost use Rattle.sts_model.specs.World as model;
 ghost use Rattle.look_views.specs.Task as def;
 
-use crate::named::{Listed, Made};
-use look_cases::{Scalar, object_of, with_list};
+use crate::named::Listed;
+use look_cases::{Made, Scalar, object_of, with_list};
 use serde_json::Value;
 use std::alloc::{AllocError, Global};
 use sts_world::Records;

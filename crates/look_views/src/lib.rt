@@ -13,4 +13,4 @@ mod views;
 pub use frames::integers;
 pub use named::{line_at, placed, with_name};
 pub use of_text::{faulty_text, faulty_trace, write_views};
-pub use views::{VERSION, push_line};
+pub use views::{VERSION, event_string, push_line, push_made};

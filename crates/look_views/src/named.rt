@@ -6,12 +6,10 @@ ghost use Rattle.serde_json.specs.View.{members_view, view};
 ghost use Rattle.look_names.specs.Names.{line_name as name_of_line};
 ghost use Rattle.look_views.specs.Named as def;
 
+use look_cases::Made;
 use look_names::Names;
 use serde_json::{Map, Value};
 use std::alloc::{AllocError, Global};
-
-/// What a call that makes a value returns: memory may run out.
-pub type Made = Result<Value, AllocError>;
 
 /// What a call that makes a list of values returns.
 pub(crate) type Listed = Result<Vec<Value>, AllocError>;

@@ -11,9 +11,8 @@ ghost use Rattle.sts_trace.specs.declared.error.TraceError.TheVariants.{Memory};
 ghost use Rattle.sts_output.specs.Output.{Output as AnyOutput, Writes};
 ghost use Rattle.look_views.specs.Views as def;
 
-use crate::named::Made;
 use crate::views::{JsonViews, VERSION, push_line};
-use look_cases::{Scalar, object_of, text_fault, trace_fault, with_member};
+use look_cases::{Made, Scalar, object_of, text_fault, trace_fault, with_member};
 use look_lines::{Form, Run, view_output, write_run};
 use look_names::Names;
 use look_options::ViewOptions;
@@ -21,7 +20,7 @@ use serde_json::Value;
 use std::alloc::{AllocError, Global};
 use std::io::Write;
 use sts_asm::AsmError;
-use sts_output::{Output, WriteFailed};
+use sts_output::{Output, Status};
 use sts_trace::TraceError;
 
 /// The status for a fault of a text or a trace.
@@ -133,7 +132,7 @@ pub fn write_views<W: Write>(
     text: &[u8],
     trace: &[u8],
     out: &mut W,
-) -> Result<u8, WriteFailed>
+) -> Status
     ensures { IfOk result (λ s. (o : AnyOutput) × def.AreViewsOf wanted text.now trace.now o
         × Writes (W.contents out.old) (W.contents out.new) s o) }
 {

@@ -6,8 +6,8 @@ ghost use Rattle.serde_json.specs.View.{view, items_view, items_of};
 ghost use Rattle.sts_model.specs.World as model;
 ghost use Rattle.look_views.specs.Scope as def;
 
-use crate::named::{Listed, Made, with_name};
-use look_cases::{Scalar, object_of, with_list, with_text};
+use crate::named::{Listed, with_name};
+use look_cases::{Made, Scalar, object_of, with_list, with_text};
 use look_lines::phase_word;
 use look_names::Names;
 use std::alloc::{AllocError, Global};

@@ -7,8 +7,8 @@ ghost use Rattle.sts_model.specs.World as model;
 ghost use Rattle.look_views.specs.Task as def;
 
 use crate::frames::frame;
-use crate::named::{Listed, Made, placed, with_name};
-use look_cases::{Scalar, object_of, widened, with_member};
+use crate::named::{Listed, placed, with_name};
+use look_cases::{Made, Scalar, object_of, widened, with_member};
 use look_lines::{Watch, is_heard};
 use look_names::Names;
 use serde_json::Value;

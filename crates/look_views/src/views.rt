@@ -2,7 +2,7 @@
 
 ghost use Rattle.std.specs.Prelude.{◌≡◌, ◌++◌, OnOk, IfOk, false};
 ghost use Rattle.std.specs.String.{string_bytes};
-ghost use Rattle.serde_json.specs.Data.{Items, Members, object};
+ghost use Rattle.serde_json.specs.Data.{Data, Items, Members, object};
 ghost use Rattle.serde_json.specs.View.{view};
 ghost use Rattle.serde_json.specs.Written.{has_float};
 ghost use Rattle.sts_trace.specs.Spelling.{event_text};
@@ -10,11 +10,11 @@ ghost use Rattle.look_cases.specs.Objects.{Makes, MakesList};
 ghost use Rattle.look_views.specs.Stand as stand;
 ghost use Rattle.look_views.specs.Views as def;
 
-use crate::named::{Listed, Made};
+use crate::named::Listed;
 use crate::runs::run;
 use crate::scopes::{open_scopes, scopes};
 use crate::tasks::{living_tasks, tasks};
-use look_cases::{Scalar, object_of, with_list, with_member, with_text};
+use look_cases::{Made, Scalar, object_of, with_list, with_member, with_text};
 use look_lines::{Applied, Said, View, Watch, closed, event_words, resting};
 use look_names::Names;
 use look_options::ViewOptions;
@@ -97,7 +97,11 @@ fn numbered(alloc: Global, n: usize) -> Made
 }
 
 /// Returns an event as a trace spells it.
-fn event_string(alloc: Global, event: Event) -> Result<String, AllocError>
+///
+/// # Errors
+///
+/// Memory was refused.
+pub fn event_string(alloc: Global, event: Event) -> Result<String, AllocError>
     ensures { IfOk result (λ s. string_bytes s ≡ event_text event) }
 {
     let mut text = String::new(alloc);
@@ -131,6 +135,21 @@ pub fn push_line(alloc: Global, out: &mut String, value: &Value) -> Said
 {
     let text = value.to_string(alloc)?;
     writeln!(out, "{text}")
+}
+
+/// Appends the line of a value without floats, if it was made.
+///
+/// # Errors
+///
+/// Memory ran out, here or for the value.
+pub fn push_made(alloc: Global, out: &mut String, made: Made) -> Said
+    ensures { (d : Data) → Makes d made → has_float d ≡ false
+        → OnOk result (string_bytes out.new ≡ string_bytes out.old ++ def.line d) }
+{
+    match made {
+        Ok(value) => push_line(alloc, out, &value),
+        Err(error) => Err(error),
+    }
 }
 
 /// The views of a run as lines of JSON, with the names of a text.
@@ -176,12 +195,12 @@ impl<'n, 't> View for JsonViews<'n, 't> {
     ghost writes = { λ views. def.json_view views.names.now views.wanted };
 
     fn say_state(&self, out: &mut String, number: usize, watch: &Watch<'_>) -> Said {
-        let value = self.state_view(number, watch)?;
-        push_line(self.alloc, out, &value)
+        let value = self.state_view(number, watch);
+        push_made(self.alloc, out, value)
     }
 
     fn say_event(&self, out: &mut String, applied: Applied, watch: &Watch<'_>) -> Said {
-        let value = self.event_view(applied, watch)?;
-        push_line(self.alloc, out, &value)
+        let value = self.event_view(applied, watch);
+        push_made(self.alloc, out, value)
     }
 }

@@ -15,11 +15,12 @@ both false b e = cc
 name_byte_small : (c : ℕ) → is_name_byte c ≡ true → c < 128
 name_byte_small c e = grind (arith, nat_tests)
 
-name_ascii : (bs : List ℕ) → list_all is_name_byte bs ≡ true → IsAscii bs
-name_ascii [] e = IsAscii-nil
-name_ascii (c ∷ cs) e =
-    let h = both (is_name_byte c) (list_all is_name_byte cs) e in
-    IsAscii-cons c cs (name_byte_small c h.0) (name_ascii cs h.1)
+-- bytes of a class below 128 are ASCII
+pub all_ascii : (p : ℕ → Bool) → ((c : ℕ) → p c ≡ true → c < 128) → (bs : List ℕ) → list_all p bs ≡ true → IsAscii bs
+all_ascii p small [] e = IsAscii-nil
+all_ascii p small (c ∷ cs) e =
+    let h = both (p c) (list_all p cs) e in
+    IsAscii-cons c cs (small c h.0) (all_ascii p small cs h.1)
 
 -- the bytes of a name are name bytes
 pub name_bytes : (bs : List ℕ) → is_name bs ≡ true → list_all is_name_byte bs ≡ true
@@ -27,4 +28,4 @@ name_bytes bs e = grind (arith, nat_tests)
 
 -- a name is text
 pub name_is_text : (bs : List ℕ) → is_name bs ≡ true → IsUtf8 bs
-name_is_text bs e = IsUtf8-from_ascii bs (name_ascii bs (name_bytes bs e))
+name_is_text bs e = IsUtf8-from_ascii bs (all_ascii is_name_byte name_byte_small bs (name_bytes bs e))

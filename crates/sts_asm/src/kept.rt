@@ -1,12 +1,16 @@
 //! What is kept of a function that has ended.
 
 ghost use Rattle.std.specs.Prelude.{◌≡◌, ◌<◌, ◌≤◌, ◌+◌, ◌++◌, ◌∷◌, [], length, IfOk, OnOk};
-ghost use Rattle.std.specs.Prelude.{if◌then◌else◌};
+ghost use Rattle.std.specs.Prelude.{if◌then◌else◌, map, true, OnErr};
+ghost use Rattle.sts_asm.specs.Fault.{StepsAt};
 ghost use Rattle.sts_asm.specs.Kept as def;
 ghost use Rattle.sts_asm.specs.Kept.{AreTaken, IsKept, IsShortened};
+ghost use Rattle.sts_asm.specs.Kept.{are_naming, filled, without_names};
 ghost use Rattle.sts_asm.specs.Line.{has_names};
 ghost use Rattle.sts_asm.specs.Outline.{Draft, Outline, size_of};
+ghost use Rattle.sts_asm.specs.Text.{instr_at};
 
+use crate::fault::AsmError;
 use crate::marks::{Marks, Names};
 use crate::outline::{Draft, Lines, Outline, Sentence};
 use crate::resolving::{fill, has_names};
@@ -96,39 +100,39 @@ fn shortened<'a>(alloc: Global, draft: Draft<'a>) -> Result<Kept<'a>, AllocError
     })
 }
 
+impl<'a> Kept<'a> {
+    /// Looks up the names of its labels and of these functions in its lines that are read again.
+    /// After a fault, instructions that name nothing are as they were.
+    pub(crate) fn look_up(&mut self, functions: &Marks<'a>) -> Result<(), AsmError>
+        ensures others { self.new ≡ record self.old { code = self.new.code } }
+        ensures steps { StepsAt result self.new.code (filled (instr_at (record {
+          labels = self.old.labels;
+          functions = functions.now;
+        })) self.old.again self.old.code) }
+        ensures same { OnErr result (are_naming self.old.again ≡ true →
+            map without_names self.new.code ≡ map without_names self.old.code) }
+    {
+        fill(
+            &Names::new(&self.labels, functions),
+            self.again.as_slice(),
+            &mut self.code,
+        )
+    }
+}
+
 /// Looks up the names of a function that has ended, and drops its labels and lines. If a name isn't
 /// known yet, labels and lines are kept: it may name a later function, or it may be a fault of the
 /// text, but not its first.
 fn settled<'a>(alloc: Global, functions: &Marks<'a>, kept: Kept<'a>) -> Kept<'a>
     ensures { (d : Draft) → IsShortened d kept.entry → IsKept functions.now d result }
 {
-    let Kept {
-        name,
-        args,
-        needs,
-        labels,
-        again,
-        code,
-    } = kept;
-    let mut code = code;
-    if fill(&Names::new(&labels, functions), again.as_slice(), &mut code).is_ok() {
-        return Kept {
-            name,
-            args,
-            needs,
-            labels: Marks::new(alloc),
-            again: Vec::new(alloc),
-            code,
-        };
+    let mut kept = kept;
+    if kept.look_up(functions).is_err() {
+        return kept;
     }
-    Kept {
-        name,
-        args,
-        needs,
-        labels,
-        again,
-        code,
-    }
+    kept.labels = Marks::new(alloc);
+    kept.again = Vec::new(alloc);
+    kept
 }
 
 /// Takes the first function that was not taken yet out of the outline, and keeps what is needed.

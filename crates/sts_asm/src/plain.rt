@@ -4,7 +4,7 @@ ghost use Rattle.std.specs.Prelude.{◌≡◌, ℕ, ◌+◌, ◌<◌, ◌≤◌,
 ghost use Rattle.std.specs.Prelude.{false, slice_index};
 ghost use Rattle.std.specs.Int.{w64, trailing_zeros};
 ghost use Rattle.std.specs.List.{list_all};
-ghost use Rattle.sts_asm.specs.Outline.{is_plain, is_allowed};
+ghost use Rattle.sts_asm.specs.Outline.{is_allowed};
 ghost use Rattle.sts_asm.specs.Plain.{is_in};
 
 use std::simd::prelude::*;
@@ -51,35 +51,6 @@ fn lowest_of(marks: u64) -> usize
     }
 }
 
-/// Counts the plain bytes from a place on, up to the first that isn't, among `LANES` bytes.
-#[inline(always)]
-fn plain_run(text: &[u8], from: usize) -> usize
-    requires { from + LANES ≤ length text.now }
-    ensures few { result ≤ LANES }
-    ensures plain { (k : ℕ) → from ≤ k → k < from + result →
-        is_plain (slice_index text.now k) ≡ true }
-{
-    let bytes = u8x16::from_slice(&text[from..]);
-    let unprinted = bytes.simd_lt(u8x16::splat(b' ')) | bytes.simd_gt(u8x16::splat(b'~'));
-    let stops = unprinted | bytes.simd_eq(u8x16::splat(b';'));
-    lowest_of(stops.to_bitmask())
-}
-
-/// Counts the allowed bytes from a place on, up to the first that isn't, among `LANES` bytes.
-#[inline(always)]
-fn allowed_run(text: &[u8], from: usize) -> usize
-    requires { from + LANES ≤ length text.now }
-    ensures few { result ≤ LANES }
-    ensures allowed { (k : ℕ) → from ≤ k → k < from + result →
-        is_allowed (slice_index text.now k) ≡ true }
-{
-    let bytes = u8x16::from_slice(&text[from..]);
-    let unprinted = bytes.simd_lt(u8x16::splat(b' ')) | bytes.simd_gt(u8x16::splat(b'~'));
-    let other = bytes.simd_ne(u8x16::splat(b'\t')) & bytes.simd_ne(u8x16::splat(b'\r'));
-    let stops = unprinted & other;
-    lowest_of(stops.to_bitmask())
-}
-
 /// Counts the bytes of the class from a place on, up to another one, among `LANES` bytes.
 #[inline(always)]
 fn run_of(class: Class, text: &[u8], from: usize) -> usize
@@ -88,9 +59,18 @@ fn run_of(class: Class, text: &[u8], from: usize) -> usize
     ensures inside { (k : ℕ) → from ≤ k → k < from + result →
         is_in class (slice_index text.now k) ≡ true }
 {
+    let bytes = u8x16::from_slice(&text[from..]);
+    let unprinted = bytes.simd_lt(u8x16::splat(b' ')) | bytes.simd_gt(u8x16::splat(b'~'));
     match class {
-        Class::Plain => plain_run(text, from),
-        Class::Allowed => allowed_run(text, from),
+        Class::Plain => {
+            let stops = unprinted | bytes.simd_eq(u8x16::splat(b';'));
+            lowest_of(stops.to_bitmask())
+        }
+        Class::Allowed => {
+            let other = bytes.simd_ne(u8x16::splat(b'\t')) & bytes.simd_ne(u8x16::splat(b'\r'));
+            let stops = unprinted & other;
+            lowest_of(stops.to_bitmask())
+        }
     }
 }
 

@@ -90,16 +90,15 @@ fn routine_of<'a>(
 ) -> Result<Function, AsmError>
     ensures { Judges (λ f. f) result (routine_of functions.now kept.entry) }
 {
+    let mut kept = kept;
+    kept.look_up(functions)?;
     let Kept {
         name,
         args,
         needs,
-        labels,
-        again,
         code,
+        ..
     } = kept;
-    let mut code = code;
-    fill(&Names::new(&labels, functions), again.as_slice(), &mut code)?;
     let name = String::from_str(alloc, name)?;
     Ok(Function {
         name,

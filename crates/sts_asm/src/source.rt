@@ -1,6 +1,6 @@
 //! The line of each instruction of a text, and the words of a line.
 
-ghost use Rattle.std.specs.Prelude.{◌≡◌, ◌<◌, slice_get, option_map, is_some, length};
+ghost use Rattle.std.specs.Prelude.{◌≡◌, ◌<◌, Some, slice_get, option_map, is_some, length};
 ghost use Rattle.std.specs.Option.{option_copied};
 ghost use Rattle.sts_text.specs.Words.{lines};
 ghost use Rattle.sts_asm.specs.Fault.{Judges};
@@ -12,7 +12,7 @@ use crate::fault::{AsmError, AsmKind};
 use crate::outline::{Outline, Sentence, uncommented};
 use crate::text::outline_of;
 use std::alloc::Global;
-use sts_text::{Words, cut_at_newline};
+use sts_text::{Words, after_lines, cut_at_newline};
 
 /// The functions of a text with the lines of their instructions, before names are looked up.
 ///
@@ -111,21 +111,24 @@ impl<'a> Sentence<'a> {
     }
 }
 
+fn first_line(text: &[u8]) -> &[u8]
+    ensures { Some result.now ≡ slice_get (lines text.now) 0 }
+{
+    match cut_at_newline(text) {
+        Some((line, _)) => line,
+        None => text,
+    }
+}
+
 /// The line of this number, counted from 0.
-#[tactic(auto, using(crate::proofs::SourceLemmas::line_first, crate::proofs::SourceLemmas::line_later, crate::proofs::SourceLemmas::line_past))]
+#[tactic(auto, using(crate::proofs::SourceLemmas::line_after, crate::proofs::SourceLemmas::line_past))]
 fn line_in(text: &[u8], number: u32) -> Option<&[u8]>
     ensures { option_copied result ≡ slice_get (lines text.now) number }
 {
-    let mut rest = text;
-    let mut left = number;
-    while let Some((line, after)) = cut_at_newline(rest) {
-        if left == 0 {
-            return Some(line);
-        }
-        rest = after;
-        left -= 1;
+    match after_lines(text, number) {
+        Some(rest) => Some(first_line(rest)),
+        None => None,
     }
-    if left == 0 { Some(rest) } else { None }
 }
 
 /// The line of this number, counted from 1.

@@ -11,7 +11,7 @@ use Rattle.sts_code.specs.declared.instr.Instr.TheVariants.{Times}
 use Rattle.sts_code.specs.declared.instr.Instr.TheVariants.{Next}
 use Rattle.sts_code.specs.declared.instr.Instr.TheVariants.{Ret, Fail}
 use Rattle.sts_rules.specs.Around.{next_place, around}
-use Rattle.sts_code.specs.Facts.{targets}
+use Rattle.sts_code.specs.Facts.{goes_straight_on, targets}
 use Rattle.sts_rules.specs.declared.budget.Budgets.{Budgets}
 use Rattle.sts_rules.specs.Budget.{skeleton, shape_of}
 use Rattle.sts_rules.specs.ControlPaths.{Shape, GoesTo, Repeats, EndsTurn, EndsPath, Skeleton}
@@ -21,7 +21,6 @@ use Rattle.sts_budget.specs.declared.change.Resource.TheVariants.{Steps}
 use Rattle.sts_budget.specs.declared.layout.Layout.{Layout}
 use Rattle.sts_budget.specs.Change.{source_of, added_of, change_of, depth_of, own_step}
 use Rattle.sts_budget.specs.Handing.{is_quiet, is_ordinary, turns_of, value_by, handed_value}
-use Rattle.sts_budget.specs.Layout.{goes_straight_on}
 use Rattle.sts_budget.specs.Ready.{IsLaidFor, first_of, names_in, head_in, flows_in}
 use Rattle.sts_budget.specs.Structured.{bound_of}
 use Rattle.sts_budget.specs.Sums.{Flows, FitsEntries, Stands}

@@ -22,12 +22,12 @@ use Rattle.sts_rules.specs.declared.typing.SlotKind.TheVariants.{Empty, Own, Sub
 use Rattle.sts_rules.specs.TypeState.{TypeState, scope_in}
 use Rattle.sts_rules.specs.Flow.{Leads}
 use Rattle.sts_rules.specs.Around.{next_place, skipped_to, open_after}
-use Rattle.sts_code.specs.Facts.{targets}
+use Rattle.sts_code.specs.Facts.{goes_straight_on, targets}
 use Rattle.sts_rules.specs.Edges.{follows, moved, with_slot, with_known, with_phase, phase_set}
 use Rattle.sts_rules.specs.Edges.{raised, after_ok, joiner_of, cleared, join_follows}
 use Rattle.sts_rules.specs.ControlPaths.{GoesTo, EndsPath, Among}
 use Rattle.sts_rules.specs.Budget.{shape_of}
-use Rattle.sts_budget.specs.Layout.{names_after, goes_straight_on}
+use Rattle.sts_budget.specs.Layout.{names_after}
 use Rattle.sts_budget.specs.TypedNames.{name_of, names}
 
 name_kept : (x : ℕ) (phase : TypedPhase) (e : TypedEntry) → name_of (phase_set x phase e) ≡ name_of e

@@ -57,31 +57,33 @@ measure_of Binds earlier = binds_measure earlier
 -- steps are summed over no entry
 abbrev pub change_of : Resource → List Budgets → Instr → EntryNames → SumChange
 change_of Steps earlier i ns = Rises (steps_of earlier i)
-change_of Tasks earlier i ns = measured (tasks_measure earlier) i ns
-change_of Scopes earlier i ns = measured (scopes_measure earlier) i ns
-change_of Binds earlier i ns = measured (binds_measure earlier) i ns
+change_of k earlier i ns = measured (measure_of k earlier) i ns
 
 abbrev pub depth_of : Resource → EntryNames → ℕ
 depth_of Steps ns = 0
 depth_of _ ns = length ns
 
--- the function's own part, outside the sums: the last step of a path, or the task itself
-abbrev pub own_of : Resource → ℕ
-own_of Steps = 1
-own_of Tasks = 1
-own_of Scopes = 0
-own_of Binds = 0
+-- the terms of a budget: the function's own part, outside the sums, which is the last step of a
+-- path or the task itself; the limit; and the cause if the budget is over it
+pub record Terms : Type 0 where
+  pub own : ℕ
+  pub limit : ℕ
+  pub cause : Cause
 
--- the limit
+abbrev pub terms : Resource → Terms
+terms Steps = record { own = 1; limit = MAX_STEPS; cause = TooManySteps }
+terms Tasks = record { own = 1; limit = MAX_STANDING; cause = TooManyTasks }
+terms Scopes = record { own = 0; limit = MAX_STANDING; cause = TooManyScopes }
+terms Binds = record { own = 0; limit = MAX_STANDING; cause = TooManyBinds }
+
+abbrev pub own_of : Resource → ℕ
+own_of k = (terms k).own
+
 abbrev pub limit_of : Resource → ℕ
-limit_of Steps = MAX_STEPS
-limit_of _ = MAX_STANDING
+limit_of k = (terms k).limit
 
 abbrev pub cause_of : Resource → Cause
-cause_of Steps = TooManySteps
-cause_of Tasks = TooManyTasks
-cause_of Scopes = TooManyScopes
-cause_of Binds = TooManyBinds
+cause_of k = (terms k).cause
 
 -- m is the budget of this resource
 abbrev pub IsMost : Resource → List Budgets → List Instr → ℕ → Type 0

@@ -1,11 +1,19 @@
 -- Laws of the budgets for every point of every control path (this project's own).
-use Rattle.std.specs.Prelude.{◌≡◌, ℕ, ◌+◌, ◌≤◌, List, Option}
+use Rattle.std.specs.Prelude.{◌≡◌, ℕ, ◌+◌, ◌<◌, ◌≤◌, List, length, Option}
 use Rattle.sts_code.specs.declared.instr.Instr.{Instr}
 use Rattle.sts_code.specs.declared.instr.Instr.TheVariants.{Fork}
-use Rattle.sts_code.specs.Program.{instr_at}
+use Rattle.sts_code.specs.Program.{Program, instr_at, routine}
 use Rattle.sts_rules.specs.declared.budget.Budgets.{Budgets}
 use Rattle.sts_rules.specs.ControlPaths.{OpenEntry, Loops, Comes, PathCounts}
-use Rattle.sts_rules.specs.Budget.{skeleton, steps_of, budget_at, tasks_sum, scopes_sum, binds_sum}
+use Rattle.sts_rules.specs.Budget.{IsBudget, skeleton, steps_of, budget_at, tasks_sum, scopes_sum}
+use Rattle.sts_rules.specs.Budget.{binds_sum}
+use Rattle.sts_rules.specs.Refusal.{IsWellTyped}
+
+-- the function is one of the program's and well typed, and these are its budgets
+pub record IsBudgeted (p : Program) (f : ℕ) (earlier : List Budgets) (b : Budgets) : Type 0 where
+  pub in_program : f < length p.routines
+  pub typed : IsWellTyped p f
+  pub budget : IsBudget earlier (routine p f).code b
 
 -- each point of a control path is on a whole path: with its own steps it counts at most what some
 -- whole path counts

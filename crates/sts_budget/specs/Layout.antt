@@ -1,10 +1,9 @@
 -- The open entries by their names only (this project's own).
 use Rattle.std.specs.Prelude.{◌≡◌, ℕ, ◌<◌, ◌≤◌, ◌⊎◌, List, [], ◌∷◌, length, drop, Option, Some}
-use Rattle.std.specs.Prelude.{None, Bool, true, false, slice_index_or}
+use Rattle.std.specs.Prelude.{None, slice_index_or}
 use Rattle.sts_code.specs.declared.instr.Instr.{Instr}
 use Rattle.sts_code.specs.declared.limits.TheConstants.{MAX_ENTRIES}
-use Rattle.sts_code.specs.declared.instr.Instr.TheVariants.{Div, Jmp, Jz, Open, Fork, Join, Close}
-use Rattle.sts_code.specs.declared.instr.Instr.TheVariants.{Case, Bind, Unbind, Ret, Fail}
+use Rattle.sts_code.specs.declared.instr.Instr.TheVariants.{Open, Fork, Close, Bind, Unbind}
 use Rattle.sts_types.specs.Arrivals.{none}
 use Rattle.sts_types.specs.Typing.{Typing}
 
@@ -20,17 +19,6 @@ names_after (Bind key) ns = None ∷ ns
 names_after (Close slot) ns = drop 1 ns
 names_after Unbind ns = drop 1 ns
 names_after _ ns = ns
-
--- does the instruction only go on to the next place?
-abbrev pub goes_straight_on : Instr → Bool
-goes_straight_on (Div to) = false
-goes_straight_on (Jmp to) = false
-goes_straight_on (Jz to) = false
-goes_straight_on (Join slot failed timeout interrupted) = false
-goes_straight_on (Case handle success failed) = false
-goes_straight_on Ret = false
-goes_straight_on Fail = false
-goes_straight_on _ = true
 
 -- is there a scope in this slot among them?
 abbrev pub HasScope : ℕ → EntryNames → Type 0

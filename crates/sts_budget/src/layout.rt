@@ -53,20 +53,3 @@ pub fn next_places(instr: Instr, pc: u32) -> ArrayVec<u32, 4>
     }
     places
 }
-
-/// Does the instruction only go on to the next place?
-#[inline(always)]
-pub(crate) fn goes_straight_on(instr: Instr) -> bool
-    ensures { result ≡ def.goes_straight_on instr }
-{
-    !matches!(
-        instr,
-        Instr::Div(_)
-            | Instr::Jmp(_)
-            | Instr::Jz(_)
-            | Instr::Join { .. }
-            | Instr::Case { .. }
-            | Instr::Ret
-            | Instr::Fail
-    )
-}

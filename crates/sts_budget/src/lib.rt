@@ -12,7 +12,7 @@ pub mod row;
 mod together;
 
 pub use budgets::{BudgetError, budget, typed_budget};
-pub use change::{Resource, added_of, change_of, depth_of, source_of};
+pub use change::{Resource, SumChange, added_of, change_of, depth_of, source_of};
 pub use greatest::{limit_of, own_of};
 pub use layout::{Layout, end_of, lay_out, next_places};
 pub use pass::turns_of;

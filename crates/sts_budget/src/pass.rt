@@ -15,10 +15,10 @@ ghost use Rattle.sts_budget.specs.Table.{HandsTooMuch, Passes, read};
 ghost use Rattle.sts_budget.specs.Handing.{handed_value, is_quiet, is_ordinary, turns_of};
 
 use crate::change::{Resource, change_of, depth_of};
-use crate::layout::{Layout, goes_straight_on, next_places};
+use crate::layout::{Layout, next_places};
 use crate::row::{Row, Values, raise, risen, values_after, values_of_loop};
 use std::alloc::{AllocError, Global};
-use sts_code::{Instr, MAX_INSTRUCTIONS};
+use sts_code::{Instr, MAX_INSTRUCTIONS, goes_straight_on};
 use sts_rules::{Budgets, filled};
 
 /// The input of one pass over a function: a resource, the budgets of the functions before, the

@@ -9,7 +9,6 @@ ghost use Rattle.sts_budget.specs.declared.change.Resource.{Resource};
 ghost use Rattle.sts_budget.specs.Change.{depth_of, own_of, own_step};
 ghost use Rattle.sts_budget.specs.Handing as handing;
 ghost use Rattle.sts_budget.specs.Handing.{handed_value};
-ghost use Rattle.sts_budget.specs.Layout as layouts;
 ghost use Rattle.sts_budget.specs.Ready.{IsLaidFor, flows_in, head_in, names_in};
 ghost use Rattle.sts_budget.specs.Table.{IsCarried, IsRaisedAt, IsSent, IsSpread, IsPartial, read};
 ghost use Rattle.sts_budget.specs.Together.{rows_of, sums_of, over_open, width, most, AreMost};
@@ -17,11 +16,11 @@ ghost use Rattle.sts_budget.specs.Together.{AreLong, AreTopped, IsPassOf, top_of
 
 use crate::change::Resource;
 use crate::greatest::{Top, add_place, most_of, no_top, own_of};
-use crate::layout::{Layout, goes_straight_on, next_places};
+use crate::layout::{Layout, next_places};
 use crate::pass::{Pass, is_ordinary, is_quiet, raise_row, values_of};
 use crate::row::{Row, Values, raise_all, risen};
 use std::alloc::{AllocError, Global};
-use sts_code::{Instr, MAX_INSTRUCTIONS};
+use sts_code::{Instr, MAX_INSTRUCTIONS, goes_straight_on};
 use sts_rules::{Budgets, filled};
 
 /// What the passes over a function read: the budgets of the functions before, the function's code
@@ -69,7 +68,7 @@ struct Handed<const N: usize> {
 #[inline(always)]
 fn only_steps(instr: Instr) -> bool
     ensures ordinary { IsTrue result → handing.is_ordinary instr ≡ true }
-    ensures straight { IsTrue result → layouts.goes_straight_on instr ≡ true }
+    ensures straight { IsTrue result → facts.goes_straight_on instr ≡ true }
 {
     is_ordinary(instr) && goes_straight_on(instr)
 }

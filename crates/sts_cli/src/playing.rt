@@ -18,12 +18,12 @@ use std::sync::Wait;
 use std::thread::Threads;
 use sts_model::Event;
 use sts_output::{
-    Mode, ModeError, Output, TakeError, WriteFailed, failed, list, plain, split, verify,
-    write_shown, written,
+    Mode, Output, Status, Stopped, TakeError, failed, list, plain, split, verify, write_shown,
+    written,
 };
 use sts_trace::write_trace;
 
-fn output(alloc: Global, mode: Mode, text: &[u8], trace: &[u8]) -> Result<Output, ModeError>
+fn output(alloc: Global, mode: Mode, text: &[u8], trace: &[u8]) -> Result<Output, Stopped<Output>>
     ensures { Prints result (def.Shows mode text.now trace.now) }
 {
     match mode {
@@ -41,13 +41,7 @@ fn output(alloc: Global, mode: Mode, text: &[u8], trace: &[u8]) -> Result<Output
 /// # Errors
 ///
 /// A write failed.
-pub fn play<W: Write>(
-    alloc: Global,
-    mode: Mode,
-    text: &[u8],
-    trace: &[u8],
-    out: &mut W,
-) -> Result<u8, WriteFailed>
+pub fn play<W: Write>(alloc: Global, mode: Mode, text: &[u8], trace: &[u8], out: &mut W) -> Status
     ensures { IfOk result (λ s. (o : def.Output) × def.IsOutputOf mode text.now trace.now o
         × def.Writes (W.contents out.old) (W.contents out.new) s o) }
 {
@@ -60,7 +54,7 @@ pub fn play<W: Write>(
 /// # Errors
 ///
 /// A write failed.
-pub fn play_joined<W: Write>(alloc: Global, input: &[u8], out: &mut W) -> Result<u8, WriteFailed>
+pub fn play_joined<W: Write>(alloc: Global, input: &[u8], out: &mut W) -> Status
     ensures { IfOk result (λ s. (o : def.Output)
         × def.IsOutputOf Mode.Plain (halves_of input.now).text (halves_of input.now).trace o
         × def.Writes (W.contents out.old) (W.contents out.new) s o) }
@@ -96,7 +90,7 @@ impl Aside {
 }
 
 /// Writes the output of a run, and leaves in `aside` which outside events came.
-fn print_ran<W: Write>(ran: &mut Ran, out: &mut W, aside: &mut Aside) -> Result<u8, WriteFailed>
+fn print_ran<W: Write>(ran: &mut Ran, out: &mut W, aside: &mut Aside) -> Status
     ensures { IfOk result (λ s.
         def.Writes (W.contents out.old) (W.contents out.new) s ran.old.output) }
 {
@@ -111,7 +105,7 @@ fn write_ran<T: Write, W: Write>(
     trace: &mut T,
     out: &mut W,
     aside: &mut Aside,
-) -> Result<u8, WriteFailed>
+) -> Status
     ensures { IfOk result (λ s. RunWrites (trace_and_output (T.contents trace.old) (T.contents trace.new)
         (W.contents out.old) (W.contents out.new)) s ran.old) }
 {
@@ -143,7 +137,7 @@ pub(crate) fn play_untraced<R: Threads + Wait + Sync, W: Write>(
     job: Job<'_>,
     out: &mut W,
     aside: &mut Aside,
-) -> Result<u8, WriteFailed>
+) -> Status
     requires { (1 ≤ job.workers) × (job.workers ≤ 16) }
     ensures { IfOk result (λ s. (o : Outcome) × IsOutcomeOf job.entry.text.now job.entry.outside.now o
         × def.Writes (W.contents out.old) (W.contents out.new) s o.output) }
@@ -166,7 +160,7 @@ pub(crate) fn play_traced<R: Threads + Wait + Sync, T: Write, W: Write>(
     trace: &mut T,
     out: &mut W,
     aside: &mut Aside,
-) -> Result<u8, WriteFailed>
+) -> Status
     requires { (1 ≤ job.workers) × (job.workers ≤ 16) }
     ensures { IfOk result (λ s. (o : Outcome) × IsOutcomeOf job.entry.text.now job.entry.outside.now o
         × RunWrites (trace_and_output (T.contents trace.old) (T.contents trace.new)
@@ -199,7 +193,7 @@ pub fn play_run<R: Threads + Wait + Sync, T: Write, W: Write>(
     outside: &[u8],
     trace: &mut T,
     out: &mut W,
-) -> Result<u8, WriteFailed>
+) -> Status
     requires { (1 ≤ workers) × (workers ≤ 16) }
     ensures { IfOk result (λ s. (o : Outcome) × IsOutcomeOf text.now outside.now o
         × RunWrites (trace_and_output (T.contents trace.old) (T.contents trace.new)

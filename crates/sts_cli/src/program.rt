@@ -20,9 +20,9 @@ use std::sync::Wait;
 use std::thread::Threads;
 use sts_args::{LineError, asked, line};
 use sts_output::{
-    Events, Host, Mode, NOT_TEXT, Named, Notes, STATUS_OUTSIDE, Sinks, Sources, TakeError, Texts,
-    WordsError, WriteFailed, borrowed, failed, file_failed, made, placeholder, read_input,
-    read_text, read_texts, split, words, written,
+    Events, Host, Mode, NOT_TEXT, Named, Notes, STATUS_OUTSIDE, Sinks, Sources, Status, TakeError,
+    Texts, WordsError, borrowed, failed, file_failed, made, placeholder, read_input, read_text,
+    read_texts, split, words, written,
 };
 use sts_remarks::{Remarks, Watched};
 
@@ -36,7 +36,7 @@ fn play_text<W: Write>(
     text: Named<'_>,
     out: &mut W,
     notes: &mut Notes,
-) -> Result<u8, WriteFailed>
+) -> Status
     ensures { IfOk result (λ s. (o : Output) × IsOutputOf mode text.entry.text.now [] o
         × Writes (W.contents out.old) (W.contents out.new) s o) }
 {
@@ -53,7 +53,7 @@ fn on_text<S: Sources, W: Write>(
     path: &str,
     out: &mut W,
     notes: &mut Notes,
-) -> Result<u8, WriteFailed>
+) -> Status
     ensures { IfOk result (λ s. (o : Output)
         × def.IsOfText mode (S.held sources.now path.now) o
         × Writes (W.contents out.old) (W.contents out.new) s o) }
@@ -78,7 +78,7 @@ fn play_trace<W: Write>(
     trace: Named<'_>,
     out: &mut W,
     remarks: &mut Remarks,
-) -> Result<u8, WriteFailed>
+) -> Status
     ensures { IfOk result (λ s. (o : Output)
         × IsOutputOf mode text.entry.text.now trace.entry.text.now o
         × Writes (W.contents out.old) (W.contents out.new) s o) }
@@ -97,7 +97,7 @@ fn on_text_and_trace<S: Sources, W: Write>(
     trace: &str,
     out: &mut W,
     remarks: &mut Remarks,
-) -> Result<u8, WriteFailed>
+) -> Status
     ensures { IfOk result (λ s. (o : Output)
         × def.IsOfTextAndTrace mode (S.held sources.now path.now) (S.held sources.now trace.now) o
         × Writes (W.contents out.old) (W.contents out.new) s o) }
@@ -117,7 +117,7 @@ fn on_text_and_trace<S: Sources, W: Write>(
 }
 
 /// Plays what was read from the input stream.
-fn play_input<W: Write>(input: &[u8], out: &mut W, remarks: &mut Remarks) -> Result<u8, WriteFailed>
+fn play_input<W: Write>(input: &[u8], out: &mut W, remarks: &mut Remarks) -> Status
     ensures { IfOk result (λ s. (o : Output)
         × IsOutputOf Mode.Plain (halves_of input.now).text (halves_of input.now).trace o
         × Writes (W.contents out.old) (W.contents out.new) s o) }
@@ -135,11 +135,7 @@ fn play_input<W: Write>(input: &[u8], out: &mut W, remarks: &mut Remarks) -> Res
 }
 
 /// A text and a trace on the input stream.
-fn on_input<S: Sources, W: Write>(
-    sources: &S,
-    out: &mut W,
-    remarks: &mut Remarks,
-) -> Result<u8, WriteFailed>
+fn on_input<S: Sources, W: Write>(sources: &S, out: &mut W, remarks: &mut Remarks) -> Status
     ensures { IfOk result (λ s. (o : Output)
         × def.IsOfInput (S.offered sources.now) o
         × Writes (W.contents out.old) (W.contents out.new) s o) }
@@ -177,7 +173,7 @@ fn on_texts<R: Threads + Wait + Sync, S: Sinks, W: Write>(
     out: &mut W,
     notes: &mut Notes,
     aside: &mut Aside,
-) -> Result<u8, WriteFailed>
+) -> Status
     requires { (1 ≤ wanted.workers) × (wanted.workers ≤ 16) }
     ensures { IfOk result (λ s. (o : Output)
         × def.IsPrinted (def.Spares
@@ -228,7 +224,7 @@ fn on_run<R: Threads + Wait + Sync, S: Sources + Sinks, W: Write>(
     wanted: RunRequest<'_>,
     out: &mut W,
     remarks: &mut Remarks,
-) -> Result<u8, WriteFailed>
+) -> Status
     requires { (1 ≤ wanted.workers) × (wanted.workers ≤ 16) }
     ensures { IfOk result (λ s. (o : Output)
         × def.IsOfFiles wanted.entry.file.now wanted.entry.outside wanted.entry.trace
@@ -256,7 +252,7 @@ fn on_line<R: Threads + Wait + Sync, S: Sources + Sinks, W: Write>(
     wanted: asked::Line<'_>,
     out: &mut W,
     remarks: &mut Remarks,
-) -> Result<u8, WriteFailed>
+) -> Status
     requires { HasWorkers wanted }
     ensures { IfOk result (λ s. (o : Output)
         × def.IsPlayed wanted.entry (S.held sources.old)
@@ -298,11 +294,7 @@ fn on_line<R: Threads + Wait + Sync, S: Sources + Sinks, W: Write>(
 }
 
 /// Writes why a line asks for nothing that can be done.
-fn on_error<W: Write, E: Write>(
-    error: LineError,
-    out: &mut W,
-    err: &mut E,
-) -> Result<u8, WriteFailed>
+fn on_error<W: Write, E: Write>(error: LineError, out: &mut W, err: &mut E) -> Status
     ensures { (words : List Text) (files : AnyFiles) (same : SameFile) (input : Option (List ℕ))
         → Refuses words error → IfOk result (def.Ends words files same input
         (def.both_streams (W.contents out.old) (W.contents out.new)
@@ -337,7 +329,7 @@ pub fn run<R: Threads + Wait + Sync, S: Sources + Sinks, W: Write, E: Write>(
     out: &mut W,
     err: &mut E,
     remarks: &mut Remarks,
-) -> Result<u8, WriteFailed>
+) -> Status
     ensures { IfOk result (def.Ends (map (λ w. w.now) words.now) (S.held sources.old)
         (same_file (S.same sources.old) (S.said_yes sources.old) (S.said_yes sources.new))
         (S.offered sources.old)
@@ -363,7 +355,7 @@ pub fn run_words<R: Threads + Wait + Sync, S: Sources + Sinks, W: Write, E: Writ
     out: &mut W,
     err: &mut E,
     remarks: &mut Remarks,
-) -> Result<u8, WriteFailed>
+) -> Status
     ensures { IfOk result (def.EndsFrom words.now (S.held sources.old)
         (same_file (S.same sources.old) (S.said_yes sources.old) (S.said_yes sources.new))
         (S.offered sources.old)

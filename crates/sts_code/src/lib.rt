@@ -15,8 +15,8 @@ mod program;
 pub use checking::{CodeCause, CodeError};
 pub use code::{args, code_of, name_of};
 pub use facts::{
-    can_fail, falls_through, filled_slot, is_await_all, owners_slot, pops, pushes, subtask_slot,
-    targets,
+    can_fail, falls_through, filled_slot, goes_straight_on, is_await_all, is_until, owners_slot,
+    pops, pushes, subtask_slot, targets,
 };
 pub use instr::{Instr, Joiner, Kind, Pred};
 pub use limits::{

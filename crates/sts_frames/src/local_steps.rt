@@ -1,4 +1,4 @@
-//! Local instructions: which they are, and what each does to the frame.
+//! What each local instruction does to the frame.
 
 ghost use Rattle.std.specs.Prelude.{◌≡◌, ◌<◌, ◌+◌, ◌^◌, length, true, false, pos, ◌+ℤ◌, ◌-ℤ◌, ◌*ℤ◌};
 ghost use Rattle.std.specs.Prelude.{slice_index_or, slice_set, ◌≤◌, ◌&&◌, Some, None, is_some};
@@ -12,31 +12,6 @@ ghost use Rattle.sts_model.specs.World as world;
 
 use sts_code::{Instr, LAST_SLOT, Program, match_of};
 use sts_model::{Frame, Loop};
-
-/// Is it a local instruction?
-pub fn is_local(instr: Instr) -> bool
-    ensures { result ≡ def.is_local instr }
-{
-    matches!(
-        instr,
-        Instr::Push(_)
-            | Instr::Pop
-            | Instr::Dup
-            | Instr::Swap
-            | Instr::Load(_)
-            | Instr::Store(_)
-            | Instr::Add
-            | Instr::Sub
-            | Instr::Mul
-            | Instr::Lt
-            | Instr::Eq
-            | Instr::Div(_)
-            | Instr::Jmp(_)
-            | Instr::Jz(_)
-            | Instr::Times(_)
-            | Instr::Next
-    )
-}
 
 /// The sum, wrapping.
 #[tactic(auto, using(std::proofs::lemmas::Int::wraps))]

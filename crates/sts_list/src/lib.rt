@@ -8,4 +8,4 @@ mod targets;
 
 pub use laws::listings_are_assembled_again;
 pub use listing::list;
-pub use spelling::{spell, write_joiner};
+pub use spelling::{spell, write_joiner, write_words};

@@ -8,6 +8,7 @@ ghost use Rattle.sts_code.specs.Program.{routine};
 use std::alloc::{AllocError, Global};
 use std::fmt::Write;
 use sts_code::{Instr, Joiner, Kind, Pred, Program};
+use sts_text::Words;
 
 fn keyword(instr: &Instr) -> &'static str
     ensures { result.now ≡ keyword instr.now }
@@ -245,4 +246,20 @@ pub fn spell(alloc: Global, instr: &Instr, program: &Program) -> Result<String, 
     let mut out = String::new(alloc);
     write_instr(&mut out, *instr, program)?;
     Ok(out)
+}
+
+/// Appends words as they are, each after a space.
+///
+/// # Errors
+///
+/// Memory ran out; `out` may then have a part of them.
+pub fn write_words<'a>(out: &mut Vec<u8>, words: Words<'a>) -> Result<(), AllocError>
+    ensures { OnOk result (out.new.items ≡ out.old.items ++ after_spaces words.entry) }
+{
+    let mut left = words;
+    while let Some(word) = left.word() {
+        out.push(b' ')?;
+        out.extend_from_slice(word)?;
+    }
+    Ok(())
 }

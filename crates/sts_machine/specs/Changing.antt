@@ -1,10 +1,11 @@
 -- The changes that an instruction of one task may make to the parts that the view doesn't show
 -- (this project's own).
-use Rattle.std.specs.Prelude.{◌≡◌, ℕ, ◌+◌, Bool, true, false, Option, Some, None, ◌==◌, if◌then◌else◌}
+use Rattle.std.specs.Prelude.{◌≡◌, ℕ, ◌+◌, Bool, true, false, not, Option, Some, None, ◌==◌}
+use Rattle.std.specs.Prelude.{if◌then◌else◌}
 use Rattle.sts_code.specs.declared.instr.Instr.{Instr}
-use Rattle.sts_code.specs.declared.instr.Instr.TheVariants.{Open, Fork, Join, Close, Bind, Unbind}
-use Rattle.sts_code.specs.declared.instr.Instr.TheVariants.{Ret, Fail}
+use Rattle.sts_code.specs.declared.instr.Instr.TheVariants.{Join, Close, Bind, Unbind, Ret, Fail}
 use Rattle.sts_model.specs.declared.event.Stand.TheVariants.{Free}
+use Rattle.sts_model.specs.Effect.{takes_memory}
 use Rattle.sts_model.specs.Live.{Live}
 use Rattle.laws_live.specs.Reading.{lives_in}
 use Rattle.laws_accepted.specs.Views.{live_tasks, live_scopes, live_bindings}
@@ -13,14 +14,10 @@ use Rattle.sts_machine.specs.Room.{living_tasks}
 
 -- does it leave the numbers of tasks, scopes and bindings unchanged, and nothing to record?
 abbrev pub is_quiet : Instr → Bool
-is_quiet (Open x timed joiner) = false
-is_quiet (Fork x g h) = false
 is_quiet (Close x) = false
 is_quiet (Bind k) = false
 is_quiet Unbind = false
-is_quiet Ret = false
-is_quiet Fail = false
-is_quiet _ = true
+is_quiet i = not (takes_memory i)
 
 -- may a scope be recorded for its task, before it or after it?
 abbrev pub may_wait : Instr → Bool

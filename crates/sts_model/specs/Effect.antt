@@ -86,14 +86,18 @@ fork_task p w t f s g h =
     with_frame (record w { tasks = w.tasks ++ subtask_of p w f s g ∷ [] }) t (forked f
     (routine p g).args h (length w.tasks))
 
+-- the frame after a verdict, with the value or the code of the failure pushed
+abbrev pub answered : Verdict → Frame → ℕ → Frame
+answered (verdict.Ok None) f failed = steps f 0 []
+answered (verdict.Ok (Some v)) f failed = steps f 0 (v ∷ [])
+answered (verdict.Failed c) f failed = goes f failed 0 (c ∷ [])
+
 -- after an outcome of `join` other than interrupted
 abbrev pub joined : World → ℕ → ℕ → Frame → World
 joined w t s f = with_frame (with_phase w s Joined) t f
 
 abbrev pub join_verdict : Verdict → World → ℕ → ℕ → Frame → ℕ → World
-join_verdict (verdict.Ok None) w t s f failed = joined w t s (steps f 0 [])
-join_verdict (verdict.Ok (Some v)) w t s f failed = joined w t s (steps f 0 (v ∷ []))
-join_verdict (verdict.Failed c) w t s f failed = joined w t s (goes f failed 0 (c ∷ []))
+join_verdict answer w t s f failed = joined w t s (answered answer f failed)
 
 -- the outcome of a `join`: a timeout, or the joiner's result, or interrupted. The last needs no
 -- test: a task waits here if its flag isn't set.

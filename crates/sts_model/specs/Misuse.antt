@@ -31,7 +31,7 @@ use Rattle.sts_model.specs.declared.event.Fault.TheVariants.{Operand, Unbound}
 use Rattle.sts_model.specs.declared.event.End.{End}
 use Rattle.sts_model.specs.declared.event.End.TheVariants.{Success, Failed}
 use Rattle.sts_model.specs.declared.event.Phase.{Phase}
-use Rattle.sts_model.specs.declared.event.Phase.TheVariants.{Opened, Attempted, Joined, Closing}
+use Rattle.sts_model.specs.declared.event.Phase.TheVariants.{Opened, Attempted, Joined}
 use Rattle.sts_model.specs.declared.record.Slot.{Slot}
 use Rattle.sts_model.specs.declared.record.Slot.TheVariants.{Empty, Own, Lent, Sub}
 use Rattle.sts_model.specs.declared.record.Entry.{Entry}
@@ -119,12 +119,15 @@ abbrev pub at_sub : World → Slot → (ℕ → Scope → Bool) → Bool
 at_sub w (Sub t) test = test t (scope_of w t)
 at_sub w _ test = false
 
--- a `join` with no room for the answer, or with targets that don't fit the scope
+-- a `join` with no room for the answer, or with targets that don't fit a scope with this joiner,
+-- which may have a timeout
+abbrev pub misfits : Frame → Option ℕ → Option ℕ → Joiner → Bool → Bool
+misfits f failed timeout joiner timed =
+    (nat_le MAX_OPERANDS (length f.operands) && not (is_await_all joiner))
+    || not (same (is_some failed) (can_fail joiner)) || not (same (is_some timeout) timed)
+
 abbrev pub joins_wrongly : Frame → Option ℕ → Option ℕ → Scope → Bool
-joins_wrongly f failed timeout scope =
-    (nat_le MAX_OPERANDS (length f.operands) && not (is_await_all scope.joiner))
-    || not (same (is_some failed) (can_fail scope.joiner))
-    || not (same (is_some timeout) scope.timed)
+joins_wrongly f failed timeout scope = misfits f failed timeout scope.joiner scope.timed
 
 -- a `join` in a form that does not fit its scope
 abbrev pub misjoins : World → Frame → Instr → Bool
@@ -148,19 +151,14 @@ abbrev pub is_opened : Phase → Bool
 is_opened Opened = true
 is_opened _ = false
 
--- may `join` be done in this phase?
+-- may `join` be done in this phase? It may be done again after it was interrupted
 abbrev pub can_join : Phase → Bool
-can_join Opened = true
 can_join Attempted = true
-can_join _ = false
+can_join phase = is_opened phase
 
 abbrev pub is_joined : Phase → Bool
 is_joined Joined = true
 is_joined _ = false
-
-abbrev pub is_closing : Phase → Bool
-is_closing Closing = true
-is_closing _ = false
 
 abbrev pub has_succeeded : Option End → Bool
 has_succeeded None = false

@@ -56,10 +56,14 @@ is_step _ = false
 abbrev pub steps_in : Program → State → Event → ℕ
 steps_in p state e = if is_step e && counts p state e then 1 else 0
 
+-- the sum of what each event of a list counts in the state that the events before it led to
+abbrev pub sum_over : {S : Type 0} → (S → Event → ℕ) → (S → Event → S) → S → List Event → ℕ
+sum_over count change state [] = 0
+sum_over count change state (e ∷ es) = count state e + sum_over count change (change state e) es
+
 -- the number of steps that count in a list of events, from this state on
 abbrev pub taken_from : Program → State → List Event → ℕ
-taken_from p state [] = 0
-taken_from p state (e ∷ es) = steps_in p state e + taken_from p (apply p state e) es
+taken_from p state events = sum_over (steps_in p) (apply p) state events
 
 -- the steps taken, a faulting one included
 abbrev pub taken : Program → List Event → ℕ

@@ -3,10 +3,13 @@
 -- completed or the scope is cancelled, `close` until all threads have finished. It says too that an
 -- interrupt ends the wait of `join`, and not that of `close`. The order in which `join` looks is
 -- this project's own.
-use Rattle.std.specs.Prelude.{ℕ, Bool, true, Option, Some, None, ◌&&◌, ◌||◌, not, if◌then◌else◌}
+use Rattle.std.specs.Prelude.{ℕ, Bool, true, false, Option, Some, None, ◌&&◌, ◌||◌, not}
+use Rattle.std.specs.Prelude.{if◌then◌else◌}
 use Rattle.sts_code.specs.Program.{Program}
 use Rattle.sts_code.specs.declared.instr.Instr.{Instr}
 use Rattle.sts_code.specs.declared.instr.Instr.TheVariants.{Join, Close}
+use Rattle.sts_model.specs.declared.event.Phase.{Phase}
+use Rattle.sts_model.specs.declared.event.Phase.TheVariants.{Closing}
 use Rattle.sts_model.specs.declared.event.Stand.{Stand}
 use Rattle.sts_model.specs.declared.event.Stand.TheVariants.{Free, AtJoin, AtClose}
 use Rattle.sts_model.specs.declared.event.Fault.{Fault}
@@ -15,13 +18,17 @@ use Rattle.sts_model.specs.declared.record.Slot.TheVariants.{Own}
 use Rattle.sts_model.specs.declared.record.Task.{Task}
 use Rattle.sts_model.specs.World.{World, task_at, scope_at, instr_at}
 use Rattle.sts_model.specs.Living.{lives, any_lives}
-use Rattle.sts_model.specs.Misuse.{slot, is_closing, misuse}
+use Rattle.sts_model.specs.Misuse.{slot, misuse}
 
 -- at the `join` of a scope that the slot owns, if nothing is misused; the next step of a misused
 -- `join` is its fault
 abbrev pub stands_at_join : Option Fault → Slot → Stand
 stands_at_join None (Own s) = AtJoin s
 stands_at_join _ _ = Free
+
+abbrev pub is_closing : Phase → Bool
+is_closing Closing = true
+is_closing _ = false
 
 -- at the `close` of a scope that the slot owns, after the close began
 abbrev pub stands_at_close : World → Slot → Stand

@@ -1,17 +1,17 @@
--- Outputs of modes that went on, or no further.
+-- Outputs of modes and explanations that went on, or no further.
 use Rattle.std.proofs.Common.{◌≡◌, ◌⊎◌, inl, inr, Result, Ok, Err, sym, subst}
 use Rattle.sts_output.specs.Output.{Output, memory_output}
 use Rattle.sts_output.specs.Stops.{Says, Prints, IsShown}
-use Rattle.sts_output.specs.declared.mode_error.ModeError.{ModeError}
-use Rattle.sts_output.specs.declared.mode_error.ModeError.TheVariants as mode_error
+use Rattle.sts_output.specs.declared.stopped.Stopped.{Stopped}
+use Rattle.sts_output.specs.declared.stopped.Stopped.TheVariants as stopped
 
 -- what holds of the output that says why may be weakened
-pub says_less : (e : ModeError) (P Q : Output → Type 0) → ((o : Output) → P o → Q o) → Says P e → Says Q e
-says_less (mode_error.Shown o) P Q k h = k o h
-says_less mode_error.Memory P Q k h = tt
+pub says_less : (e : Stopped Output) (P Q : Output → Type 0) → ((o : Output) → P o → Q o) → Says P e → Says Q e
+says_less (stopped.Shown o) P Q k h = k o h
+says_less stopped.Memory P Q k h = tt
 
--- the written output is that of the mode, or memory ran out
-pub shown_or_memory : (r : Result Output ModeError) (o : Output) (P : Output → Type 0) → Prints r P → IsShown r o → P o ⊎ (o ≡ memory_output)
+-- the written output is what was made, or memory ran out
+pub shown_or_memory : (r : Result Output (Stopped Output)) (o : Output) (P : Output → Type 0) → Prints r P → IsShown r o → P o ⊎ (o ≡ memory_output)
 shown_or_memory (Ok x) o P h is = inl (subst P (sym is) h)
-shown_or_memory (Err (mode_error.Shown x)) o P h is = inl (subst P (sym is) h)
-shown_or_memory (Err mode_error.Memory) o P h is = inr is
+shown_or_memory (Err (stopped.Shown x)) o P h is = inl (subst P (sym is) h)
+shown_or_memory (Err stopped.Memory) o P h is = inr is

@@ -1,25 +1,25 @@
--- What a step of a mode gives: something to go on with, or the output that says why the mode goes
--- no further (this project's own).
+-- What a step of a mode or an explanation gives: something to go on with, or the output that says
+-- why it goes no further (this project's own).
 use Rattle.std.specs.Prelude.{◌≡◌, ⊤, List, Result, Ok, Err, MatchResult}
 use Rattle.sts_code.specs.Program.{Program}
 use Rattle.sts_model.specs.declared.event.Event.{Event}
 use Rattle.sts_asm.specs.declared.fault.AsmError.{AsmError}
 use Rattle.sts_trace.specs.declared.error.TraceError.{TraceError}
 use Rattle.sts_output.specs.Output.{Output, memory_output, text_fault_output, trace_fault_output}
-use Rattle.sts_output.specs.declared.mode_error.ModeError.{ModeError}
-use Rattle.sts_output.specs.declared.mode_error.ModeError.TheVariants as mode_error
+use Rattle.sts_output.specs.declared.stopped.Stopped.{Stopped}
+use Rattle.sts_output.specs.declared.stopped.Stopped.TheVariants as stopped
 
 -- the output that says why, if memory didn't run out
-abbrev pub Says : (Output → Type 0) → ModeError → Type 0
-Says Q (mode_error.Shown output) = Q output
-Says Q mode_error.Memory = ⊤
+abbrev pub Says : (Output → Type 0) → Stopped Output → Type 0
+Says Q (stopped.Shown output) = Q output
+Says Q stopped.Memory = ⊤
 
 -- something to go on with, or the output that says why there is none
-abbrev pub Gives : {T : Type 0} → Result T ModeError → (T → Type 0) → (Output → Type 0) → Type 0
+abbrev pub Gives : {T : Type 0} → Result T (Stopped Output) → (T → Type 0) → (Output → Type 0) → Type 0
 Gives r P Q = MatchResult r P (Says Q)
 
--- the output of a mode, also if it went no further
-abbrev pub Prints : Result Output ModeError → (Output → Type 0) → Type 0
+-- an output, also if it went no further
+abbrev pub Prints : Result Output (Stopped Output) → (Output → Type 0) → Type 0
 Prints r P = Gives r P P
 
 -- the output for a fault of the text
@@ -35,7 +35,7 @@ pub record IsTraceFault (read : Result (List Event) TraceError) (output : Output
   pub printed : output ≡ trace_fault_output error
 
 -- what is written of it
-abbrev pub IsShown : Result Output ModeError → Output → Type 0
+abbrev pub IsShown : Result Output (Stopped Output) → Output → Type 0
 IsShown (Ok shown) output = output ≡ shown
-IsShown (Err (mode_error.Shown shown)) output = output ≡ shown
-IsShown (Err mode_error.Memory) output = output ≡ memory_output
+IsShown (Err (stopped.Shown shown)) output = output ≡ shown
+IsShown (Err stopped.Memory) output = output ≡ memory_output

@@ -5,7 +5,6 @@
 mod file_error;
 mod joined;
 mod mode;
-mod mode_error;
 mod modes;
 mod notes;
 pub mod output;
@@ -17,6 +16,7 @@ mod refusal;
 mod shown;
 mod sinks;
 mod sources;
+mod stopped;
 mod taking;
 mod text_mode;
 mod texts;
@@ -25,7 +25,6 @@ mod writing;
 pub use file_error::FileError;
 pub use joined::split;
 pub use mode::Mode;
-pub use mode_error::{ModeError, events_of, program_of, write_shown};
 pub use modes::{list, plain, verify};
 pub use notes::{Events, Notes};
 pub use output::{Output, state_status, text_fault, trace_fault};
@@ -37,9 +36,10 @@ pub use refusal::{Refusal, accepted, judge, verified_of};
 pub use shown::{line_at, say_shown};
 pub use sinks::{Sinks, made, spared};
 pub use sources::{Host, Sources, file};
+pub use stopped::{Stopped, events_of, program_of, write_shown};
 pub use taking::{TakeError, bytes_of, take};
 pub use text_mode::{TextMode, play_text};
 pub use texts::{
     MOST_OF_A_STREAM, MOST_OF_A_TEXT, NOT_TEXT, Texts, borrowed, read_input, read_text, read_texts,
 };
-pub use writing::{STATUS_OUTSIDE, WriteFailed, failed, file_failed, written};
+pub use writing::{STATUS_OUTSIDE, Status, WriteFailed, failed, file_failed, written};

@@ -5,9 +5,9 @@ ghost use Rattle.sts_rules.specs.Refusal.{IsAccepted, IsRefusal};
 ghost use Rattle.sts_output.specs.Output as def;
 ghost use Rattle.sts_output.specs.Stops.{Gives};
 
-use crate::mode_error::ModeError;
 use crate::output::Output;
 use crate::printed;
+use crate::stopped::Stopped;
 use std::alloc::{AllocError, Global};
 use sts_code::Program;
 use sts_rules::Cause;
@@ -72,12 +72,12 @@ fn refused(alloc: Global, refusal: &Refusal) -> Result<Output, AllocError>
 /// # Errors
 ///
 /// The program is refused, or memory ran out.
-pub fn verified_of(alloc: Global, program: Program) -> Result<Verified, ModeError>
+pub fn verified_of(alloc: Global, program: Program) -> Result<Verified, Stopped<Output>>
     ensures { Gives result (λ verified. verified ≡ program) (def.IsRefused program) }
 {
     match judge(alloc, program)? {
         Ok(verified) => Ok(verified),
-        Err(refusal) => Err(ModeError::Shown(refused(alloc, &refusal)?)),
+        Err(refusal) => Err(Stopped::Shown(refused(alloc, &refusal)?)),
     }
 }
 
@@ -88,7 +88,7 @@ pub fn accepted(alloc: Global, program: Program) -> Result<Result<Verified, Outp
 {
     match verified_of(alloc, program) {
         Ok(verified) => Ok(Ok(verified)),
-        Err(ModeError::Shown(refusal)) => Ok(Err(refusal)),
-        Err(ModeError::Memory) => Err(AllocError),
+        Err(Stopped::Shown(refusal)) => Ok(Err(refusal)),
+        Err(Stopped::Memory) => Err(AllocError),
     }
 }

@@ -1,11 +1,11 @@
 //! Takes a reader's bytes, up to a limit.
 
 ghost use Rattle.std.specs.IoError.{error_kind};
-ghost use Rattle.std.specs.Prelude.{◌≡◌, ◌≢◌, ◌↔◌, ◌≤◌, ◌<◌, ◌++◌, IfSome, IfOk, IfErr, OnErr};
+ghost use Rattle.std.specs.Prelude.{◌≡◌, ◌≢◌, ◌↔◌, ◌≤◌, ◌<◌, ◌++◌, IfOk, IfErr, OnErr};
 ghost use Rattle.std.specs.Prelude.{length, take, vec_len};
 ghost use Rattle.std.specs.Io.{ReadsAtMost};
 ghost use Rattle.std.specs.Io.KnownBytes.{Keeps, Consumes, IsAtEnd};
-ghost use Rattle.sts_output.specs.Taking.{LosesUpTo};
+ghost use Rattle.sts_output.specs.Taking.{IsTakenOf, LosesUpTo};
 
 use std::alloc::{AllocError, Global};
 use std::io;
@@ -94,8 +94,7 @@ fn take_piece<R: Read>(
 /// Memory ran out, which is of the kind `OutOfMemory`, or a read failed; the bytes that were
 /// read before are lost.
 pub fn bytes_of<R: Read>(alloc: Global, reader: &mut R, most: u64) -> io::Result<Vec<u8>>
-    ensures known { IfOk result (λ taken. IfSome (R.remaining reader.old)
-        (λ xs. taken.items ≡ take most xs)) }
+    ensures known { IfOk result (λ taken. IsTakenOf (R.remaining reader.old) most taken.items) }
     ensures bound { IfOk result (λ taken. length taken.items ≤ most) }
     ensures read { IfOk result (λ taken. Consumes (R.remaining reader.old)
         (R.remaining reader.new) taken.items) }
@@ -119,8 +118,7 @@ pub fn bytes_of<R: Read>(alloc: Global, reader: &mut R, most: u64) -> io::Result
 ///
 /// Memory ran out, or a read failed; the bytes that were read before are lost.
 pub fn take<R: Read>(alloc: Global, reader: &mut R, most: u64) -> Result<Vec<u8>, TakeError>
-    ensures known { IfOk result (λ taken. IfSome (R.remaining reader.old)
-        (λ xs. taken.items ≡ take most xs)) }
+    ensures known { IfOk result (λ taken. IsTakenOf (R.remaining reader.old) most taken.items) }
     ensures bound { IfOk result (λ taken. length taken.items ≤ most) }
     ensures read { IfOk result (λ taken. Consumes (R.remaining reader.old)
         (R.remaining reader.new) taken.items) }

@@ -5,10 +5,10 @@ ghost use Rattle.sts_output.specs.Output as def;
 ghost use Rattle.sts_output.specs.Stops.{Prints};
 ghost use Rattle.sts_output.specs.TextMode.{mode_of};
 
-use crate::mode_error::{ModeError, write_shown};
 use crate::modes::{list, plain, verify};
 use crate::output::Output;
-use crate::writing::WriteFailed;
+use crate::stopped::{Stopped, write_shown};
+use crate::writing::Status;
 use std::alloc::Global;
 use std::io::Write;
 
@@ -20,7 +20,12 @@ pub enum TextMode {
     Plain,
 }
 
-fn output(alloc: Global, mode: TextMode, text: &[u8], trace: &[u8]) -> Result<Output, ModeError>
+fn output(
+    alloc: Global,
+    mode: TextMode,
+    text: &[u8],
+    trace: &[u8],
+) -> Result<Output, Stopped<Output>>
     ensures { Prints result (def.Shows (mode_of mode) text.now trace.now) }
 {
     match mode {
@@ -41,7 +46,7 @@ pub fn play_text<W: Write>(
     text: &[u8],
     trace: &[u8],
     out: &mut W,
-) -> Result<u8, WriteFailed>
+) -> Status
     ensures { IfOk result (λ s. (o : def.Output)
         × def.IsOutputOf (mode_of mode) text.now trace.now o
         × def.Writes (W.contents out.old) (W.contents out.new) s o) }

@@ -13,6 +13,9 @@ use std::io::Write;
 #[derive(Clone, Copy)]
 pub struct WriteFailed;
 
+/// The status of a program, if all that it wrote could be written.
+pub type Status = Result<u8, WriteFailed>;
+
 /// The status if memory, a file or a stream failed.
 pub const STATUS_OUTSIDE: u8 = 6;
 
@@ -21,7 +24,7 @@ pub const STATUS_OUTSIDE: u8 = 6;
 /// # Errors
 ///
 /// A write failed.
-pub fn written<W: Write>(out: &mut W, bytes: &[u8], status: u8) -> Result<u8, WriteFailed>
+pub fn written<W: Write>(out: &mut W, bytes: &[u8], status: u8) -> Status
     ensures { IfOk result (λ s. (o : def.Output)
         × (o ≡ record { bytes = bytes.now; status = status })
         × def.Writes (W.contents out.old) (W.contents out.new) s o) }
@@ -37,7 +40,7 @@ pub fn written<W: Write>(out: &mut W, bytes: &[u8], status: u8) -> Result<u8, Wr
 /// # Errors
 ///
 /// A write failed.
-pub fn failed<W: Write>(error: TakeError, out: &mut W) -> Result<u8, WriteFailed>
+pub fn failed<W: Write>(error: TakeError, out: &mut W) -> Status
     ensures { IfOk result (λ s.
         def.Writes (W.contents out.old) (W.contents out.new) s (def.failure_output error)) }
 {
@@ -53,11 +56,7 @@ pub fn failed<W: Write>(error: TakeError, out: &mut W) -> Result<u8, WriteFailed
 /// # Errors
 ///
 /// A write failed.
-pub fn file_failed<W: Write>(
-    error: FileError<'_>,
-    out: &mut W,
-    notes: &mut Notes,
-) -> Result<u8, WriteFailed>
+pub fn file_failed<W: Write>(error: FileError<'_>, out: &mut W, notes: &mut Notes) -> Status
     ensures { IfOk result (λ s. (e : Failure)
         × def.Writes (W.contents out.old) (W.contents out.new) s (def.failure_output e)) }
 {

@@ -7,8 +7,8 @@ use Rattle.sts_model.specs.declared.event.Fault.{Fault}
 use Rattle.sts_model.specs.declared.event.Stand.TheVariants.{Free, AtJoin, AtClose}
 use Rattle.sts_model.specs.declared.record.Slot.{Slot}
 use Rattle.sts_model.specs.declared.record.Slot.TheVariants.{Own}
-use Rattle.sts_model.specs.Misuse.{slot, is_closing, misuse}
-use Rattle.sts_model.specs.Waiting.{stands_at_join, stands_at_close, stand_at_instr, stand_at}
+use Rattle.sts_model.specs.Misuse.{slot, misuse}
+use Rattle.sts_model.specs.Waiting.{stands_at_join, stands_at_close, stand_at_instr, stand_at, is_closing}
 use Rattle.sts_model.specs.World.{World, task_at, scope_at, instr_at}
 
 no_fault : (m : Option Fault) (x : Slot) (s : ℕ) → stands_at_join m x ≡ AtJoin s → m ≡ None

@@ -2,6 +2,7 @@
 #![tactic(auto)]
 
 pub mod frame_tests;
+mod local_step;
 mod misstep;
 mod misuses;
 mod perform;
@@ -9,6 +10,7 @@ mod plain;
 mod position;
 mod stand;
 
+pub use local_step::does_local;
 pub use misstep::{Misstep, PlainState};
 pub use misuses::misuse;
 pub use perform::act;

@@ -145,11 +145,10 @@ is_opened_phase _ = false
 abbrev pub is_opened : TypedScope → Bool
 is_opened scope = is_opened_phase scope.phase
 
--- may `join` be done in this phase?
+-- may `join` be done in this phase? It may be done again after it was interrupted
 abbrev pub can_join_phase : TypedPhase → Bool
-can_join_phase Opened = true
 can_join_phase Attempted = true
-can_join_phase _ = false
+can_join_phase phase = is_opened_phase phase
 
 abbrev pub can_join : TypedScope → Bool
 can_join scope = can_join_phase scope.phase

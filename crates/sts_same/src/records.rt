@@ -3,19 +3,7 @@
 ghost use Rattle.std.specs.Prelude.{◌≡◌, true};
 
 use crate::same::{Same, same_slices, same_stacks};
-use sts_model::{Completion, Entry, Frame, KeptEntry, KeptSlot, Loop, Slot};
-
-impl Same for Slot {
-    fn same(&self, other: &Slot) -> bool {
-        *self == *other
-    }
-}
-
-impl Same for Entry {
-    fn same(&self, other: &Entry) -> bool {
-        *self == *other
-    }
-}
+use sts_model::{Bound, Completion, Frame, KeptEntry, KeptSlot, Loop};
 
 impl Same for KeptSlot {
     fn same(&self, other: &KeptSlot) -> bool {
@@ -31,6 +19,12 @@ impl Same for KeptEntry {
 
 impl Same for Loop {
     fn same(&self, other: &Loop) -> bool {
+        *self == *other
+    }
+}
+
+impl Same for Bound {
+    fn same(&self, other: &Bound) -> bool {
         *self == *other
     }
 }

@@ -1,7 +1,7 @@
 //! Readings of a store.
 
 ghost use Rattle.std.specs.Prelude.{◌≡◌, true, is_some};
-ghost use Rattle.sts_model.specs.Misuse.{is_closing};
+ghost use Rattle.sts_model.specs.Waiting.{is_closing};
 ghost use Rattle.laws_live.specs.Effect.{live_read, live_state, live_tally};
 ghost use Rattle.laws_live.specs.Outside.{live_can_expire};
 ghost use Rattle.laws_live.specs.Reading.{alive_at, lives_in, live_scope_at, scope_in};

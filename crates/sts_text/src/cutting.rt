@@ -1,6 +1,6 @@
 //! Cutting a text at its newlines and a line at its blanks or spaces.
 
-ghost use Rattle.std.specs.Prelude.{◌≡◌, ◌==◌, ◌<◌, length, MatchOption, IfSome, ◌∷◌, []};
+ghost use Rattle.std.specs.Prelude.{◌≡◌, ◌==◌, ◌<◌, drop, length, MatchOption, IfSome, ◌∷◌, []};
 ghost use Rattle.std.specs.List.{before_first, after_first, position, slice_split};
 ghost use Rattle.sts_text.specs.Words.{is_blank, lines, fields, words};
 
@@ -47,6 +47,21 @@ pub fn cut_at_newline(text: &[u8]) -> Option<(&[u8], &[u8])>
     halves(text, b'\n')
 }
 
+/// The text after the first `count` lines, or `None` if it has no more.
+pub fn after_lines(text: &[u8], count: u32) -> Option<&[u8]>
+    ensures { MatchOption result (drop count (lines text.now) ≡ [])
+        (λ rest. lines rest.now ≡ drop count (lines text.now)) }
+{
+    let mut rest = text;
+    let mut left = count;
+    while left > 0 {
+        let (_, after) = cut_at_newline(rest)?;
+        rest = after;
+        left -= 1;
+    }
+    Some(rest)
+}
+
 /// The first field and the line after its space, or `None` if the line has no space.
 pub fn cut_at_space(line: &[u8]) -> Option<(&[u8], &[u8])>
     ensures fields { MatchOption result (fields line.now ≡ line.now ∷ [])
@@ -72,7 +87,7 @@ pub fn cut_at(bytes: &[u8], byte: u8) -> (&[u8], &[u8])
 /// The parts before and after the first blank, or the whole line and an empty part if it has no
 /// blank.
 #[tactic(auto, using(crate::proofs::WordLemmas::positions))]
-fn cut_at_blank(line: &[u8]) -> (&[u8], &[u8])
+pub fn cut_at_blank(line: &[u8]) -> (&[u8], &[u8])
     ensures front { result.0.now ≡ before_first is_blank line.now }
     ensures back { result.1.now ≡ after_first is_blank line.now }
 {

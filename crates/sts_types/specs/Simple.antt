@@ -1,13 +1,13 @@
 -- Instructions that only pop and push, and go on to the next place (this project's own).
-use Rattle.std.specs.Prelude.{Bool, true, false, ◌&&◌, ◌||◌, ℕ, ◌≡◌, ◌+◌, ◌-◌, ◌≤◌, None}
-use Rattle.sts_code.specs.Facts.{pops, pushes}
+use Rattle.std.specs.Prelude.{Bool, true, false, ◌&&◌, ◌||◌, not, ℕ, ◌≡◌, ◌+◌, ◌-◌, ◌≤◌, None}
+use Rattle.sts_code.specs.Facts.{goes_straight_on, pops, pushes}
+use Rattle.sts_code.specs.Loops.{is_times, is_next}
 use Rattle.sts_code.specs.Program.{Program}
 use Rattle.sts_code.specs.declared.limits.TheConstants.{MAX_OPERANDS}
 use Rattle.sts_rules.specs.Causes.{least_cause}
 use Rattle.sts_rules.specs.TypeState.{TypeState}
 use Rattle.sts_code.specs.declared.instr.Instr.{Instr}
-use Rattle.sts_code.specs.declared.instr.Instr.TheVariants.{Bound, OrElse, Interrupted, Div, Jmp, Jz}
-use Rattle.sts_code.specs.declared.instr.Instr.TheVariants.{Times, Next, Join, Case, Ret, Fail}
+use Rattle.sts_code.specs.declared.instr.Instr.TheVariants.{Bound, OrElse, Interrupted}
 use Rattle.sts_model.specs.Local.{is_local}
 
 -- the instruction asks for a binding or an interrupt, and can't fail
@@ -19,16 +19,7 @@ only_asks _ = false
 
 -- the instruction only goes on to the next place, and begins and ends no loop
 abbrev pub is_straight : Instr → Bool
-is_straight (Div to) = false
-is_straight (Jmp to) = false
-is_straight (Jz to) = false
-is_straight (Times n) = false
-is_straight Next = false
-is_straight (Join x failed timeout interrupted) = false
-is_straight (Case h success failed) = false
-is_straight Ret = false
-is_straight Fail = false
-is_straight _ = true
+is_straight i = goes_straight_on i && not (is_times i || is_next i)
 
 -- the instruction only pops and pushes, and goes on to the next place
 abbrev pub is_simple : Instr → Bool

@@ -4,7 +4,7 @@ ghost use Rattle.std.specs.Prelude.{◌≡◌, ◌<◌, ◌+◌, length, option_
 ghost use Rattle.std.specs.Prelude.{None, nat_le, nat_lt, false, ◌-◌, ◌≤◌, IfSome};
 ghost use Rattle.sts_code.specs.Facts as facts;
 ghost use Rattle.sts_code.specs.Program.{routine};
-ghost use Rattle.sts_types.specs.Simple.{is_simple, is_straight, IsShort};
+ghost use Rattle.sts_types.specs.Simple.{is_simple, is_straight, only_asks, IsShort};
 ghost use Rattle.sts_types.specs.Site.{IsSite};
 ghost use Rattle.sts_rules.specs.Causes as def;
 ghost use Rattle.sts_rules.specs.TypeState.{heads};
@@ -17,29 +17,17 @@ use crate::leads::{falls_off, jumps_back, mismatches};
 use crate::loops::CodeLoops;
 use crate::site::Site;
 use crate::state::TypeState;
-use sts_code::{Instr, MAX_OPERANDS, Program, pops, pushes, targets};
+use sts_code::{Instr, MAX_OPERANDS, Program, goes_straight_on, pops, pushes, targets};
+use sts_model::is_local;
 use sts_rules::Cause;
 
-/// Does the instruction only pop and push, and go on to the next place?
-fn is_simple(instr: Instr) -> bool
-    ensures { result ≡ is_simple instr }
+/// Does the instruction ask for a binding or an interrupt, and can't fail?
+fn only_asks(instr: Instr) -> bool
+    ensures { result ≡ only_asks instr }
 {
     matches!(
         instr,
-        Instr::Push(_)
-            | Instr::Pop
-            | Instr::Dup
-            | Instr::Swap
-            | Instr::Load(_)
-            | Instr::Store(_)
-            | Instr::Add
-            | Instr::Sub
-            | Instr::Mul
-            | Instr::Lt
-            | Instr::Eq
-            | Instr::Bound(_)
-            | Instr::OrElse(_)
-            | Instr::Interrupted
+        Instr::Bound(_) | Instr::OrElse(_) | Instr::Interrupted
     )
 }
 
@@ -47,18 +35,14 @@ fn is_simple(instr: Instr) -> bool
 fn is_straight(instr: Instr) -> bool
     ensures { result ≡ is_straight instr }
 {
-    !matches!(
-        instr,
-        Instr::Div(_)
-            | Instr::Jmp(_)
-            | Instr::Jz(_)
-            | Instr::Times(_)
-            | Instr::Next
-            | Instr::Join { .. }
-            | Instr::Case { .. }
-            | Instr::Ret
-            | Instr::Fail
-    )
+    goes_straight_on(instr) && !matches!(instr, Instr::Times(_) | Instr::Next)
+}
+
+/// Does the instruction only pop and push, and go on to the next place?
+fn is_simple(instr: Instr) -> bool
+    ensures { result ≡ is_simple instr }
+{
+    only_asks(instr) || (is_local(instr) && is_straight(instr))
 }
 
 /// The lowest-numbered cause from V3 to V5 of an instruction that only goes on to the next place.

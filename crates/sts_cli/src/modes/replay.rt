@@ -10,7 +10,7 @@ ghost use Rattle.sts_output.specs.Stops.{Prints};
 use std::alloc::{AllocError, Global};
 use sts_machine::replay;
 use sts_model::{End, Event};
-use sts_output::{ModeError, Output, events_of, output, program_of, verified_of};
+use sts_output::{Output, Stopped, events_of, output, program_of, verified_of};
 use sts_plain::PlainState;
 use sts_verify::Verified;
 
@@ -40,7 +40,7 @@ fn run(alloc: Global, verified: &Verified, events: &[Event]) -> Result<Output, A
 /// # Errors
 ///
 /// The text or the trace has a fault, the program is refused, or memory ran out.
-pub fn replayed(alloc: Global, text: &[u8], trace: &[u8]) -> Result<Output, ModeError>
+pub fn replayed(alloc: Global, text: &[u8], trace: &[u8]) -> Result<Output, Stopped<Output>>
     ensures { Prints result (def.ReplayShows (judged text.now) trace.now) }
 {
     let program = program_of(alloc, text)?;

@@ -26,6 +26,7 @@ use sts_verify::Verified;
 pub(crate) struct Manner {
     pub(crate) workers: u32,
     pub(crate) kept: bool,
+    ghost fits: { (1 ≤ workers) × (workers ≤ 16) },
 }
 
 /// The outcome of a run: its output, the journal, and which outside events came. The journal is
@@ -72,7 +73,6 @@ fn report<R: Threads + Wait + Sync>(
     manner: Manner,
     dues: Dues,
 ) -> Result<Report, PoolError>
-    requires workers { (1 ≤ manner.workers) × (manner.workers ≤ 16) }
     requires few { length dues ≤ MAX_OUTSIDE }
     ensures { IfOk result (def.IsReportOf manner.kept verified.now dues) }
 {
@@ -143,7 +143,6 @@ fn run_accepted<R: Threads + Wait + Sync>(
     manner: Manner,
     dues: Dues,
 ) -> Result<Ran, AllocError>
-    requires workers { (1 ≤ manner.workers) × (manner.workers ≤ 16) }
     requires few { length dues ≤ MAX_OUTSIDE }
     ensures { IfOk result (def.Holds manner.kept (def.IsRun verified.now dues)) }
 {
@@ -162,7 +161,6 @@ fn verdict<R: Threads + Wait + Sync>(
     manner: Manner,
     dues: Dues,
 ) -> Result<Ran, AllocError>
-    requires workers { (1 ≤ manner.workers) × (manner.workers ≤ 16) }
     requires few { length dues ≤ MAX_OUTSIDE }
     ensures { IfOk result (def.Holds manner.kept (def.IsRun program dues)) }
 {
@@ -180,7 +178,6 @@ fn with_outside<R: Threads + Wait + Sync>(
     manner: Manner,
     outside: &[u8],
 ) -> Result<Ran, AllocError>
-    requires { (1 ≤ manner.workers) × (manner.workers ≤ 16) }
     ensures { IfOk result (def.Holds manner.kept
         (def.OutsideRuns program (outside_read outside.now))) }
 {
@@ -202,7 +199,6 @@ pub(crate) fn outcome<R: Threads + Wait + Sync>(
     manner: Manner,
     outside: &[u8],
 ) -> Result<Ran, AllocError>
-    requires { (1 ≤ manner.workers) × (manner.workers ≤ 16) }
     ensures { IfOk result (def.Holds manner.kept (def.TextRuns (judged text.now) outside.now)) }
 {
     match assemble(alloc, text) {

@@ -5,8 +5,8 @@ ghost use Rattle.sts_asm.specs.Text.{judged};
 ghost use Rattle.sts_output.specs.Output as def;
 ghost use Rattle.sts_output.specs.Stops.{Prints};
 
-use crate::mode_error::{ModeError, program_of};
 use crate::output::Output;
+use crate::stopped::{Stopped, program_of};
 use std::alloc::Global;
 
 /// Assembles the text and lists the program.
@@ -14,7 +14,7 @@ use std::alloc::Global;
 /// # Errors
 ///
 /// The text has a fault, or memory ran out.
-pub fn listed(alloc: Global, text: &[u8]) -> Result<Output, ModeError>
+pub fn listed(alloc: Global, text: &[u8]) -> Result<Output, Stopped<Output>>
     ensures { Prints result (λ o. o ≡ def.list_output (judged text.now)) }
 {
     let program = program_of(alloc, text)?;

@@ -5,9 +5,9 @@ ghost use Rattle.sts_asm.specs.Text.{judged};
 ghost use Rattle.sts_output.specs.Output as def;
 ghost use Rattle.sts_output.specs.Stops.{Prints};
 
-use crate::mode_error::{ModeError, events_of, program_of};
 use crate::output;
 use crate::output::Output;
+use crate::stopped::{Stopped, events_of, program_of};
 use std::alloc::{AllocError, Global};
 use sts_code::Program;
 use sts_model::Event;
@@ -27,7 +27,7 @@ fn run(alloc: Global, program: &Program, events: &[Event]) -> Result<Output, All
 /// # Errors
 ///
 /// The text or the trace has a fault, or memory ran out.
-pub fn after_trace(alloc: Global, text: &[u8], trace: &[u8]) -> Result<Output, ModeError>
+pub fn after_trace(alloc: Global, text: &[u8], trace: &[u8]) -> Result<Output, Stopped<Output>>
     ensures { Prints result (λ o. o ≡ def.plain_output (judged text.now) trace.now) }
 {
     let program = program_of(alloc, text)?;

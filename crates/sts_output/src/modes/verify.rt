@@ -6,10 +6,10 @@ ghost use Rattle.sts_asm.specs.Text.{judged};
 ghost use Rattle.sts_output.specs.Output as def;
 ghost use Rattle.sts_output.specs.Stops.{Prints};
 
-use crate::mode_error::{ModeError, program_of};
 use crate::output::Output;
 use crate::printed;
 use crate::refusal::verified_of;
+use crate::stopped::{Stopped, program_of};
 use std::alloc::{AllocError, Global};
 use sts_rules::Budgets;
 use sts_verify::Verified;
@@ -59,7 +59,7 @@ fn told(alloc: Global, verified: &Verified) -> Result<Output, AllocError>
 /// # Errors
 ///
 /// The text has a fault, the program is refused, or memory ran out.
-pub fn verified(alloc: Global, text: &[u8]) -> Result<Output, ModeError>
+pub fn verified(alloc: Global, text: &[u8]) -> Result<Output, Stopped<Output>>
     ensures { Prints result (def.VerifyShows (judged text.now)) }
 {
     let program = program_of(alloc, text)?;

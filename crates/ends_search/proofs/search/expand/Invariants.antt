@@ -13,4 +13,4 @@ invariant-loop-event g l =
     × (s.first ≡ l.fn.space.first)
     × (s.closed ≡ l.fn.space.closed)
     × Grows old new
-    × Spreads next (g.S.StateMachine.alike l.setting) old l.place l.event-items l.event-index new
+    × Spreads next (g.S.StateMachine.alike l.setting) old l.fn.space.closed l.event-items l.event-index new

@@ -7,5 +7,5 @@ use Rattle.ends_table.proofs.parts.kept.Goals as goal
 
 pub returns : goal.returns
 returns c =
-    let keep = λ (ws : List Way). filter (λ (way : Way). split c.args.joiner c.args.counting (of_kind c.args.succeeds) way.end) ws in
+    let keep = λ (ws : List Way). filter (λ (way : Way). split c.args.joiner c.args.kind.counting (of_kind c.args.kind.succeeds) way.end) ws in
     ap (λ (ws : List Way). record c.args.part.now { ways = ws; is_open = false }) (c.in_ok-new.ensures ∙ c.in_ok-ways.ensures ∙ ap keep c.as_slice.ensures)

@@ -10,5 +10,7 @@ told_by true counting seen after i part found e f = ap (λ (x : Seen). settled (
 told_by false counting seen after i part found e f = ap (λ (x : Seen). settled (noted false x)) (e ∙ ap (λ (y : Part). parts_with seen i y) f)
 
 pub returns : goal.returns
-returns c = c.settled.ensures ∙ ap settled c.noted.ensures ∙ told_by c.args.succeeds c.args.counting c.args.seen.now c.in_ok-after.after
-    c.args.i c.args.part.now c.in_ok-part.part c.in_ok-after.ensures c.in_ok-part.ensures
+returns c =
+    let k = c.args.known in
+    c.settled.ensures ∙ ap settled c.noted.ensures ∙ told_by c.args.kind.succeeds c.args.kind.counting k.seen.now c.in_ok-after.after
+    k.i k.part.now c.in_ok-part.part c.in_ok-after.ensures c.in_ok-part.ensures

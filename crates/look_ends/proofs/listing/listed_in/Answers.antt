@@ -1,5 +1,5 @@
 use Rattle.std.proofs.Common.{subst}
-use Rattle.look_refusal.specs.Stops.{Says}
+use Rattle.sts_output.specs.Stops.{Says}
 use Rattle.look_end_lines.specs.Form.{IsFaultIn}
 use Rattle.look_ends.proofs.ListingLemmas.{fault_lists, program_lists}
 use Rattle.look_ends.proofs.listing.listed_in.Goals as goal

@@ -1,5 +1,5 @@
 use Rattle.look_tell.specs.Telling.{IsStoryOf}
-use Rattle.look_json.proofs.WrittenLemmas.{written_of}
+use Rattle.look_refusal.proofs.WrittenLemmas.{written_of}
 use Rattle.look_json.proofs.stories.story_of.Goals as goal
 
 pub returns-in-Ok : goal.returns-in-Ok

@@ -52,10 +52,10 @@ module _ (c : In_ok-add_born) where
       ap₂ (λ (n : Numbers) (x : World). numbers.kept n x) listed (read ∙ same)
       ∙ kept_shown c.loop-i.before.last c.watch-watch.result.now.last follows ∙ ap numbers.present (sym same)
 
-  said : string_bytes c.in_ok-words.words ≡ event_words c.args.names.now c.args.brief (c.loop-i.i + 1) (after_events c.args.before.now.program (take c.loop-i.i c.args.events.now)) event
+  said : string_bytes c.in_ok-words.words ≡ event_words c.args.manner.names.now c.args.manner.brief (c.loop-i.i + 1) (after_events c.args.before.now.program (take c.loop-i.i c.args.events.now)) event
   said =
       c.in_ok-words.ensures.said
-      ∙ ap (λ (s : Story). event_words c.args.names.now c.args.brief (c.loop-i.i + 1) s event) c.loop-i.invariant.told
+      ∙ ap (λ (s : Story). event_words c.args.manner.names.now c.args.manner.brief (c.loop-i.i + 1) s event) c.loop-i.invariant.told
 
   told_next : c.event_words.new.story ≡ after_events c.args.before.now.program (take (c.loop-i.i + 1) c.args.events.now)
   told_next =
@@ -68,15 +68,15 @@ module _ (c : In_ok-add_born) where
       ∙ ap (λ (w : Watched). numbered_at w (c.loop-i.i + 1) event)
       (watched_taken c.args.before.now.program c.args.events.now c.loop-i.i c.loop-i.story (omega arith) (omega arith) c.loop-i.invariant.told)
 
-  counted : (words : List ℕ) (m : ℕ) → words ≡ string_bytes c.in_ok-words.words → m ≡ one_more words c.loop-i.columns → def.count_from c.args.names.now c.args.brief c.args.before.now.program m (take (c.loop-i.i + 1) c.args.events.now) (drop (c.loop-i.i + 1) c.args.events.now) ≡ def.count_from c.args.names.now c.args.brief c.args.before.now.program 0 (take c.args.skipped c.args.events.now) (drop c.args.skipped c.args.events.now)
+  counted : (words : List ℕ) (m : ℕ) → words ≡ string_bytes c.in_ok-words.words → m ≡ one_more words c.loop-i.columns → def.count_from c.args.manner.names.now c.args.manner.brief c.args.before.now.program m (take (c.loop-i.i + 1) c.args.events.now) (drop (c.loop-i.i + 1) c.args.events.now) ≡ def.count_from c.args.manner.names.now c.args.manner.brief c.args.before.now.program 0 (take c.args.skipped c.args.events.now) (drop c.args.skipped c.args.events.now)
   counted words m same more =
-      count_after c.args.names.now c.args.brief c.args.before.now.program c.loop-i.columns c.args.events.now c.loop-i.i (Step 0) words m
+      count_after c.args.manner.names.now c.args.manner.brief c.args.before.now.program c.loop-i.columns c.args.events.now c.loop-i.i (Step 0) words m
       (omega arith) (same ∙ said) more
       ∙ c.loop-i.invariant.counted
 
-  drawn : (words : List ℕ) (m : ℕ) (new : List ℕ) → words ≡ string_bytes c.in_ok-words.words → m ≡ one_more words c.loop-i.columns → new ≡ string_bytes c.loop-i.out ++ maybe_column c.args.names.now words c.loop-i.before c.watch-watch.result.now c.args.brief c.loop-i.columns (applied_of (c.loop-i.i + 1) event c.counts-is_counted.result) → new ++ def.columns_from c.args.names.now c.args.brief c.args.before.now.program m (take (c.loop-i.i + 1) c.args.events.now) (drop (c.loop-i.i + 1) c.args.events.now) ≡ string_bytes c.args.out.now ++ def.columns_from c.args.names.now c.args.brief c.args.before.now.program 0 (take c.args.skipped c.args.events.now) (drop c.args.skipped c.args.events.now)
+  drawn : (words : List ℕ) (m : ℕ) (new : List ℕ) → words ≡ string_bytes c.in_ok-words.words → m ≡ one_more words c.loop-i.columns → new ≡ string_bytes c.loop-i.out ++ maybe_column c.args.manner.names.now words c.loop-i.before c.watch-watch.result.now c.args.manner.brief c.loop-i.columns (applied_of (c.loop-i.i + 1) event c.counts-is_counted.result) → new ++ def.columns_from c.args.manner.names.now c.args.manner.brief c.args.before.now.program m (take (c.loop-i.i + 1) c.args.events.now) (drop (c.loop-i.i + 1) c.args.events.now) ≡ string_bytes c.args.out.now ++ def.columns_from c.args.manner.names.now c.args.manner.brief c.args.before.now.program 0 (take c.args.skipped c.args.events.now) (drop c.args.skipped c.args.events.now)
   drawn words m new same more made =
-      column_after c.args.names.now c.args.brief c.args.before.now.program c.loop-i.columns c.args.events.now c.loop-i.i (Step 0) words m
+      column_after c.args.manner.names.now c.args.manner.brief c.args.before.now.program c.loop-i.columns c.args.events.now c.loop-i.i (Step 0) words m
       c.loop-i.before c.watch-watch.result.now (applied_of (c.loop-i.i + 1) event c.counts-is_counted.result) (string_bytes c.loop-i.out) new
       (omega arith) (same ∙ said) more c.loop-i.invariant.behind seen_next is_numbered made
       ∙ c.loop-i.invariant.drawn

@@ -14,6 +14,6 @@ invariant-loop-i l = record {
   told : l.story ≡ after_events l.fn.before.program (take l.i l.events);
   listed : l.present ≡ numbers.present l.before.last;
   few : l.columns ≤ l.i;
-  counted : def.count_from l.names l.brief l.fn.before.program l.columns (take l.i l.events) (drop l.i l.events) ≡ def.count_from l.names l.brief l.fn.before.program 0 (take l.skipped l.events) (drop l.skipped l.events);
-  drawn : string_bytes l.out ++ def.columns_from l.names l.brief l.fn.before.program l.columns (take l.i l.events) (drop l.i l.events) ≡ string_bytes l.fn.out ++ def.columns_from l.names l.brief l.fn.before.program 0 (take l.skipped l.events) (drop l.skipped l.events);
+  counted : def.count_from l.manner.names.now l.manner.brief l.fn.before.program l.columns (take l.i l.events) (drop l.i l.events) ≡ def.count_from l.manner.names.now l.manner.brief l.fn.before.program 0 (take l.skipped l.events) (drop l.skipped l.events);
+  drawn : string_bytes l.out ++ def.columns_from l.manner.names.now l.manner.brief l.fn.before.program l.columns (take l.i l.events) (drop l.i l.events) ≡ string_bytes l.fn.out ++ def.columns_from l.manner.names.now l.manner.brief l.fn.before.program 0 (take l.skipped l.events) (drop l.skipped l.events);
 }

@@ -22,8 +22,8 @@ drawn_sheet r files text brief p d es s n xs told counted drawn h =
 
 pub returns : goal.returns
 returns c =
-    let text = c.args.names.now in
-    let brief = c.args.brief in
+    let text = c.args.manner.names.now in
+    let brief = c.args.manner.brief in
     let p = c.args.program.now in
     let es = c.args.events.now in
     let d = c.args.drawn in

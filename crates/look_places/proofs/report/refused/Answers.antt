@@ -12,5 +12,5 @@ returns c =
     let after : List ℕ = c.say_ways.new.out.items in
     let printed = subst (λ (t : List ℕ). IsExplanation t c.in_ok-printed.printed) c.text.ensures c.in_ok-printed.ensures in
     let words = subst (λ (o : Output). IsExplanation s.text o) (sym c.in_ok-told.ensures.same) printed in
-    let ways = subst (λ (b : List ℕ). AddsWays s r.program.now r.function r.pc r.cause b after) c.in_ok-bytes.ensures c.in_ok-say_ways.ensures in
-    refused_as s r.program.now r.function r.pc r.cause c.in_ok-told.told after c.requires words c.in_ok-told.ensures.whole ways
+    let ways = subst (λ (b : List ℕ). AddsWays s r.program r.function r.pc r.cause b after) c.in_ok-bytes.ensures c.in_ok-say_ways.ensures in
+    refused_as s r.program r.function r.pc r.cause c.in_ok-told.told after c.requires words c.in_ok-told.ensures.whole ways

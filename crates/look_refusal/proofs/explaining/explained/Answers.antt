@@ -3,7 +3,7 @@ use Rattle.sts_asm.specs.Text.{judged}
 use Rattle.look_refusal.specs.Output as def
 use Rattle.look_refusal.specs.Stops.{IsTextFault}
 use Rattle.look_refusal.proofs.FaultLemmas.{fault_explains}
-use Rattle.look_refusal.proofs.StopLemmas.{says_less}
+use Rattle.sts_output.proofs.StopLemmas.{says_less}
 use Rattle.look_refusal.proofs.explaining.explained.Goals as goal
 
 pub returns-in_err-outline : goal.returns-in_err-outline

@@ -6,7 +6,7 @@ use Rattle.sts_code.specs.Program.{Program}
 use Rattle.look_refusal.specs.Output as def
 use Rattle.look_refusal.specs.Stops.{IsTextFault}
 use Rattle.look_refusal.proofs.FaultLemmas.{fault_explains}
-use Rattle.look_refusal.proofs.StopLemmas.{says_less}
+use Rattle.sts_output.proofs.StopLemmas.{says_less}
 use Rattle.look_refusal.proofs.explaining.explained_by.Goals as goal
 
 pub returns-in_err-program : goal.returns-in_err-program

@@ -1,7 +1,7 @@
 use Rattle.std.proofs.Common.{refl}
 use Rattle.std.proofs.lemmas.Result.{IfOk-weaker}
 use Rattle.sts_output.specs.Output.{memory_output}
-use Rattle.look_refusal.specs.Stops.{IsShown}
+use Rattle.sts_output.specs.Stops.{IsShown}
 use Rattle.look_refusal.proofs.explanation.write_explained.Goals as goal
 
 pub returns-in-Err-Memory : goal.returns-in-Err-Memory

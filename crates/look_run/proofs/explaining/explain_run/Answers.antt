@@ -1,5 +1,5 @@
 use Rattle.std.proofs.lemmas.Result.{IfOk-weaker}
-use Rattle.look_refusal.proofs.StopLemmas.{shown_or_memory}
+use Rattle.sts_output.proofs.StopLemmas.{shown_or_memory}
 use Rattle.look_run.proofs.explaining.explain_run.Goals as goal
 
 pub returns : goal.returns

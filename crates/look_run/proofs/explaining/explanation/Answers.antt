@@ -5,7 +5,7 @@ use Rattle.sts_asm.specs.declared.fault.AsmError.{AsmError}
 use Rattle.sts_code.specs.Program.{Program}
 use Rattle.sts_output.specs.Output.{Output}
 use Rattle.look_refusal.specs.Stops.{IsTextFault}
-use Rattle.look_refusal.proofs.StopLemmas.{says_less}
+use Rattle.sts_output.proofs.StopLemmas.{says_less}
 use Rattle.look_run.specs.Output as def
 use Rattle.look_run.proofs.explaining.explanation.Goals as goal
 

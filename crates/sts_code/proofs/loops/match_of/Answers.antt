@@ -21,10 +21,13 @@ counts_one test code at d next b inside is same =
     let more = counted_more test code at at d (omega arith) inside in
     omega (arith, one, empty, more)
 
+-- the loop from `at` on ends at q
+abbrev ends_at : List Instr → ℕ → ℕ → Bool
+ends_at code at = λ q. def.is_balanced (slice_range code at (q + 1))
+
 pub returns-then-at-code-clause-value : goal.returns-then-at-code-clause-value
 returns-then-at-code-clause-value c =
-    sym (find_past (λ q. def.is_balanced (slice_range c.args.code.now c.args.at (q + 1))) (c.args.at + 1) (length c.args.code.now)
-    (omega (arith, c.if-at-code.true)))
+    sym (find_past (ends_at c.args.code.now c.args.at) (c.args.at + 1) (length c.args.code.now) (omega (arith, c.if-at-code.true)))
 
 pub loop-q-init : goal.loop-q-init
 loop-q-init c =
@@ -37,23 +40,16 @@ loop-q-init c =
 
 pub returns-clause-value : goal.returns-clause-value
 returns-clause-value c =
-    sym (find_past (λ q. def.is_balanced (slice_range c.args.code.now c.args.at (q + 1))) c.loop-q.q (length c.args.code.now)
-    c.loop-q-test.false) ∙ c.loop-q.invariant.rest
+    sym (find_past (ends_at c.args.code.now c.args.at) c.loop-q.q (length c.args.code.now) c.loop-q-test.false) ∙ c.loop-q.invariant.rest
 
 pub returns-then-times-nexts-clause-value : goal.returns-then-times-nexts-clause-value
 returns-then-times-nexts-clause-value c =
-    let times : c.loop-q.times + c.from-times-in-loop-q.result ≡ count_by def.is_times
-    (slice_range c.args.code.now c.args.at (c.loop-q.q + 1)) = counts_on def.is_times c.args.code.now c.args.at c.loop-q.q _ _ _ _
-    c.loop-q.invariant.past c.loop-q-test.true
+    let times = counts_on def.is_times c.args.code.now c.args.at c.loop-q.q _ _ _ _ c.loop-q.invariant.past c.loop-q-test.true
     c.loop-q.invariant.times c.from-times-in-loop-q.ensures c.is_times-in-loop-q.ensures in
-    let nexts : c.loop-q.nexts + c.from-nexts-in-loop-q.result ≡ count_by def.is_next
-    (slice_range c.args.code.now c.args.at (c.loop-q.q + 1)) = counts_on def.is_next c.args.code.now c.args.at c.loop-q.q _ _ _ _
-    c.loop-q.invariant.past c.loop-q-test.true
+    let nexts = counts_on def.is_next c.args.code.now c.args.at c.loop-q.q _ _ _ _ c.loop-q.invariant.past c.loop-q-test.true
     c.loop-q.invariant.nexts c.from-nexts-in-loop-q.ensures c.is_next-in-loop-q.ensures in
-    let here : def.is_balanced (slice_range c.args.code.now c.args.at (c.loop-q.q + 1)) ≡ true =
-    eq-eqb _ _ (sym nexts ∙ sym c.if-times-nexts.true ∙ times) in
-    sym (find_here (λ q. def.is_balanced (slice_range c.args.code.now c.args.at (q + 1))) c.loop-q.q (length c.args.code.now)
-    c.loop-q-test.true here) ∙ c.loop-q.invariant.rest
+    let here : ends_at c.args.code.now c.args.at c.loop-q.q ≡ true = eq-eqb _ _ (sym nexts ∙ sym c.if-times-nexts.true ∙ times) in
+    sym (find_here (ends_at c.args.code.now c.args.at) c.loop-q.q (length c.args.code.now) c.loop-q-test.true here) ∙ c.loop-q.invariant.rest
 
 pub loop-q-preserved : goal.loop-q-preserved
 loop-q-preserved c =
@@ -61,11 +57,9 @@ loop-q-preserved c =
     c.loop-q.invariant.times c.from-times-in-loop-q.ensures c.is_times-in-loop-q.ensures in
     let nexts = counts_on def.is_next c.args.code.now c.args.at c.loop-q.q _ _ _ _ c.loop-q.invariant.past c.loop-q-test.true
     c.loop-q.invariant.nexts c.from-nexts-in-loop-q.ensures c.is_next-in-loop-q.ensures in
-    let not_here : def.is_balanced (slice_range c.args.code.now c.args.at (c.loop-q.q + 1)) ≡ false = ne_eqb _ _ (λ e. c.if-times-nexts.false (times ∙ sym e ∙ sym nexts)) in
+    let not_here : ends_at c.args.code.now c.args.at c.loop-q.q ≡ false = ne_eqb _ _ (λ e. c.if-times-nexts.false (times ∙ sym e ∙ sym nexts)) in
     record {
-      rest =
-          sym (find_next (λ q. def.is_balanced (slice_range c.args.code.now c.args.at (q + 1))) c.loop-q.q (length c.args.code.now)
-          c.loop-q-test.true not_here) ∙ c.loop-q.invariant.rest;
+      rest = sym (find_next (ends_at c.args.code.now c.args.at) c.loop-q.q (length c.args.code.now) c.loop-q-test.true not_here) ∙ c.loop-q.invariant.rest;
       times = times;
       nexts = nexts;
       past = omega arith;

@@ -14,16 +14,15 @@ first = Push (pos 0)
 pub loop-pc-preserved : goal.loop-pc-preserved
 loop-pc-preserved c =
     let l = c.loop-pc in
-    let code = c.args.code.now in
     let marks = c.in_ok-marks.marks.items in
-    let small : l.pc < length code = c.loop-pc-test.true in
+    let small : l.pc < length c.args.code.now = c.loop-pc-test.true in
     let within : l.pc < length marks = rw c.in_ok-marks.ensures.length small in
-    let is_marked : c.index.result.now ≡ is_target code l.pc =
+    let is_marked : c.index.result.now ≡ is_target c.args.code.now l.pc =
     get_or_read marks l.pc c.index.result.now within c.index.ensures false ∙ c.in_ok-marks.ensures.named l.pc small in
     record {
-      lines = more_lines c.args.program.now code (string_bytes l.out) (string_bytes c.write_label.new.out) _ _ l.pc c.index.result.now
-          first small is_marked c.in_ok-write_label.ensures c.in_ok-write_line.ensures.line l.invariant.lines;
-      fits = all_take FitsInstr code l.pc first small l.invariant.fits c.in_ok-write_line.ensures.fits;
+      lines = more_lines c.args.program.now c.args.code.now (string_bytes l.out) (string_bytes c.write_label.new.out) _ _ l.pc
+          c.index.result.now first small is_marked c.in_ok-write_label.ensures c.in_ok-write_line.ensures.line l.invariant.lines;
+      fits = all_take FitsInstr c.args.code.now l.pc first small l.invariant.fits c.in_ok-write_line.ensures.fits;
     }
 
 pub returns-clause-lines : goal.returns-clause-lines

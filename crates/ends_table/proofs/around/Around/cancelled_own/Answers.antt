@@ -5,4 +5,4 @@ use Rattle.ends_table.proofs.around.Around.cancelled_own.Goals as goal
 pub returns : goal.returns
 returns c =
     let a = c.args.self.now in
-    on_ok c.looks.result c.looks.ensures (λ led. looks_lead a.program.now a.outside a.call.now a.states.now a.own.now c.args.slot _ _ c.in_ok-place.ensures led)
+    on_ok c.looks.result c.looks.ensures (λ led. looks_lead a.program.now a.outside a.call.now a.states.now a.own.now c.args.slot _ _ c.in_ok-scope.ensures led)

@@ -7,13 +7,13 @@ use Rattle.ends_table.proofs.around.Around.each_sum.Goals as goal
 
 pub loop-outcome-preserved : goal.loop-outcome-preserved
 loop-outcome-preserved c none =
-    one_more (λ (o : Outcome). SumLeads c.args.self.now.states.now c.args.self.now.own.now c.args.place c.args.seen.now o.total)
+    one_more (λ (o : Outcome). SumLeads c.args.self.now.states.now c.args.self.now.own.now c.args.scope.place c.args.scope.seen.now o.total)
     c.args.outcomes.now c.loop-outcome.outcome-index nothing c.loop-outcome-test.true
     (c.loop-outcome.invariant (c.in_ok-note.ensures.before none))
     (by_ok c.summed-step.result (c.in_ok-note.ensures.step none) c.summed-step.ensures)
 
 pub returns : goal.returns
 returns c =
-    let leads = λ (o : Outcome). SumLeads c.args.self.now.states.now c.args.self.now.own.now c.args.place c.args.seen.now o.total in
+    let leads = λ (o : Outcome). SumLeads c.args.self.now.states.now c.args.self.now.own.now c.args.scope.place c.args.scope.seen.now o.total in
     on_ok c.none.result c.none.ensures (λ none. each_among leads c.args.outcomes.now c.loop-outcome.outcome-index c.loop-outcome-test.false
     (c.loop-outcome.invariant none))

@@ -5,4 +5,4 @@ use Rattle.ends_table.specs.Answered.{SumLeads}
 use Rattle.ends_table.proofs.around.Around.each_sum.Given as goal
 
 abbrev pub invariant-loop-outcome : goal.invariant-loop-outcome
-invariant-loop-outcome l = l.missing.states.items ≡ [] → AllWithin (λ (o : Outcome). SumLeads l.self.states.now l.self.own.now l.place l.seen o.total) l.outcomes 0 l.outcome-index
+invariant-loop-outcome l = l.missing.states.items ≡ [] → AllWithin (λ (o : Outcome). SumLeads l.self.states.now l.self.own.now l.scope.place l.scope.seen.now o.total) l.outcomes 0 l.outcome-index

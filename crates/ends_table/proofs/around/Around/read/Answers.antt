@@ -4,10 +4,10 @@ use Rattle.ends_table.proofs.StepLemmas.{reads_lead}
 use Rattle.ends_table.proofs.around.Around.read.Goals as goal
 
 pub reads-requires : goal.reads-requires
-reads-requires c = get_less _ _ _ c.in_ok-place.ensures.known
+reads-requires c = get_less _ _ _ c.in_ok-subtask.ensures.known
 
 pub returns : goal.returns
 returns c =
     let a = c.args.self.now in
     on_ok c.reads.result c.reads.ensures (λ led. reads_lead a.program.now a.outside a.call.now a.states.now a.own.now c.args.succeeds
-    c.args.handle _ _ _ _ c.in_ok-place.ensures led)
+    c.args.handle _ _ _ _ c.in_ok-subtask.ensures led)

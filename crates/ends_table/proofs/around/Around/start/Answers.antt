@@ -7,10 +7,10 @@ pub returns-then-is_cancelled : goal.returns-then-is_cancelled
 returns-then-is_cancelled c =
     let a = c.args.self.now in
     fork_starts a.program.now a.outside a.call.now a.states.now a.own.now a.table.now c.args.slot c.args.function c.args.handle _ _
-    c.in_ok-place.ensures (λ free. let never : true ≡ false = sym c.if-is_cancelled.true ∙ c.is_cancelled.ensures ∙ free in cc)
+    c.in_ok-scope.ensures (λ free. let never : true ≡ false = sym c.if-is_cancelled.true ∙ c.is_cancelled.ensures ∙ free in cc)
 
 pub returns : goal.returns
 returns c =
     let a = c.args.self.now in
     on_ok c.started.result c.started.ensures (λ starts. fork_starts a.program.now a.outside a.call.now a.states.now a.own.now a.table.now
-    c.args.slot c.args.function c.args.handle _ _ c.in_ok-place.ensures (λ free. starts))
+    c.args.slot c.args.function c.args.handle _ _ c.in_ok-scope.ensures (λ free. starts))

@@ -6,4 +6,4 @@ pub returns : goal.returns
 returns c =
     let a = c.args.self.now in
     on_ok c.tallies.result c.tallies.ensures (λ led. tallies_lead a.program.now a.outside a.call.now a.states.now a.own.now c.args.slot _
-    c.args.kind _ c.in_ok-place.ensures led)
+    c.args.kind _ c.in_ok-scope.ensures led)

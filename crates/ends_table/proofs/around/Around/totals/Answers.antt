@@ -9,7 +9,7 @@ use Rattle.ends_table.proofs.around.Around.totals.Goals as goal
 
 pub returns : goal.returns
 returns c =
-    let x = c.args.seen.now in
+    let x = c.args.scope.seen.now in
     on_ok c.each_sum.result c.each_sum.ensures (λ sums. λ pick fits.
     let there = subst (λ (os : List Outcome). Among os (outcome_of x pick)) (sym c.as_slice.ensures.value) (c.in_ok-outcomes.ensures pick fits) in
-    subst (λ (n : ℤ). SumLeads c.args.self.now.states.now c.args.self.now.own.now c.args.place x n) (total_is x pick) (sums (outcome_of x pick) there))
+    subst (λ (n : ℤ). SumLeads c.args.self.now.states.now c.args.self.now.own.now c.args.scope.place x n) (total_is x pick) (sums (outcome_of x pick) there))

@@ -1,7 +1,7 @@
 use Rattle.look_views.proofs.Floats.{event_view_plain}
-use Rattle.look_views.proofs.LineLemmas.{line_written}
 use Rattle.look_views.proofs.views.JsonViewsView.say_event.Goals as goal
 
 pub returns : goal.returns
-returns c = line_written c.push_line.result _ _ _ _ c.in_ok-value.ensures
-    (event_view_plain c.args.self.now.names.now c.args.self.now.wanted c.args.applied c.args.watch.now) c.push_line.ensures
+returns c =
+    let views = c.args.self.now in
+    c.push_made.ensures _ c.event_view-value.ensures (event_view_plain views.names.now views.wanted c.args.applied c.args.watch.now)

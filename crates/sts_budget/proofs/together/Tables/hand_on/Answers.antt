@@ -6,7 +6,7 @@ use Rattle.sts_rules.specs.ControlPaths.{Among}
 use Rattle.sts_budget.specs.declared.change.Resource.{Resource}
 use Rattle.sts_budget.specs.declared.change.Resource.TheVariants.{Steps}
 use Rattle.sts_budget.specs.Handing.{is_ordinary, is_quiet}
-use Rattle.sts_budget.specs.Layout.{goes_straight_on}
+use Rattle.sts_code.specs.Facts.{goes_straight_on}
 use Rattle.sts_budget.specs.Together.{rows_of, sums_of, width, most}
 use Rattle.sts_budget.proofs.HandOn.{quiet_spread, sent_at, carried_spread, leads_at, leads_in, not_quiet}
 use Rattle.std.proofs.lemmas.List.{get_or_default}

@@ -1,6 +1,6 @@
 use Rattle.std.proofs.Common.{◌≡◌, ◌≢◌, None, Some, false, refl, sym, ◌∙◌, ap}
 use Rattle.sts_model.specs.Live.{LiveScope}
-use Rattle.sts_model.specs.Misuse.{is_closing}
+use Rattle.sts_model.specs.Waiting.{is_closing}
 use Rattle.sts_model.specs.declared.event.Phase.{Phase}
 use Rattle.sts_model.specs.declared.event.Phase.TheVariants.{Opened, Attempted, Joined, Closing, Closed}
 use Rattle.laws_live.specs.Reading.{live_scope_at}

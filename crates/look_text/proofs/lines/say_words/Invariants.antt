@@ -1,9 +1,0 @@
-use Rattle.std.proofs.Common.{◌≡◌, ◌++◌, length}
-use Rattle.sts_list.specs.Spelling.{after_spaces}
-use Rattle.look_text.proofs.lines.say_words.Given as goal
-
-abbrev pub invariant-loop-word : goal.invariant-loop-word
-invariant-loop-word l = l.out.items ++ after_spaces l.left ≡ l.fn.out.items ++ after_spaces l.fn.words
-
-abbrev pub decreases-loop-word : goal.decreases-loop-word
-decreases-loop-word l = length l.left
