@@ -106,7 +106,8 @@ fn write_ran<T: Write, W: Write>(
     out: &mut W,
     aside: &mut Aside,
 ) -> Status
-    ensures { IfOk result (λ s. RunWrites (trace_and_output (T.contents trace.old) (T.contents trace.new)
+    ensures { IfOk result (λ s. RunWrites
+        (trace_and_output (T.contents trace.old) (T.contents trace.new)
         (W.contents out.old) (W.contents out.new)) s ran.old) }
 {
     match traced(ran.journal.as_slice(), trace) {
@@ -139,7 +140,8 @@ pub(crate) fn play_untraced<R: Threads + Wait + Sync, W: Write>(
     aside: &mut Aside,
 ) -> Status
     requires { (1 ≤ job.workers) × (job.workers ≤ 16) }
-    ensures { IfOk result (λ s. (o : Outcome) × IsOutcomeOf job.entry.text.now job.entry.outside.now o
+    ensures { IfOk result (λ s. (o : Outcome)
+        × IsOutcomeOf job.entry.text.now job.entry.outside.now o
         × def.Writes (W.contents out.old) (W.contents out.new) s o.output) }
 {
     let manner = Manner {
@@ -162,7 +164,8 @@ pub(crate) fn play_traced<R: Threads + Wait + Sync, T: Write, W: Write>(
     aside: &mut Aside,
 ) -> Status
     requires { (1 ≤ job.workers) × (job.workers ≤ 16) }
-    ensures { IfOk result (λ s. (o : Outcome) × IsOutcomeOf job.entry.text.now job.entry.outside.now o
+    ensures { IfOk result (λ s. (o : Outcome)
+        × IsOutcomeOf job.entry.text.now job.entry.outside.now o
         × RunWrites (trace_and_output (T.contents trace.old) (T.contents trace.new)
         (W.contents out.old) (W.contents out.new)) s o) }
 {
