@@ -1,7 +1,7 @@
 -- Effects that don't change the numbers of tasks, scopes and bindings.
 use Rattle.std.proofs.Common.{◌≡◌, ℕ, [], ◌∷◌, length, Bool, true, false, ◌||◌, not, Option, Some, None, refl, ◌∙◌, ap, set, cond, is_some}
 use Rattle.std.proofs.lemmas.List.{length-set, length-map}
-use Rattle.std.specs.Prelude.{option_map, unwrap_or, count_by, ◌==◌}
+use Rattle.std.specs.Prelude.{option_map, unwrap_or, count_by}
 use Rattle.sts_code.specs.Program.{Program}
 use Rattle.sts_code.specs.declared.instr.Instr.{Instr}
 use Rattle.sts_code.specs.declared.instr.Instr.TheVariants.{Div, Times, Next, Open, Fork, Join, Close, Bind, Unbind, Interrupted, Ret, Fail}

@@ -1,5 +1,5 @@
 -- No fault applies: each test of a fault says no.
-use Rattle.std.proofs.Common.{◌≡◌, ℕ, Bool, true, false, Option, Some, None, ◌||◌, cond, refl}
+use Rattle.std.proofs.Common.{◌≡◌, ℕ, Bool, true, false, Option, Some, None, cond, refl}
 use Rattle.std.proofs.lemmas.Bool.{or_parts}
 use Rattle.sts_code.specs.Program.{Program}
 use Rattle.sts_code.specs.declared.instr.Instr.{Instr}

@@ -72,12 +72,6 @@ gave_steps gives first (suc c) t journal now gave =
 given_beside : {O : Type 0} (gives : O → ℕ → Option Event → O → Type 0) (first : Option O) (b : BookSeen) (out : List ℕ) → HasGiven gives first b → HasGiven gives first (record b { out = out })
 given_beside gives first b out has = record { events = has.events; journal = journal_beside b out has.events has.journal; given = has.given }
 
--- its journal, if it is written
-pub written_given : {O : Type 0} (gives : O → ℕ → Option Event → O → Type 0) (o : O) (b : BookSeen) (entries : List Event) → HasGiven gives (Some o) b → b.journal ≡ Some entries → IsGiven gives o entries
-written_given gives o b entries has e =
-    let same : entries ≡ has.events = subst (λ j. IfSome j (λ es. es ≡ has.events)) e has.journal.written in
-    subst (IsGiven gives o) (sym same) has.given
-
 -- or one that may be its journal
 pub ended_given : {O : Type 0} (gives : O → ℕ → Option Event → O → Type 0) (o : O) (b : BookSeen) (p : Program) (end : End) (steps : ℕ) → b.program ≡ p → HasGiven gives (Some o) b
     → ((events : List Event) → MayBe b events → IsReport b.program events end × (steps ≡ count_by is_step events)) → IsEnding p (IsGiven gives o) end steps
