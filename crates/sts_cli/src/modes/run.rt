@@ -17,7 +17,7 @@ use sts_asm::assemble;
 use sts_code::{MAX_OUTSIDE, Program};
 use sts_model::{End, Event};
 use sts_output::{Output, accepted, output, printed, verify};
-use sts_pool::{Ending, Gate, PoolError, Report, run, run_unwritten};
+use sts_pool::{Gate, PoolError, Report, run_with_journal};
 use sts_trace::read_outside;
 use sts_verify::Verified;
 
@@ -63,35 +63,6 @@ fn alone(alloc: Global, output: Output) -> Ran
         journal: Vec::new(alloc),
         came: None,
     }
-}
-
-/// How an accepted program ended, with its journal if that is kept.
-fn report<R: Threads + Wait + Sync>(
-    rt: &R,
-    alloc: Global,
-    verified: &Verified,
-    manner: Manner,
-    dues: Dues,
-) -> Result<Report, PoolError>
-    requires few { length dues ≤ MAX_OUTSIDE }
-    ensures { IfOk result (def.IsReportOf manner.kept verified.now dues) }
-{
-    if manner.kept {
-        return run(rt, alloc, verified, manner.workers, &Open, dues);
-    }
-    let Ending {
-        end,
-        steps,
-        workers,
-        counted,
-    } = run_unwritten(rt, alloc, verified, manner.workers, &Open, dues)?;
-    Ok(Report {
-        end,
-        journal: Vec::new(alloc),
-        steps,
-        workers,
-        counted,
-    })
 }
 
 /// Appends how the root ended, and the steps.
@@ -147,7 +118,15 @@ fn run_accepted<R: Threads + Wait + Sync>(
     ensures { IfOk result (def.Holds manner.kept (def.IsRun verified.now dues)) }
 {
     let budgets = verify::lines(alloc, verified)?;
-    match report(rt, alloc, verified, manner, dues) {
+    match run_with_journal(
+        rt,
+        alloc,
+        verified,
+        manner.workers,
+        &Open,
+        dues,
+        manner.kept,
+    ) {
         Ok(report) => reported(budgets, report),
         Err(error) => unreported(alloc, error),
     }
