@@ -1,6 +1,6 @@
 //! Mode `run`: workers bring an accepted program to its end.
 
-ghost use Rattle.std.specs.Prelude.{◌≡◌, ◌≤◌, ◌++◌, ℕ, IfOk, OnOk, [], length};
+ghost use Rattle.std.specs.Prelude.{◌≡◌, ◌≤◌, ◌++◌, IfOk, OnOk, length};
 ghost use Rattle.std.specs.String.{string_bytes};
 ghost use Rattle.sts_asm.specs.Text.{judged};
 ghost use Rattle.sts_trace.specs.Reading.{outside_read};
@@ -84,10 +84,7 @@ fn reported(budgets: String, report: Report) -> Result<Ran, AllocError>
     let mut text = budgets;
     say_end(&mut text, report.end, report.steps)?;
     Ok(Ran {
-        output: Output {
-            text,
-            status: output::end_status(report.end),
-        },
+        output: Output::of(text, output::end_status(report.end)),
         journal: report.journal,
         came: Some(Came::new(report.counted, report.steps)),
     })
@@ -103,7 +100,7 @@ fn unreported(alloc: Global, error: PoolError) -> Result<Ran, AllocError>
         PoolError::Unfinished => "error unfinished\n",
     };
     let text = line.to_string(alloc)?;
-    Ok(alone(alloc, Output { text, status: 6 }))
+    Ok(alone(alloc, Output::of(text, 6)))
 }
 
 /// Runs an accepted program.
