@@ -1,7 +1,6 @@
 -- The output for a fault of a text.
 use Rattle.std.proofs.Common.{List, ℕ, Result, Ok, Err}
 use Rattle.sts_code.specs.Program.{Program}
-use Rattle.sts_output.specs.Output.{Output}
 use Rattle.sts_output.specs.Stops.{Gives}
 use Rattle.sts_output.specs.declared.stopped.Stopped.{Stopped}
 use Rattle.look_refusal.specs.Stops.{IsTextFault}

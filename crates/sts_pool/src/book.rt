@@ -365,11 +365,10 @@ impl<'p> Book<'p> {
         let Some(end) = self.machine.root_end() else {
             return Err(PoolError::Unfinished);
         };
-        let steps = self.machine.steps();
         Ok(Report {
             end,
+            steps: self.machine.steps(),
             journal: self.journal.into_entries(alloc),
-            steps,
             workers,
             counted,
         })
