@@ -115,12 +115,7 @@ impl<'p> Watch<'p> {
     {
         match self.misstep {
             None => self.plain.state(),
-            Some(m) => PlainState::Fault {
-                kind: m.kind,
-                task: m.task,
-                function: m.function,
-                pc: m.pc,
-            },
+            Some(misstep) => misstep.state(),
         }
     }
 

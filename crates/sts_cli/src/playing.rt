@@ -23,7 +23,7 @@ use sts_output::{
 };
 use sts_trace::write_trace;
 
-fn output(alloc: Global, mode: Mode, text: &[u8], trace: &[u8]) -> Result<Output, Stopped<Output>>
+fn output(alloc: Global, mode: Mode, text: &[u8], trace: &[u8]) -> Result<Output, Stopped>
     ensures { Prints result (def.Shows mode text.now trace.now) }
 {
     match mode {
@@ -95,7 +95,7 @@ fn print_ran<W: Write>(ran: &mut Ran, out: &mut W, aside: &mut Aside) -> Status
         def.Writes (W.contents out.old) (W.contents out.new) s ran.old.output) }
 {
     aside.came = ran.came.take();
-    written(out, ran.output.text.as_bytes(), ran.output.status)
+    written(out, ran.output.bytes.as_slice(), ran.output.status)
 }
 
 /// Writes the journal of a run to its trace, and then the output. If the trace can't be written,

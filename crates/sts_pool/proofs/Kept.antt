@@ -2,7 +2,7 @@
 use Rattle.std.proofs.Common.{◌≡◌, ℕ, ◌+◌, ◌≤◌, ◌<◌, ◌^◌, List, [], ◌∷◌, ◌++◌, length, Bool, true, false, not, ◌&&◌, Option, Some, None, refl, sym, ap, ◌∙◌, subst, cond, vec_len, vec_capacity, count_by, rules, arith, append-nil}
 use Rattle.std.proofs.lemmas.Bool.{cond-true}
 use Rattle.std.proofs.lemmas.List.Folds.{sum_by-replicate}
-use Rattle.std.specs.Prelude.{IfSome, option_map, unwrap_or}
+use Rattle.std.specs.Prelude.{IfSome, option_map}
 use Rattle.sts_code.specs.Program.{Program}
 use Rattle.sts_model.specs.declared.event.End.{End}
 use Rattle.sts_model.specs.declared.event.Event.{Event}
@@ -54,11 +54,6 @@ written_more (Written v) (Written w) more recorded = ap Some recorded.0
 written_more Counted Counted more recorded = refl
 written_more (Written v) Counted more recorded = absurd recorded
 written_more Counted (Written w) more recorded = absurd recorded
-
--- what is written is held
-same_events : (j : Journal) (events entries : List Event) (room : ℕ) → Holds j events room → written j ≡ Some entries → events ≡ entries
-same_events (Written v) events entries room holds e = sym holds.0 ∙ ap (λ o. unwrap_or o []) e
-same_events Counted events entries room holds e = absurd (cc)
 
 -- ---- what is known of a kept book
 
@@ -273,15 +268,3 @@ ends m j n out k end o is ended some events may =
     let most = is.book.most in
     let book : IsBook m events out = record { stands = may.stands; counted = omega (arith, counted, from); most = omega (arith, most, entries, from); apart = is.book.apart; living = is.book.living } in
     (reports m events out end o book is.room.main (ended events may.stands) some, steps_counted m events out book)
-
--- the written entries may be the journal's
-kept_may : (m : Seen) (j : Journal) (n : ℕ) (out : List ℕ) (k : ℕ) (entries : List Event) → IsKept m j n out k → written j ≡ Some entries → MayBe (book_of m (written j) n out) entries
-kept_may m j n out k entries is e =
-    let all : length is.events ≡ m.steps + outside_entries is.events = is.book.counted in
-    let from : outside_entries is.events ≡ n = is.entries in
-    let may : MayBe (book_of m (written j) n out) is.events = record { stands = is.book.stands; outside = from; counted = omega (arith, all, from) } in
-    subst (MayBe (book_of m (written j) n out)) (same_events j is.events entries is.journal_room is.holds e) may
-
-pub taken_may : {V : Type 0} (items : V → List Event) (m : Seen) (j : Journal) (n : ℕ) (out : List ℕ) (k : ℕ) (taken : Option V) → IsKept m j n out k → option_map items taken ≡ written j → IfSome taken (λ v. MayBe (book_of m (written j) n out) (items v))
-taken_may items m j n out k (Some v) is e = kept_may m j n out k (items v) is (sym e)
-taken_may items m j n out k None is e = tt
