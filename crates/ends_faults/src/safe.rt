@@ -12,7 +12,7 @@ use crate::entries::{binds_after, ends_with_binding, is_full, is_innermost};
 use crate::picks::always;
 use crate::scopes::{is_readable, joins_wrongly, may_close};
 use ends_table::bindings::{bindings, value_of};
-use ends_table::places::{Known, Owned, held_at, known, owned};
+use ends_table::places::{PlacedPart, Owned, held_at, known, owned};
 use ends_table::stop::Stop;
 use laws_calls::table::{Call, Held, Own};
 use std::alloc::{AllocError, Global};
@@ -140,7 +140,7 @@ impl<'a> Around<'a> {
         ensures { OnOk result (def.KnowsOne self.now.own.now handle
             (def.CanRead self.now.program.now.profile (is_kind kind))) }
     {
-        let Known { seen, i, part, .. } = known(self.own, handle)?;
+        let PlacedPart { seen, i, part, .. } = known(self.own, handle)?;
         needs(is_readable(self.program.profile(), seen))?;
         always(alloc, seen, i, part, kind)?;
         Ok(())

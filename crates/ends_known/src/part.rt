@@ -178,13 +178,13 @@ pub fn is_sure_trigger(joiner: Joiner, part: Part, ways: &[Way]) -> bool {
 
 /// How many ways a filter would leave, and the last of them.
 #[derive(Clone, Copy)]
-struct Left {
-    count: u32,
-    place: u32,
+pub struct Left {
+    pub count: u32,
+    pub place: u32,
 }
 
 /// The ways of a part that are of one kind, and count towards a cancel or don't.
-fn ways_left(joiner: Joiner, part: Part, ways: &[Way], kind: Filter) -> Left {
+pub fn ways_left(joiner: Joiner, part: Part, ways: &[Way], kind: Filter) -> Left {
     let mut found = Left { count: 0, place: 0 };
     let mut place: u32 = 0;
     for way in ways {

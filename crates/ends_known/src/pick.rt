@@ -1,7 +1,7 @@
 //! What the subtasks of a scope may have come to together.
 
 use crate::call::{Way, number};
-use crate::part::{Part, Run, with_part};
+use crate::part::{Filter, Part, Run, ways_left, with_part};
 use crate::seen::{Facts, Seen};
 use crate::table::Table;
 use laws_calls::joiners::{is_success, is_trigger, limit};
@@ -56,6 +56,14 @@ const NOTHING: Count = Count {
     total: 0,
 };
 
+/// The sum of no parts.
+const NO_PARTS: Sum = Sum {
+    count: NOTHING,
+    cost: 0,
+    before: 0,
+    way: None,
+};
+
 impl Needs {
     /// The counts that the owner has asked for.
     pub fn asked(asked: Asked) -> Needs {
@@ -95,6 +103,17 @@ fn added(a: Count, b: Count) -> Count {
         failures: a.failures.saturating_add(b.failures),
         unavailable: a.unavailable.saturating_add(b.unavailable),
         total: a.total.wrapping_add(b.total),
+    }
+}
+
+/// The count of a number of parts that count alike.
+fn times(count: Count, parts: u32) -> Count {
+    Count {
+        triggers: count.triggers.saturating_mul(parts),
+        successes: count.successes.saturating_mul(parts),
+        failures: count.failures.saturating_mul(parts),
+        unavailable: count.unavailable.saturating_mul(parts),
+        total: count.total.wrapping_mul(i64::from(parts)),
     }
 }
 
@@ -335,16 +354,19 @@ fn fits(facts: &Facts, count: Count) -> bool {
         && is_count(count.unavailable, facts.asked.unavailable)
 }
 
-/// The sum of no parts.
+/// The sum of no parts, alone.
 fn no_parts(alloc: Global) -> Result<Vec<Sum>, AllocError> {
     let mut sums = Vec::new(alloc);
-    sums.push(Sum {
-        count: NOTHING,
-        cost: 0,
-        before: 0,
-        way: None,
-    })?;
+    sums.push(NO_PARTS)?;
     Ok(sums)
+}
+
+/// What a part adds that is unavailable.
+fn idle(facts: &Facts, needs: Needs) -> Sum {
+    Sum {
+        count: contribution(facts.joiner, needs, None),
+        ..NO_PARTS
+    }
 }
 
 /// What each part of a run may add to the counts.
@@ -357,16 +379,58 @@ fn choices_of(
 ) -> Result<Vec<Sum>, AllocError> {
     let mut found = Vec::new(alloc);
     if run.part.is_open {
-        found.push(Sum {
-            count: contribution(facts.joiner, needs, None),
-            cost: 0,
-            before: 0,
-            way: None,
-        })?;
+        found.push(idle(facts, needs))?;
     }
     let ways = table.ways_of(run.part);
     push_ways(facts.joiner, needs, run.part, ways, &mut found)?;
     Ok(found)
+}
+
+/// The only way of a part, if there is one, with its place.
+fn only_way(joiner: Joiner, part: Part, ways: &[Way]) -> Option<(u32, Way)> {
+    let allowed = ways_left(joiner, part, ways, Filter::All);
+    if allowed.count != 1 {
+        return None;
+    }
+    let way = ways.get(allowed.place as usize)?;
+    Some((allowed.place, *way))
+}
+
+/// What a part adds that is unavailable if it may be, and else comes to its only way, if it has one.
+fn idle_choice(table: &Table, facts: &Facts, needs: Needs, part: Part) -> Option<Sum> {
+    if part.is_open {
+        return Some(idle(facts, needs));
+    }
+    let (place, way) = only_way(facts.joiner, part, table.ways_of(part))?;
+    Some(Sum {
+        count: contribution(facts.joiner, needs, Some(way.end)),
+        cost: way.cost,
+        before: 0,
+        way: Some(place),
+    })
+}
+
+/// The sum with this choice of a number of parts more.
+fn with_choices(sum: Sum, choice: &Sum, count: u32) -> Sum {
+    Sum {
+        count: added(sum.count, times(choice.count, count)),
+        cost: sum.cost.saturating_add(choice.cost.saturating_mul(count)),
+        ..sum
+    }
+}
+
+/// The sum of the pick in which each part that may be unavailable is, and each other one comes to its
+/// only way, if there is such a pick and it fits. No other pick that fits takes fewer interrupts, and
+/// none with as many has a lower count.
+fn idle_sum(table: &Table, scope: &Seen, left: u32) -> Option<Sum> {
+    let needs = Needs::asked(scope.facts.asked);
+    let mut sum = NO_PARTS;
+    for run in scope.runs.as_slice() {
+        let choice = idle_choice(table, &scope.facts, needs, run.part)?;
+        sum = with_choices(sum, &choice, run.count);
+    }
+    let is_fit = bounds_of(&scope.facts, left).admit(&sum) && fits(&scope.facts, sum.count);
+    is_fit.then_some(sum)
 }
 
 /// Goes on to the sums with all parts of a scope more, and returns whether no part made more than
@@ -442,6 +506,9 @@ pub fn least_cost(
     scope: &Seen,
     left: u32,
 ) -> Result<Option<u32>, AllocError> {
+    if let Some(sum) = idle_sum(table, scope, left) {
+        return Ok(Some(sum.cost));
+    }
     let needs = Needs::asked(scope.facts.asked);
     let found = fitting(alloc, table, scope, left, needs)?;
     Ok(found.iter().map(|sum| sum.cost).min())
@@ -534,9 +601,35 @@ fn push_picked(
     Ok(true)
 }
 
-/// A pick that fits for the fewest interrupts: the way of each part, or `None` if it is
-/// unavailable.
-pub fn pick(
+/// Appends the way of one part a number of times.
+fn push_way(ways: &mut Vec<Option<u32>>, way: Option<u32>, count: u32) -> Result<(), AllocError> {
+    for _ in 0..count {
+        ways.push(way)?;
+    }
+    Ok(())
+}
+
+/// The ways of the pick in which each part that may be unavailable is, if it fits.
+fn idle_pick(
+    alloc: Global,
+    table: &Table,
+    scope: &Seen,
+    left: u32,
+) -> Result<Option<Vec<Option<u32>>>, AllocError> {
+    if idle_sum(table, scope, left).is_none() {
+        return Ok(None);
+    }
+    let needs = Needs::asked(scope.facts.asked);
+    let mut ways = Vec::new(alloc);
+    for run in scope.runs.as_slice() {
+        let way = idle_choice(table, &scope.facts, needs, run.part).and_then(|choice| choice.way);
+        push_way(&mut ways, way, run.count)?;
+    }
+    Ok(Some(ways))
+}
+
+/// A pick that fits for the fewest interrupts, found by adding part by part.
+fn pick_by_layers(
     alloc: Global,
     table: &Table,
     scope: &Seen,
@@ -549,6 +642,20 @@ pub fn pick(
     let is_whole = push_picked(&scope.facts, layers.as_slice(), &mut picked)?;
     picked.reverse();
     Ok(is_whole.then_some(picked))
+}
+
+/// A pick that fits for the fewest interrupts: the way of each part, or `None` if it is
+/// unavailable.
+pub fn pick(
+    alloc: Global,
+    table: &Table,
+    scope: &Seen,
+    left: u32,
+) -> Result<Option<Vec<Option<u32>>>, AllocError> {
+    match idle_pick(alloc, table, scope, left)? {
+        Some(ways) => Ok(Some(ways)),
+        None => pick_by_layers(alloc, table, scope, left),
+    }
 }
 
 /// The scope with other facts and another part at a place, if some pick fits it then.

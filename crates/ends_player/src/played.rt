@@ -489,10 +489,10 @@ impl PlayedScope {
         }
     }
 
-    /// Adds the subtasks whose ends count towards a cancel, or the others.
+    /// Adds the subtasks that end heard and whose ends count towards a cancel, or the others.
     fn push_those(&mut self, table: &Table, scope: &Seen, triggers: bool, starts: &mut Starts) {
         for child in 0..number(self.forks.len()) {
-            if self.is_trigger(table, scope, child) == triggers {
+            if self.way(child).is_some() && self.is_trigger(table, scope, child) == triggers {
                 self.push(scope, child, starts);
             }
         }

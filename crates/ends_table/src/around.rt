@@ -1,5 +1,6 @@
 //! A state of a row, and what its steps depend on.
 
+use ends_search::index::Index;
 use laws_calls::table::{Call, Outside, Own, Row};
 use sts_code::Program;
 
@@ -10,6 +11,8 @@ pub struct Around<'a> {
     /// What may come to a task from outside.
     pub outside: Outside,
     pub table: &'a [Row],
+    /// Where its rows are, by their calls.
+    pub places: &'a Index,
     pub call: &'a Call,
     /// The states to which its steps have to lead.
     pub states: &'a [Own],

@@ -10,8 +10,9 @@ ghost use Rattle.sts_model.specs.declared.event.End.{End};
 use crate::around::Around;
 use crate::beginning::{first_state, root_call};
 use crate::reached::is_among;
-use crate::rows::ends;
+use crate::rows::{ends, places_of};
 use crate::stop::Stop;
+use ends_search::index::Index;
 use laws_calls::table::{Call, Held, Outside, Own, Row, Way};
 use std::alloc::{AllocError, Global};
 use sts_code::{Instr, Program};
@@ -41,6 +42,7 @@ pub fn check_state(
     program: &Program,
     outside: Outside,
     table: &[Row],
+    places: &Index,
     row: &Row,
     own: &Own,
 ) -> Result<(), Stop>
@@ -53,6 +55,7 @@ pub fn check_state(
         program,
         outside,
         table,
+        places,
         call: &row.call,
         states: row.states.as_slice(),
         own,
@@ -67,13 +70,14 @@ fn check_row(
     program: &Program,
     outside: Outside,
     table: &[Row],
+    places: &Index,
     row: &Row,
 ) -> Result<(), Stop>
     ensures { OnOk result (All (led.IsLedAt program.now outside table.now row.now)
         row.now.states) }
 {
     for own in row.states.as_slice() {
-        check_state(alloc, program, outside, table, row, own)?;
+        check_state(alloc, program, outside, table, places, row, own)?;
     }
     Ok(())
 }
@@ -82,8 +86,9 @@ fn check_row(
 fn check_rows(alloc: Global, program: &Program, outside: Outside, table: &[Row]) -> Result<(), Stop>
     ensures { OnOk result (All (led.IsLedRow program.now outside table.now) table.now) }
 {
+    let places = places_of(alloc, table)?;
     for row in table {
-        check_row(alloc, program, outside, table, row)?;
+        check_row(alloc, program, outside, table, &places, row)?;
     }
     Ok(())
 }

@@ -10,6 +10,7 @@ use crate::check::is_closed;
 use crate::fingerprints::{fingerprint, sort};
 use crate::rows::ends;
 use crate::stop::Stop;
+use ends_known::call::hash_of;
 use ends_search::index::Index;
 use laws_calls::shared::Shared;
 use laws_calls::table::{Call, Held, Outside, Own, Row, Seen, Way};
@@ -60,6 +61,8 @@ struct Closing {
     outside: Outside,
     /// The rows that are done.
     rows: Vec<Row>,
+    /// Where they are, by their calls.
+    places: Index,
     /// The rows whose states are not all done. Each waits for the one behind it.
     open: Vec<Open>,
     states: usize,
@@ -198,6 +201,7 @@ impl Open {
         program: &Program,
         outside: Outside,
         rows: &[Row],
+        places: &Index,
         own: &Own,
     ) -> Result<u32, Stop> {
         let Some(instr) = instr_at(program, &own.frame) else {
@@ -207,6 +211,7 @@ impl Open {
             program,
             outside,
             table: rows,
+            places,
             call: &self.call,
             states: self.next.as_slice(),
             own,
@@ -304,14 +309,15 @@ impl Closing {
         let Some(own) = top.states.get(top.done) else {
             return Look::Done;
         };
-        match top.look(alloc, program, self.outside, self.rows.as_slice(), own) {
+        match top.look(alloc, program, self.outside, self.rows.as_slice(), &self.places, own) {
             Ok(born) => Look::Passed(born),
             Err(stop) => Look::Lacks(stop),
         }
     }
 
     /// Keeps a row.
-    fn push_row(&mut self, row: Row) -> Result<(), AllocError> {
+    fn push_row(&mut self, alloc: Global, row: Row) -> Result<(), AllocError> {
+        self.places.add(alloc, hash_of(&row.call))?;
         self.rows.push(row)?;
         Ok(())
     }
@@ -320,7 +326,7 @@ impl Closing {
     fn keep(&mut self, alloc: Global) -> Result<(), Stop> {
         if let Some(open) = self.open.pop() {
             self.states = self.states.saturating_add(open.states.len());
-            self.push_row(open.row(alloc)?)?;
+            self.push_row(alloc, open.row(alloc)?)?;
         }
         Ok(())
     }
@@ -383,6 +389,7 @@ fn table_of(
     let mut closing = Closing {
         outside,
         rows: Vec::new(alloc),
+        places: Index::new(alloc)?,
         open: Vec::new(alloc),
         states: 0,
         memory: 0,

@@ -120,7 +120,7 @@ impl<'a> Around<'a> {
             (def.call_of self.now.program.now self.now.own.now seen.now function)) }
     {
         let call = call_of(alloc, self.program, self.own, seen, function)?;
-        match row_for(alloc, self.table, &call)? {
+        match row_for(alloc, self.table, self.places, &call)? {
             Some(row) => Ok(row),
             None => Err(Stop::Call(call)),
         }

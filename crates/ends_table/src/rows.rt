@@ -9,32 +9,65 @@ ghost use Rattle.sts_model.specs.declared.event.End.{End};
 use crate::beginning::first_state;
 use crate::reached::is_among_with;
 use crate::stop::Stop;
+use ends_known::call::hash_of;
+use ends_search::index::Index;
 use laws_calls::table::{Call, Held, Own, Row, Way};
-use std::alloc::Global;
+use std::alloc::{AllocError, Global};
 use sts_code::Instr;
 use sts_model::{End, Frame};
 use sts_same::same::Same;
 
-/// The row of a call, which has the call's first state.
-fn row_of<'a>(table: &'a [Row], call: &Call, first: &Own) -> Option<&'a Row>
+/// Where the rows of a table are, by their calls: only hints, with no contract.
+pub fn places_of(alloc: Global, table: &[Row]) -> Result<Index, AllocError> {
+    let mut places = Index::new(alloc)?;
+    for row in table {
+        places.add(alloc, hash_of(&row.call))?;
+    }
+    Ok(places)
+}
+
+/// The row at a place, if it is that of a call and has the call's first state.
+fn row_at<'a>(table: &'a [Row], place: usize, call: &Call, first: &Own) -> Option<&'a Row>
     requires { first.now ≡ tasks.begin Lent call.now 0 }
     ensures { IfSome result (λ row. def.IsRowOf table.now row.now call.now) }
 {
-    for row in table {
-        if row.call.same(call) && is_among_with(row.states.as_slice(), first, row.births) {
-            return Some(row);
+    let row = table.get(place)?;
+    if row.call.same(call) && is_among_with(row.states.as_slice(), first, row.births) {
+        Some(row)
+    } else {
+        None
+    }
+}
+
+/// The row of a call, which has the call's first state.
+fn row_of<'a>(table: &'a [Row], places: &Index, call: &Call, first: &Own) -> Option<&'a Row>
+    requires { first.now ≡ tasks.begin Lent call.now 0 }
+    ensures { IfSome result (λ row. def.IsRowOf table.now row.now call.now) }
+{
+    let hash = hash_of(call);
+    let mut place = places.first(hash);
+    for _ in 0..table.len() {
+        let found = row_at(table, place, call, first);
+        if found.is_some() || place >= table.len() {
+            return found;
         }
+        place = places.behind(place, hash);
     }
     None
 }
 
 /// The row of the call of a subtask.
-pub fn row_for<'a>(alloc: Global, table: &'a [Row], call: &Call) -> Result<Option<&'a Row>, Stop>
+pub fn row_for<'a>(
+    alloc: Global,
+    table: &'a [Row],
+    places: &Index,
+    call: &Call,
+) -> Result<Option<&'a Row>, Stop>
     ensures { IfOk result (λ found. IfSome found (λ row.
         def.IsRowOf table.now row.now call.now)) }
 {
     let first = first_state(alloc, call, Held::Lent, 0)?;
-    Ok(row_of(table, call, &first))
+    Ok(row_of(table, places, call, &first))
 }
 
 /// Does the way come to this end?
