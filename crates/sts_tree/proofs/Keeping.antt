@@ -209,9 +209,6 @@ module _ {E : Type 0} where
             (o.0, get_or_append_left f.scopes (Some c ∷ []) None s l ∙ o.1, o.2);
       }
     where
-      more : Forest E
-      more = record f { scopes = f.scopes ++ Some c ∷ []; scope_keys = keys; scope_room = r }
-
       by2 : (u : ℕ) (z : TaskNode) → get_or f.tasks u None ≡ Some z → (a : Bool) (st : Stand) → z.lives ≡ a → z.stand ≡ st → step_of (record f { scopes = f.scopes ++ Some c ∷ []; scope_keys = keys; scope_room = r }) (Some z) ≡ step_of f (Some z)
       by2 u z at false st p q = rw p refl
       by2 u z at true Free p q = rw q refl
