@@ -1,5 +1,5 @@
 -- After one change, which tasks can step, and which own which scopes.
-use Rattle.std.proofs.Common.{◌≡◌, ◌≢◌, ℕ, zero, suc, ◌<◌, List, [], ◌∷◌, ◌++◌, Bool, true, false, ◌&&◌, ◌||◌, not, Option, Some, None, refl, sym, ◌∙◌, ap, arith, get_or, set, get_or-set_same, get_or-set_other, is_some, nat_eq, nat_lt, length}
+use Rattle.std.proofs.Common.{◌≡◌, ◌≢◌, ℕ, zero, suc, ◌<◌, List, [], ◌∷◌, ◌++◌, Bool, true, false, ◌&&◌, ◌||◌, not, Option, Some, None, refl, sym, ◌∙◌, ap, arith, get_or, set, get_or-set_same, get_or-set_other, is_some, nat_eq, length}
 use Rattle.std.proofs.lemmas.Bool.Decides.{nat_tests}
 use Rattle.std.proofs.lemmas.List.{get_or_append_left, get_or_past, set-get_or}
 use Rattle.std.specs.Prelude.{option_map}
@@ -7,6 +7,7 @@ use Rattle.std.proofs.lemmas.Option.{same_Some}
 use Rattle.sts_model.specs.declared.event.Stand.{Stand}
 use Rattle.sts_model.specs.declared.event.Stand.TheVariants.{Free, AtJoin, AtClose}
 use Rattle.sts_links.specs.Lists.{first_or}
+use Rattle.laws_words.proofs.ListLemmas.{old_at}
 use Rattle.sts_tree.specs.Births.{births, has}
 use Rattle.sts_tree.specs.Forest.{Forest, any_lives, lives_in, is_of, root, subtask}
 use Rattle.sts_tree.specs.declared.record.TaskNode.{TaskNode}
@@ -15,7 +16,7 @@ use Rattle.sts_tree.proofs.BirthLemmas.{births_kept}
 use Rattle.sts_tree.proofs.HoldingLemmas.{map_at, inside_of}
 use Rattle.sts_tree.proofs.KeyLemmas.{not_has}
 use Rattle.sts_tree.proofs.ForkLemmas.{own_scope, one_scope, not_lives_of}
-use Rattle.sts_tree.proofs.StepLemmas.{same_living, at_set, at_more, one_of, no_more, past_none}
+use Rattle.sts_tree.proofs.StepLemmas.{same_living, at_set, at_more, one_of, no_more}
 use Rattle.sts_tree.specs.Steps.{is_over, can_go, can_step, unmarked, seen, stands_at, Owned, IsTree, with_task, with_scope}
 
 lives_same : (tasks : List (Option TaskNode)) (t s : ℕ) (x y : TaskNode) → get_or tasks t None ≡ Some x → y.scope ≡ x.scope → y.lives ≡ x.lives → any_lives (set tasks t (Some y)) s ≡ any_lives tasks s
@@ -28,15 +29,6 @@ lives_more : (tasks : List (Option TaskNode)) (r s : ℕ) (y : TaskNode) → y.s
 lives_more tasks r s y scope ne =
     let own : is_of s y ≡ true = rw scope (own_scope s) in
     ap (λ l. is_some (first_or l None)) (one_of (lives_in r) tasks y ∙ no_more (births (lives_in r) 0 tasks) (lives_in r y) (length tasks) (not_lives_of r y (one_scope r s y ne own)))
-
-read_more : (tasks : List (Option TaskNode)) (y : TaskNode) (u : ℕ) → u ≢ length tasks → get_or (tasks ++ Some y ∷ []) u None ≡ get_or tasks u None
-read_more tasks y u ne = by (nat_lt u (length tasks)) refl
-  where
-    by : (b : Bool) → nat_lt u (length tasks) ≡ b → get_or (tasks ++ Some y ∷ []) u None ≡ get_or tasks u None
-    by true q = get_or_append_left tasks (Some y ∷ []) None u (grind (arith, nat_tests))
-    by false q =
-        let past : length tasks < u = grind (arith, nat_tests, ne) in
-        past_none tasks (Some y) u None past ∙ sym (get_or_past tasks u None (omega arith))
 
 last_is : (tasks : List (Option TaskNode)) (y : TaskNode) → get_or (tasks ++ Some y ∷ []) (length tasks) None ≡ Some y
 last_is [] y = refl
@@ -251,7 +243,7 @@ module _ {E : Type 0} where
   go_more f keys s room y flag (AtClose r) scope away = rw (lives_more f.tasks r s y scope (grind (arith, nat_tests))) refl
 
   steps_more : (f : Forest E) (keys : List ℕ) (s room u : ℕ) (c : ScopeNode E) (y : TaskNode) → Owned f → get_or f.scopes s None ≡ Some c → y.scope ≡ Some s → u ≢ length f.tasks → u ≢ c.owner → can_step (with_more f y keys room) u ≡ can_step f u
-  steps_more f keys s room u c y owned is scope new ne = ap (step_of (with_more f y keys room)) (read_more f.tasks y u new) ∙ by (get_or f.tasks u None) refl
+  steps_more f keys s room u c y owned is scope new ne = ap (step_of (with_more f y keys room)) (old_at f.tasks y u new) ∙ by (get_or f.tasks u None) refl
     where
       own : (z : TaskNode) → get_or f.tasks u None ≡ Some z → z.lives ≡ true → stands_at s z.stand ≡ true → ⊥
       own z at lives st = let o = owned u s z at lives st in let e = o.1 in let q : o.0 ≡ c = cc in ne (rw (← q) (sym o.2))
@@ -307,7 +299,7 @@ module _ {E : Type 0} where
 
       same : owner ≢ n → can_step more owner ≡ can_step f owner
       same ne =
-          let r = read_more f.tasks y owner (λ q. ne (q ∙ sym size)) in
+          let r = old_at f.tasks y owner (λ q. ne (q ∙ sym size)) in
           ap (step_of more) r ∙ by (get_or f.tasks owner None) (ap (option_map unmarked) (sym r) ∙ there)
 
   -- a new subtask can step if it lives
