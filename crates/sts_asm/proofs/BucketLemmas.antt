@@ -45,9 +45,9 @@ got_before [] new i h = absurd (omega arith)
 got_before (m ∷ ms) new zero h = refl
 got_before (m ∷ ms) new (suc i) h = got_before ms new i (omega arith)
 
-got_last : (ms : List Mark) (new : Mark) → slice_get (ms ++ new ∷ []) (length ms) ≡ Some new
-got_last [] new = refl
-got_last (m ∷ ms) new = got_last ms new
+pub got_last : {X : Type 0} (xs : List X) (x : X) → slice_get (xs ++ x ∷ []) (length xs) ≡ Some x
+got_last [] x = refl
+got_last (y ∷ xs) x = got_last xs x
 
 told_before : (ms : List Mark) (new : Mark) (others : BTreeMap (Bor (List ℕ)) ℕ) (first : Option ℕ) (q : List ℕ) → ((place : ℕ) → first ≡ Some place → place < length ms) → told (ms ++ new ∷ []) others first q ≡ told ms others first q
 told_before ms new others None q h = refl

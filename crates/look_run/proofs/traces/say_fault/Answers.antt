@@ -1,17 +1,13 @@
-use Rattle.std.proofs.Common.{◌≡◌, ℕ, ◌-◌, List, ◌++◌, Result, Ok, Err, codes, refl, sym, ap, ◌∙◌, append_assoc}
+use Rattle.std.proofs.Common.{◌≡◌, ℕ, ◌-◌, List, ◌++◌, codes, refl, sym, ap, ◌∙◌, append_assoc}
+use Rattle.std.proofs.lemmas.Result.{on_ok_weaker}
 use Rattle.std.specs.Fmt.{decimal}
 use Rattle.std.specs.Prelude.{slice_get}
-use Rattle.std.specs.Result.{OnOk}
 use Rattle.sts_text.specs.Words.{lines}
 use Rattle.sts_trace.specs.declared.error.TraceError.{TraceError}
 use Rattle.look_text.proofs.LineLemmas.{five_said}
 use Rattle.look_run.specs.Lines.{line_number, shown_line, trace_number}
 use Rattle.look_run.specs.Sentences.{trace_sentence}
 use Rattle.look_run.proofs.traces.say_fault.Goals as goal
-
-on_ok : {A E : Type 0} (r : Result A E) (P Q : Type 0) → (P → Q) → OnOk r P → OnOk r Q
-on_ok (Ok x) P Q f h = f h
-on_ok (Err e) P Q f h = h
 
 regroup : (a b c d e : List ℕ) → (((a ++ b) ++ c) ++ d) ++ e ≡ a ++ (b ++ (c ++ (d ++ e)))
 regroup a b c d e = simp append_assoc
@@ -30,7 +26,7 @@ returns c =
     let head = grouped c.as_str.result.now text error
     (rw (c.as_str.ensures.value, c.in_ok-head.ensures.ok, c.trace_number-number.ensures, c.line_number-line.ensures) refl) in
     let line = ap shown_line c.line_at.ensures ∙ ap (λ (n : ℕ). shown_line (slice_get (lines text) (n - 1))) c.line_number-line.ensures in
-    on_ok c.say-4.result _ _
+    on_ok_weaker c.say-4.result
     (five_said (head_words text error) (shown_line (slice_get (lines text) (line_number text error - 1))) (codes "\"\n") (trace_sentence error) (codes "\n")
     c.args.out.now.items c.say.new.out.items c.say_line.new.out.items c.say-2.new.out.items c.say-3.new.out.items c.say-4.new.out.items
     (c.in_ok-say.ensures ∙ ap (λ (l : List ℕ). c.args.out.now.items ++ l) head)
