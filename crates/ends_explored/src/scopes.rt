@@ -128,12 +128,13 @@ pub enum Question {
 }
 
 impl Question {
-    /// The counts that are needed for the answer: those that were asked for after it.
+    /// Which counts a sum has to keep: those that the owner was told before, and the one that it asks
+    /// for now.
     fn needs(self, asked: Asked) -> Needs {
         Needs::asked(self.noted(asked, 0))
     }
 
-    /// A scope with more answers than these has too many.
+    /// The most sums that are kept for the answers. If a scope has more, the search breaks off.
     fn most(self) -> usize {
         match self {
             Question::Count(_) => usize::MAX,

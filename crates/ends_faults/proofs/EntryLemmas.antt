@@ -1,10 +1,8 @@
 -- The structure list, entry by entry.
 use Rattle.std.proofs.Common.{◌≡◌, ℕ, suc, ◌+◌, ◌<◌, List, ◌∷◌, Bool, true, false, refl, ◌∙◌, ap, arith, length, get_or, drop, cond, is_some, drop-cons}
-use Rattle.std.specs.Prelude.{◌==◌}
 use Rattle.sts_model.specs.declared.record.Entry.{Entry}
 use Rattle.sts_model.specs.declared.record.Entry.TheVariants as entry
 use Rattle.laws_calls.specs.Tasks.{births_in, scope_of_entry}
-use Rattle.ends_faults.specs.Safe.{binds_after}
 
 -- is it a scope?
 abbrev pub is_scope_entry : Entry → Bool
@@ -20,18 +18,3 @@ count_more es i d less = ap (λ xs. length (births_in xs)) (split es i d less) �
     by : (x : Entry) → length (births_in (x ∷ drop (i + 1) es)) ≡ cond {A = ℕ} (is_some (scope_of_entry x)) 1 0 + length (births_in (drop (i + 1) es))
     by (entry.Scope s) = omega arith
     by (entry.Binding k v) = omega arith
-
-pub binds_yes : (es : List Entry) (place i : ℕ) (d : Entry) → i < length es → is_scope_entry (get_or es i d) ≡ false → binds_after place (drop i es) ≡ true
-binds_yes es place i d less is = ap (binds_after place) (split es i d less) ∙ by (get_or es i d) is
-  where
-    by : (x : Entry) → is_scope_entry x ≡ false → binds_after place (x ∷ drop (i + 1) es) ≡ true
-    by (entry.Scope s) e = cc
-    by (entry.Binding k v) e = refl
-
--- the scope at the place, or another one
-pub binds_scope : (es : List Entry) (place i : ℕ) (d : Entry) → i < length es → is_scope_entry (get_or es i d) ≡ true → binds_after place (drop i es) ≡ cond (place == length (births_in (drop (i + 1) es))) false (binds_after place (drop (i + 1) es))
-binds_scope es place i d less is = ap (binds_after place) (split es i d less) ∙ by (get_or es i d) is
-  where
-    by : (x : Entry) → is_scope_entry x ≡ true → binds_after place (x ∷ drop (i + 1) es) ≡ cond (place == length (births_in (drop (i + 1) es))) false (binds_after place (drop (i + 1) es))
-    by (entry.Scope s) e = refl
-    by (entry.Binding k v) e = cc

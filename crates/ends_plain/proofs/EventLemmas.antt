@@ -11,7 +11,7 @@ use Rattle.laws_words.proofs.ListLemmas.{sole}
 use Rattle.sts_model.specs.declared.event.Event.{Event}
 use Rattle.sts_model.specs.declared.event.Event.TheVariants as event
 pub use Rattle.laws_words.proofs.NumberLemmas.{split}
-use Rattle.sts_model.specs.World.{World, task_at, scope_at, no_task, no_scope, State, Running}
+use Rattle.sts_model.specs.World.{World, task_at, scope_at, no_task, no_scope, Running}
 use Rattle.sts_model.specs.Living.{lives}
 use Rattle.sts_model.specs.Waiting.{can_step, can_go, stand_at}
 use Rattle.sts_model.specs.Outside.{can_expire}
@@ -117,6 +117,3 @@ all_three g left w xs ys zs hx hy hz = record { all = every; only = λ e c. apar
     apart : (e : Event) → Contains (xs ++ ys) e ⊎ Contains zs e → can_come g left (Running w) e ≡ true
     apart e (inl c) = first_two e (Contains-append_cases xs ys e c)
     apart e (inr c) = expiring e (hz.only e c)
-
-none_of_fault : (g : Setting) (left : ℕ) (s : State) → AreThose (can_come g left s) [] → AreThose (can_come g left s) []
-none_of_fault g left s h = h

@@ -1,6 +1,7 @@
 pub mod ApartLemmas
 pub mod EarlierLemmas
 pub mod EventLemmas
+pub mod FoundLemmas
 pub mod FuelLemmas
 pub mod ListedLemmas
 pub mod NamedLemmas

@@ -1,12 +1,11 @@
 -- Names that are kept as lists lead from one state to another that is alike.
-use Rattle.std.proofs.Common.{◌≡◌, ℕ, zero, suc, ◌<◌, ◌≤◌, ◌+◌, ◌⊎◌, inl, inr, List, [], ◌∷◌, ◌++◌, Bool, true, false, refl, sym, ◌∙◌, ap, length, arith, get_or, cond, map, take, reverse}
+use Rattle.std.proofs.Common.{◌≡◌, ℕ, zero, suc, ◌<◌, ◌≤◌, ◌+◌, List, [], ◌∷◌, ◌++◌, Bool, true, false, refl, sym, ◌∙◌, ap, length, arith, cond, map, reverse}
 use Rattle.std.specs.Prelude.{Option, Some, slice_get, option_map}
-use Rattle.std.proofs.lemmas.List.{take_all, take_more, map_more, reverse-append, get_or_past}
+use Rattle.std.proofs.lemmas.List.{reverse-append, get_or_past}
 use Rattle.std.specs.List.{list_any}
 use Rattle.std.proofs.Math.Dec.{ltb}
 use Rattle.std.proofs.lemmas.Bool.{ltb-true, or_parts}
 use Rattle.std.proofs.lemmas.Bool.Decides.{nat_tests}
-use borrow.Author.Count.{below_more}
 use Rattle.sts_code.specs.Program.{Program, Routine, routine, no_routine}
 use Rattle.sts_code.specs.declared.instr.Instr.{Instr}
 use Rattle.sts_model.specs.declared.event.End.{End}
@@ -14,15 +13,13 @@ use Rattle.sts_model.specs.declared.record.Frame.{Frame}
 use Rattle.sts_model.specs.declared.record.Scope.{Scope}
 use Rattle.sts_model.specs.declared.record.Task.{Task}
 use Rattle.sts_model.specs.Living.{lives}
-use Rattle.sts_model.specs.World.{World, State, Running, no_task}
+use Rattle.sts_model.specs.World.{World, State, Running}
 use Rattle.laws_names.specs.Names.{Names, IsOneToOne, IsSameTask, IsSameScope, ReadsNothing, is_reading, named_task, named_frame, named_slot, named_entry, named_completion}
 use Rattle.laws_names.proofs.AlikeLemmas.{part_alive}
 use Rattle.laws_names.proofs.MadeLemmas.{AreSame, alike_made}
 use Rattle.laws_names.proofs.NameLemmas.{map_push}
-use Rattle.ends_plain.specs.declared.config.Asked.{Asked}
-use Rattle.ends_plain.specs.declared.config.Config.{Config}
 use Rattle.ends_plain.specs.declared.names.NameLists.{NameLists}
-use Rattle.ends_plain.specs.Configs.{HasNames, IsLike}
+use Rattle.ends_plain.specs.Configs.{HasNames}
 use Rattle.ends_plain.specs.Named.{name_in, names_of, IsNaming, AreNames, AllTasksSame, AllScopesSame, AreRenamed}
 
 -- ---- lists of names
@@ -81,9 +78,6 @@ none_there q (x ∷ xs) none (suc k) i e = none_there q xs (or_parts (q x) (list
 pub record QuietBelow (p : Program) (n : ℕ) : Type 0 where
   pub quiet : (j : ℕ) → j < n → list_any is_reading (routine p j).code ≡ false
 
-pub quiet_more : (p : Program) (n : ℕ) → QuietBelow p n → list_any is_reading (routine p n).code ≡ false → QuietBelow p (n + 1)
-quiet_more p n h here = record { quiet = below_more (λ j. list_any is_reading (routine p j).code ≡ false) n h.quiet here }
-
 pub reads_nothing : (p : Program) → QuietBelow p (length p.routines) → ReadsNothing p
 reads_nothing p h f i e = by (ltb f.function (length p.routines)) refl
   where
@@ -94,19 +88,6 @@ reads_nothing p h f i e = by (ltb f.function (length p.routines)) refl
         none_there is_reading (routine p f.function).code (ap (list_any is_reading) none) f.pc i e
 
 -- ---- tasks and states
-
--- tasks that don't live are the same if these parts are
-pub same_dead : (n : Names) (x y : Task) → lives x ≡ false → lives y ≡ false → option_map n.scopes x.scope ≡ y.scope → x.started ≡ y.started → x.outcome ≡ y.outcome → IsSameTask n x y
-same_dead n x y dead gone scope started outcome =
-    ap (λ (b : Bool). cond b y (record y { frame = no_task.frame; flag = false })) gone
-    ∙ parts
-    ∙ ap (λ (b : Bool). named_task n (cond b x (record x { frame = no_task.frame; flag = false }))) (sym dead)
-  where
-    parts : record y { frame = no_task.frame; flag = false } ≡ named_task n (record x { frame = no_task.frame; flag = false })
-    parts =
-        ap (λ (o : Option ℕ). record y { frame = no_task.frame; flag = false; scope = o }) (sym scope)
-        ∙ ap (λ (b : Bool). record y { frame = no_task.frame; flag = false; scope = option_map n.scopes x.scope; started = b }) (sym started)
-        ∙ ap (λ (o : Option End). record { frame = no_task.frame; started = x.started; flag = false; scope = option_map n.scopes x.scope; outcome = o }) (sym outcome)
 
 pub same_living : (n : Names) (x y : Task) → lives x ≡ true → lives y ≡ true → option_map n.scopes x.scope ≡ y.scope → x.started ≡ y.started → x.outcome ≡ y.outcome → x.flag ≡ y.flag → y.frame ≡ named_frame n x.frame → IsSameTask n x y
 same_living n x y alive living scope started outcome flag frame =
@@ -147,20 +128,4 @@ stacks_named f ours theirs here there ourselves others same = sym others ∙ ap 
 pub has_names : (p : Program) (x y : State) (w v : World) → x ≡ Running w → y ≡ Running v → AreRenamed w v → ReadsNothing p → HasNames p x y
 has_names p x y w v here there r quiet = record { quiet = quiet; names = r.names; alike = rw (here, there) r.alike }
 
-config_same : (c d : Config) → c.left ≡ d.left → c.position ≡ d.position → c ≡ d
-config_same c d left position = ap (λ (n : ℕ). record c { left = n }) left ∙ ap (λ (s : State). record { position = s; left = d.left }) position
-
-pub like_exact : (a : Asked) (c d : Config) → c.left ≡ d.left → c.position ≡ d.position → IsLike a c d
-like_exact a c d left position = inl (config_same c d left position)
-
-pub like_renamed : (a : Asked) (c d : Config) → a.exact ≡ false → c.left ≡ d.left → (c.position ≡ d.position) ⊎ HasNames a.setting.program c.position d.position → IsLike a c d
-like_renamed a c d loose left (inl same) = inl (config_same c d left same)
-like_renamed a c d loose left (inr h) = inr (record { exact = loose; left = left; position = h })
-
 -- ---- loops
-
-pub mapped_all : {X : Type 0} (f : X → X) (xs ys : List X) (i : ℕ) → length xs ≡ length ys → length xs ≤ i → take i ys ≡ map f (take i xs) → ys ≡ map f xs
-mapped_all f xs ys i long all h = sym (take_all i ys (omega (arith, long, all))) ∙ h ∙ ap (map f) (take_all i xs all)
-
-pub mapped_more : {X : Type 0} (f : X → X) (xs ys : List X) (i : ℕ) (d : X) → i < length xs → i < length ys → take i ys ≡ map f (take i xs) → f (get_or xs i d) ≡ get_or ys i d → take (i + 1) ys ≡ map f (take (i + 1) xs)
-mapped_more f xs ys i d here there h same = take_more ys i d there ∙ ap (λ l. l ++ get_or ys i d ∷ []) h ∙ ap (λ x. map f (take i xs) ++ x ∷ []) (sym same) ∙ sym (map_more f xs i d here)

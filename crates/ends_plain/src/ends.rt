@@ -17,7 +17,8 @@ use sts_plain::PlainState;
 
 /// Is the end among these?
 pub fn is_found(found: &[Found], end: PlainState) -> bool
-    ensures { result ≡ true → Contains (ends_of found.now) end }
+    ensures yes { result ≡ true → Contains (ends_of found.now) end }
+    ensures all { Contains (ends_of found.now) end → result ≡ true }
 {
     for one in found {
         if one.end == end {

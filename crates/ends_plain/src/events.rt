@@ -27,7 +27,7 @@ pub fn may_expire(may: bool, world: &World, s: u32) -> bool
 
 /// Which events are listed.
 #[derive(Clone, Copy)]
-pub enum Listing<'a> {
+pub(crate) enum Listing<'a> {
     /// The steps of tasks that can step.
     Steps(&'a Program),
     /// The interrupts of tasks that live, while one of this number is left.

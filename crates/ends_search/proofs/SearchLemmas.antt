@@ -11,7 +11,7 @@ use Rattle.std.proofs.Math.Seq.{get_or-append_seam}
 use Rattle.std.proofs.lemmas.List.Elements.{Contains-append_left}
 use Rattle.sts_model.specs.declared.event.Event.{Event}
 use Rattle.ends_search.specs.declared.origin.Origin.{Origin}
-use Rattle.ends_search.specs.Search.{IsTraced, IsSearched, ComesFrom, IsAmong, Grows, LeadsInto, Begins, Follows, IsClosed, origin_at, no_origin, CanAt, CanAll, IsWay}
+use Rattle.ends_search.specs.Search.{IsTraced, IsSearched, ComesFrom, IsAmong, Grows, LeadsInto, Follows, IsClosed, origin_at, no_origin, CanAt, CanAll, IsWay}
 use Rattle.laws_words.proofs.NumberLemmas.{split}
 
 -- ---- one state more
@@ -83,10 +83,6 @@ closed_more {S} next can alike old new n within closed grows leads k less e come
     by (inl h) = closed_on next can alike old new n (omega arith) closed grows k h e comes d
     by (inr h) = rw (h, same_older old new grows n within d) (leads e (λ c. rw (h, same_older old new grows n within c) at (comes c)) d)
 
-pub begins_more : {S : Type 0} (start : S) (old new : List S) → Begins start old → Grows old new → Begins start new
-begins_more start old new h grows = record {
-  some = rw grows.same (omega (arith, length-append old grows.more, h.some));
-  first = λ d. ap (λ xs. slice_index_or xs 0 d) grows.same ∙ get_or-append old grows.more d 0 h.some ∙ h.first d;
 }
 
 -- ---- ways back

@@ -7,7 +7,7 @@ use crate::around::Around;
 use crate::frames::next_place;
 use crate::missing::Missing;
 use crate::parts::{EndKind, is_of_kind, told, with_end, with_missed};
-use crate::places::Known;
+use crate::places::PlacedPart;
 use crate::stop::Stop;
 use std::alloc::Global;
 use sts_model::End;
@@ -24,7 +24,13 @@ fn value_in(end: End) -> i64
 
 impl<'a> Around<'a> {
     /// The state after a `case` that saw an end of this kind.
-    fn case_by(&self, alloc: Global, known: Known<'_>, kind: EndKind, to: u32) -> Result<(), Stop>
+    fn case_by(
+        &self,
+        alloc: Global,
+        known: PlacedPart<'_>,
+        kind: EndKind,
+        to: u32,
+    ) -> Result<(), Stop>
         requires { known.i < length known.seen.now.parts }
         ensures { OnOk result (led.KindLeads self.now.states.now self.now.own.now
             known.entry.place known.entry.seen.now known.entry.i known.entry.part.now
@@ -35,7 +41,7 @@ impl<'a> Around<'a> {
     }
 
     /// The state after a `case` of a part that had not ended.
-    fn case_missed(&self, alloc: Global, known: Known<'_>) -> Result<(), Stop>
+    fn case_missed(&self, alloc: Global, known: PlacedPart<'_>) -> Result<(), Stop>
         requires { known.i < length known.seen.now.parts }
         ensures { OnOk result (led.MissedLeads self.now.states.now self.now.own.now
             known.entry.place known.entry.seen.now known.entry.i known.entry.part.now) }
@@ -49,7 +55,13 @@ impl<'a> Around<'a> {
     }
 
     /// The states after a `case` that saw a success, or else a failure.
-    fn case_of(&self, alloc: Global, known: Known<'_>, succeeds: bool, to: u32) -> Result<(), Stop>
+    fn case_of(
+        &self,
+        alloc: Global,
+        known: PlacedPart<'_>,
+        succeeds: bool,
+        to: u32,
+    ) -> Result<(), Stop>
         requires { known.i < length known.seen.now.parts }
         ensures { OnOk result ((counting : Bool) → led.KindLeads self.now.states.now
             self.now.own.now known.entry.place known.entry.seen.now known.entry.i
@@ -70,7 +82,13 @@ impl<'a> Around<'a> {
 
     /// The states after a `case`, which goes to one place after a success, and to the other after a
     /// failure.
-    pub fn cases(&self, alloc: Global, known: Known<'_>, good: u32, bad: u32) -> Result<(), Stop>
+    pub fn cases(
+        &self,
+        alloc: Global,
+        known: PlacedPart<'_>,
+        good: u32,
+        bad: u32,
+    ) -> Result<(), Stop>
         requires { known.i < length known.seen.now.parts }
         ensures { OnOk result (led.CasesLead self.now.states.now self.now.own.now
             known.entry.place known.entry.seen.now known.entry.i known.entry.part.now good bad) }
@@ -82,7 +100,13 @@ impl<'a> Around<'a> {
     }
 
     /// The state after this end of a part was read, if it is of this kind.
-    fn read_by(&self, alloc: Global, known: Known<'_>, succeeds: bool, end: End) -> Result<(), Stop>
+    fn read_by(
+        &self,
+        alloc: Global,
+        known: PlacedPart<'_>,
+        succeeds: bool,
+        end: End,
+    ) -> Result<(), Stop>
         requires { known.i < length known.seen.now.parts }
         ensures { OnOk result (led.EndLeads self.now.states.now self.now.own.now
             known.entry.place known.entry.seen.now known.entry.i known.entry.part.now succeeds
@@ -96,7 +120,7 @@ impl<'a> Around<'a> {
     }
 
     /// The states after the value of a success, or the code of a failure, was read.
-    pub fn reads(&self, alloc: Global, known: Known<'_>, succeeds: bool) -> Result<(), Stop>
+    pub fn reads(&self, alloc: Global, known: PlacedPart<'_>, succeeds: bool) -> Result<(), Stop>
         requires { known.i < length known.seen.now.parts }
         ensures { OnOk result (led.ReadsLead self.now.states.now self.now.own.now
             known.entry.place known.entry.seen.now known.entry.i known.entry.part.now succeeds) }

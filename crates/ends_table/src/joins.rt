@@ -16,7 +16,7 @@ use crate::frames::answered;
 use crate::looks::with_knowledge;
 use crate::missing::Missing;
 use crate::parts::{after_all, has_open, with_end};
-use crate::places::{Known, number};
+use crate::places::{PlacedPart, number};
 use crate::stop::Stop;
 use ends_picks::joiners::{
     answer_by, answer_by_none, is_any, is_cancelled, is_heard, is_unseen, may_decide,
@@ -104,7 +104,13 @@ impl<'a> Around<'a> {
     }
 
     /// The state after one end of a part decided. The scope is as it is apart from that.
-    fn decided(&self, alloc: Global, known: Known<'_>, end: End, failed: u32) -> Result<(), Stop>
+    fn decided(
+        &self,
+        alloc: Global,
+        known: PlacedPart<'_>,
+        end: End,
+        failed: u32,
+    ) -> Result<(), Stop>
         requires { known.i < length known.seen.now.parts }
         ensures { OnOk result (led.DecidedLeads self.now.states.now self.now.own.now
             known.entry.place known.entry.seen.now failed known.entry.i known.entry.part.now end) }
@@ -119,7 +125,7 @@ impl<'a> Around<'a> {
     fn by_end(
         &self,
         alloc: Global,
-        known: Known<'_>,
+        known: PlacedPart<'_>,
         by: Deciding,
         end: End,
         failed: u32,
@@ -139,7 +145,7 @@ impl<'a> Around<'a> {
     fn by_ends_of(
         &self,
         alloc: Global,
-        known: Known<'_>,
+        known: PlacedPart<'_>,
         by: Deciding,
         failed: u32,
     ) -> Result<(), Stop>
@@ -176,7 +182,7 @@ impl<'a> Around<'a> {
         let count = number(parts.len())?;
         let mut missing = Missing::new(alloc);
         for i in 0..count {
-            let known = Known {
+            let known = PlacedPart {
                 place,
                 seen,
                 i,

@@ -8,7 +8,7 @@ ghost use Rattle.laws_calls.specs.declared.table.Part.{Part};
 ghost use Rattle.laws_calls.specs.declared.table.Way.{Way};
 ghost use Rattle.sts_repeats.specs.declared.runs.Run.{Run};
 
-use crate::places::{Known, with_part, with_parts};
+use crate::places::{PlacedPart, with_part, with_parts};
 use ends_picks::counts::sure_count;
 use ends_picks::joiners::{is_unseen, most};
 use laws_calls::joiners::{is_failure, is_success, is_trigger};
@@ -74,7 +74,7 @@ pub fn after_all(alloc: Global, seen: &Seen) -> Result<Seen, AllocError>
 }
 
 /// The scope after one part has ended by this end.
-pub fn with_end(alloc: Global, known: Known<'_>, end: End) -> Result<Seen, AllocError>
+pub fn with_end(alloc: Global, known: PlacedPart<'_>, end: End) -> Result<Seen, AllocError>
     requires { known.i < length known.seen.now.parts }
     ensures { IfOk result (λ x. x
         ≡ def.decided known.entry.seen.now known.entry.i end known.entry.part.now) }
@@ -171,7 +171,7 @@ fn noted(seen: Seen, succeeds: bool) -> Seen
 }
 
 /// The scope after its owner saw that a part has ended by an end of this kind.
-pub fn told(alloc: Global, known: Known<'_>, kind: EndKind) -> Result<Seen, AllocError>
+pub fn told(alloc: Global, known: PlacedPart<'_>, kind: EndKind) -> Result<Seen, AllocError>
     requires { known.i < length known.seen.now.parts }
     ensures { IfOk result (λ x. x ≡ def.told (led.noted kind.succeeds known.entry.seen.now)
         known.entry.i known.entry.part.now kind.counting (led.of_kind kind.succeeds)) }
@@ -203,7 +203,7 @@ fn missed(
 }
 
 /// The scope after its owner looked at a part that had not ended.
-pub fn with_missed(alloc: Global, known: Known<'_>) -> Result<Seen, AllocError>
+pub fn with_missed(alloc: Global, known: PlacedPart<'_>) -> Result<Seen, AllocError>
     requires { known.i < length known.seen.now.parts }
     ensures { IfOk result (λ x. x ≡ def.parts_with known.entry.seen.now known.entry.i
         (def.missed known.entry.seen.now.knowledge known.entry.seen.now.has_failure

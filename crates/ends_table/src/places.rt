@@ -22,7 +22,7 @@ pub struct Owned<'a> {
 
 /// A part of the open scope at a place, with its number.
 #[derive(Clone, Copy)]
-pub struct Known<'a> {
+pub struct PlacedPart<'a> {
     pub place: u32,
     pub seen: &'a Seen,
     pub i: u32,
@@ -90,13 +90,13 @@ pub fn owned(own: &Own, slot: u8) -> Result<Owned<'_>, Stop>
 }
 
 /// The subtask that a slot holds.
-pub fn known(own: &Own, handle: u8) -> Result<Known<'_>, Stop>
+pub fn known(own: &Own, handle: u8) -> Result<PlacedPart<'_>, Stop>
     ensures { IfOk result (λ k. def.Knows own.now handle k.place k.seen.now k.i k.part.now) }
 {
     match held_at(own, handle) {
         Held::Sub(place, i) => {
             let seen = scope_at(own, place)?;
-            Ok(Known {
+            Ok(PlacedPart {
                 place,
                 seen,
                 i,

@@ -1,6 +1,6 @@
 -- The numbers of tasks, scopes and bindings in the live views of an accepted program, and the room
 -- that is left, in words of the view alone (this project's own).
-use Rattle.std.specs.Prelude.{◌≡◌, ℕ, ◌<◌, ◌≤◌, List, true, Option, Some, None, is_some, count_by}
+use Rattle.std.specs.Prelude.{◌≡◌, ℕ, ◌≤◌, List, true, Option, Some, None, is_some, count_by}
 use Rattle.std.specs.Prelude.{sum_by}
 use Rattle.sts_code.specs.Program.{Program}
 use Rattle.sts_code.specs.declared.instr.Instr.{Instr}

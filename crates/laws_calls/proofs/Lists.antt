@@ -109,14 +109,6 @@ at_more {X} a xs n x e = by (n == length xs) refl
     by true d = let same : n ≡ length xs = grind (arith, nat_tests) in let less = at_less xs n x e in absurd (omega (arith, same, less))
     by false d = e
 
--- one less in front
-pub at_rest : {X : Type 0} (a : X) (xs : List X) (n : ℕ) (x : X) → at_place (a ∷ xs) n ≡ Some x → (n == length xs) ≡ false → at_place xs n ≡ Some x
-at_rest {X} a xs n x e other = by (n == length xs) other e
-  where
-    by : (b : Bool) → b ≡ false → cond b (Some a) (at_place xs n) ≡ Some x → at_place xs n ≡ Some x
-    by true d k = cc
-    by false d k = k
-
 pub all_place : {X Y : Type 0} (R : X → Y → Type 0) (xs : List X) (ys : List Y) (n : ℕ) (x : X) → AllTwo R xs ys → at_place xs n ≡ Some x → (y : Y) × ((at_place ys n ≡ Some y) × R x y)
 all_place R [] ys n x h e = cc
 all_place {X} {Y} R (a ∷ xs) (b ∷ ys) n x h e = by (n == length xs) (ap (λ k. n == k) (all_length R xs ys h.1)) e (λ k. all_place R xs ys n x h.1 k)

@@ -5,12 +5,11 @@ use Rattle.sts_code.specs.Program.{Program}
 use Rattle.sts_code.specs.declared.instr.Instr.{Instr}
 use Rattle.sts_model.specs.declared.event.Event.{Event}
 use Rattle.sts_model.specs.declared.event.Event.TheVariants as event
-use Rattle.sts_model.specs.declared.record.Slot.TheVariants.{Own, Lent, Sub}
 use Rattle.sts_model.specs.World.{World, Running, task_at, scope_at}
 use Rattle.sts_model.specs.Joining.{result_of}
 use Rattle.sts_model.specs.Living.{lives, ends, subtask_count}
 use Rattle.sts_model.specs.Standing.{stands_in, standing_tasks, standing_scopes}
-use Rattle.sts_model.specs.Misuse.{slot, misuse, IsFine}
+use Rattle.sts_model.specs.Misuse.{misuse, IsFine}
 use Rattle.sts_model.specs.Effect.{effect}
 use Rattle.sts_model.specs.Outside.{interrupt, expire}
 use Rattle.sts_model.specs.Waiting.{can_step}

@@ -40,8 +40,8 @@ named None = []
 named (Some path) = path.now ∷ []
 
 -- a command with these files, and no options
-abbrev pub plainly : Text → List Text → Said
-plainly name files = record {
+abbrev pub optionless : Text → List Text → Said
+optionless name files = record {
   name = name;
   files = files;
   view = None;
@@ -53,16 +53,16 @@ plainly name files = record {
 
 abbrev pub said : Asked → Said
 said (asked.View file trace view) =
-    record (plainly (codes "view") (file.now ∷ trace.now ∷ [])) { view = Some view }
+    record (optionless (codes "view") (file.now ∷ trace.now ∷ [])) { view = Some view }
 said (asked.Explain file trace form) =
-    record (plainly (codes "explain") (file.now ∷ named trace)) { form = Some form }
+    record (optionless (codes "explain") (file.now ∷ named trace)) { form = Some form }
 said (asked.Draw file trace draw) =
-    record (plainly (codes "draw") (file.now ∷ trace.now ∷ [])) { draw = Some draw }
+    record (optionless (codes "draw") (file.now ∷ trace.now ∷ [])) { draw = Some draw }
 said (asked.Tell file trace tell) =
-    record (plainly (codes "tell") (file.now ∷ trace.now ∷ [])) { tell = Some tell }
+    record (optionless (codes "tell") (file.now ∷ trace.now ∷ [])) { tell = Some tell }
 said (asked.Ends file ends) =
-    record (plainly (codes "ends") (file.now ∷ [])) { ends = Some (said_ends ends) }
-said (asked.Cases file) = plainly (codes "cases") (file.now ∷ [])
+    record (optionless (codes "ends") (file.now ∷ [])) { ends = Some (said_ends ends) }
+said (asked.Cases file) = optionless (codes "cases") (file.now ∷ [])
 
 abbrev pub is_set : Text → List Row → Bool
 is_set id rows = is_true (first_of id rows)

@@ -9,6 +9,7 @@ use Rattle.sts_code.specs.declared.checking.CodeError.{CodeError}
 use Rattle.sts_model.specs.declared.event.End.{End}
 use Rattle.sts_model.specs.declared.event.End.TheVariants.{Success, Failed}
 use Rattle.sts_model.specs.declared.event.Event.{Event}
+use Rattle.sts_model.specs.declared.event.Fault.{Fault}
 use Rattle.sts_model.specs.Run.{after, taken}
 use Rattle.sts_asm.specs.Fault.{code_error, kind_number}
 use Rattle.sts_asm.specs.Outline.{Outline, Sentence}
@@ -20,7 +21,6 @@ use Rattle.sts_rules.specs.Refusal.{IsAccepted, IsRefusal}
 use Rattle.sts_rules.specs.declared.budget.Budgets.{Budgets}
 use Rattle.sts_rules.specs.declared.typing.Cause.{Cause}
 use Rattle.sts_plain.specs.Seen.{shown}
-use Rattle.sts_plain.specs.declared.misstep.Misstep.{Misstep}
 use Rattle.sts_plain.specs.declared.misstep.PlainState.{PlainState}
 use Rattle.sts_plain.specs.declared.misstep.PlainState.TheVariants as plain
 use Rattle.sts_trace.specs.Reading.{trace_read}
@@ -131,21 +131,20 @@ ended (Failed c) steps = object_of (
     (codes "steps", count steps) ∷ [])
 
 -- a fault with its place, and the steps before it
-abbrev pub fault : Program → Misstep → ℕ → Data
-fault p m steps = object_of (
-    (codes "fault", string (fault_word m.kind)) ∷
-    (codes "function", string (routine p m.function).name) ∷
+abbrev pub fault : Program → Fault → ℕ → ℕ → ℕ → ℕ → Data
+fault p kind task f pc steps = object_of (
+    (codes "fault", string (fault_word kind)) ∷
+    (codes "function", string (routine p f).name) ∷
     (codes "outcome", string (codes "fault")) ∷
-    (codes "place", count m.pc) ∷
+    (codes "place", count pc) ∷
     (codes "steps", count steps) ∷
-    (codes "task", count m.task) ∷ [])
+    (codes "task", count task) ∷ [])
 
 -- the state of a run, and the steps that it took; a fault comes without its line
 abbrev pub outcome : Program → PlainState → ℕ → Data
 outcome p plain.Running steps = running steps
 outcome p (plain.Ended end) steps = ended end steps
-outcome p (plain.Fault kind task f pc) steps =
-    fault p (record { kind = kind; task = task; function = f; pc = pc }) steps
+outcome p (plain.Fault kind task f pc) steps = fault p kind task f pc steps
 
 -- the state of a run of the program of a text, and the steps that it took
 abbrev pub run : Program → List ℕ → PlainState → ℕ → Data

@@ -8,9 +8,9 @@ use crate::objects::{Made, Scalar, object_of, value_of, with_member};
 use crate::verdicts::line_of;
 use std::alloc::Global;
 use sts_code::{Program, name_of};
-use sts_model::End;
+use sts_model::{End, Fault};
 use sts_output::printed::fault_word;
-use sts_plain::{Misstep, PlainState};
+use sts_plain::PlainState;
 
 /// Returns the end of a run, and the steps that it took.
 ///
@@ -58,18 +58,26 @@ pub fn running(alloc: Global, steps: u64) -> Made
 }
 
 /// Returns a fault with its place, and the steps before it.
-fn fault(alloc: Global, program: &Program, fault: Misstep, steps: u64) -> Made
-    ensures { IfOk result (λ v. view v ≡ def.fault program.now fault steps) }
+fn fault(
+    alloc: Global,
+    program: &Program,
+    kind: Fault,
+    task: u32,
+    function: u32,
+    pc: u32,
+    steps: u64,
+) -> Made
+    ensures { IfOk result (λ v. view v ≡ def.fault program.now kind task function pc steps) }
 {
     object_of(
         alloc,
         &[
-            ("fault", Scalar::Text(fault_word(fault.kind))),
-            ("function", Scalar::Text(name_of(program, fault.function))),
+            ("fault", Scalar::Text(fault_word(kind))),
+            ("function", Scalar::Text(name_of(program, function))),
             ("outcome", Scalar::Text("fault")),
-            ("place", Scalar::Count(fault.pc as u64)),
+            ("place", Scalar::Count(pc as u64)),
             ("steps", Scalar::Count(steps)),
-            ("task", Scalar::Count(fault.task as u64)),
+            ("task", Scalar::Count(task as u64)),
         ],
     )
 }
@@ -90,15 +98,7 @@ pub fn outcome(alloc: Global, program: &Program, state: PlainState, steps: u64) 
             task,
             function,
             pc,
-        } => {
-            let at = Misstep {
-                kind,
-                task,
-                function,
-                pc,
-            };
-            fault(alloc, program, at, steps)
-        }
+        } => fault(alloc, program, kind, task, function, pc, steps),
     }
 }
 

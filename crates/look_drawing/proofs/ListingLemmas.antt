@@ -3,7 +3,6 @@ use Rattle.std.proofs.Common.{◌≡◌, ℕ, ◌+◌, ◌-◌, ◌<◌, List, [
 use Rattle.std.specs.Prelude.{nat_lt}
 use Rattle.std.specs.List.{All, flat_map, range_with_len}
 use Rattle.std.proofs.lemmas.Bool.Decides.{nat_tests}
-use Rattle.std.proofs.lemmas.List.{append-nil}
 use Rattle.std.proofs.lemmas.Bool.{not-false}
 use Rattle.sts_code.specs.Program.{Program}
 use Rattle.sts_model.specs.declared.record.Scope.{Scope}
@@ -73,9 +72,3 @@ kept_shown before w h =
 -- nothing follows in the first column
 pub follows-refl : (w : World) → Follows w w
 follows-refl w = record { tasks = omega arith; scopes = omega arith; resting = λ t born dead. refl; closed = λ s born is. is }
-
-none_born : (xs : List ℕ) (n : ℕ) → xs ++ range_with_len n (n - n) ≡ xs
-none_born xs n = let none : n - n ≡ 0 = omega arith in rw none (append-nil xs)
-
-pub shown_first : (w : World) → present w ≡ shown w w
-shown_first w = ap₂ (λ (tasks scopes : List ℕ). record { tasks = tasks; scopes = scopes }) (sym (none_born (present w).tasks (length w.tasks))) (sym (none_born (present w).scopes (length w.scopes)))

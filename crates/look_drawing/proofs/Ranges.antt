@@ -79,6 +79,3 @@ listed_below test b n less = All-append (λ (t : ℕ). t < n) (filter test (rang
 
 pub range-next : (a n : ℕ) → a < n → range_with_len a (n - a) ≡ a ∷ range_with_len (a + 1) (n - (a + 1))
 range-next a n less = let more : n - a ≡ suc (n - (a + 1)) = omega (arith, less) in ap (range_with_len a) more
-
-pub range-none : (a n : ℕ) → n ≤ a → range_with_len a (n - a) ≡ []
-range-none a n less = let none : n - a ≡ 0 = omega (arith, less) in ap (range_with_len a) none

@@ -1,15 +1,15 @@
 //! The parts of a picture: what the column of an event shows, and what is round the columns.
 #![tactic(auto)]
 
-pub mod brackets;
-pub mod change;
+mod brackets;
+mod change;
 pub mod column;
-pub mod frame;
-pub mod lanes;
+mod frame;
+mod lanes;
 pub mod legend;
 pub mod marks;
 mod numbers;
-pub mod place;
+mod place;
 pub mod present;
 mod style;
 pub mod window;

@@ -13,7 +13,7 @@ use crate::below::{
 };
 use crate::calls::{Called, say_below, say_calls};
 use crate::lines::{say_all, say_shares};
-use look_refusal::{Explanation, program_of};
+use look_refusal::program_of;
 use look_run::Told;
 use look_text::Said;
 use std::alloc::{AllocError, Global};
@@ -52,7 +52,7 @@ pub trait EndsForm {
             called.entry.calls.now.is_cut_off) };
 
     /// Returns the program of a text, or what is shown of its fault.
-    fn program_of(&self, alloc: Global, text: &[u8]) -> Result<Program, Stopped<Explanation>>
+    fn program_of(&self, alloc: Global, text: &[u8]) -> Result<Program, Stopped>
         ensures { Gives result (λ p. judged text.now ≡ Ok p)
             (IsFaultIn (shows self.now) text.now) };
 }
@@ -134,7 +134,7 @@ impl EndsForm for EndLines {
         Ok(out)
     }
 
-    fn program_of(&self, alloc: Global, text: &[u8]) -> Result<Program, Stopped<Explanation>> {
+    fn program_of(&self, alloc: Global, text: &[u8]) -> Result<Program, Stopped> {
         program_of(alloc, text)
     }
 }

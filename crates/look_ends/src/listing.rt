@@ -21,13 +21,12 @@ use look_end_lines::{Answer, EndLines, EndsForm, Sampled, Searched, found_at, ha
 use look_host::Progress;
 use look_names::Names;
 use look_options::{EndsOptions, Limits, Manner};
-use look_refusal::Explanation;
 use look_run::Told;
 use std::alloc::{AllocError, Global};
 use std::marker::Model;
 use sts_code::Program;
 use sts_model::Event;
-use sts_output::Stopped;
+use sts_output::{Output, Stopped};
 
 /// The status where an answer is not about all schedules, or an end that was asked for isn't there.
 pub(crate) const STATUS_PART: u8 = 5;
@@ -38,7 +37,7 @@ const LONGEST: usize = 100_000;
 /// What is printed, and the trace that is kept: that of the end whose number was asked for.
 #[derive(Drop)]
 pub struct Listing {
-    pub output: Explanation,
+    pub output: Output,
     pub trace: Vec<Event>,
 }
 
@@ -83,7 +82,7 @@ pub(crate) fn listing_of(
         → IfOk trace (λ v. v.items ≡ es) → IfOk result (λ l. l ≡ def.listing_of b status es) }
 {
     Ok(Listing {
-        output: Explanation {
+        output: Output {
             bytes: bytes?,
             status,
         },
@@ -244,7 +243,7 @@ fn of_program<F: EndsForm, P: Progress>(
 }
 
 /// An output with no trace.
-fn alone(alloc: Global, output: Explanation) -> Listing
+fn alone(alloc: Global, output: Output) -> Listing
     ensures { result ≡ def.alone output }
 {
     Listing {

@@ -1,13 +1,10 @@
 //! The ends of a text as lines of JSON.
 
-ghost use Rattle.std.specs.Prelude.{◌≡◌, ◌++◌, ◌+◌, ◌<◌, ◌^◌, IfOk, OnOk, Result, Err};
+ghost use Rattle.std.specs.Prelude.{◌≡◌, ◌++◌, ◌+◌, ◌<◌, ◌^◌, IfOk, OnOk};
 ghost use Rattle.std.specs.String.{string_bytes};
 ghost use Rattle.serde_json.specs.View.{view};
-ghost use Rattle.sts_code.specs.Program.{Program as AnyProgram};
-ghost use Rattle.sts_asm.specs.Fault.{FailsAt};
-ghost use Rattle.sts_asm.specs.declared.fault.AsmError.{AsmError};
 ghost use Rattle.look_views.specs.Named.{placed};
-ghost use Rattle.look_views.specs.Views.{faulty, line, text_line};
+ghost use Rattle.look_views.specs.Views.{line};
 ghost use Rattle.look_ends_json.specs.Ends as def;
 ghost use Rattle.look_ends_json.specs.Outcome.{missing};
 
@@ -17,10 +14,9 @@ use ends_plain::config::Found;
 use look_cases::{Made, Scalar, object_of, value_of, widened, with_member};
 use look_end_lines::{Bytes, Called, EndsForm, Sampled, Searched, Told, times_at};
 use look_names::Said;
-use look_refusal::Explanation;
 use look_views::{VERSION, faulty_text, line_at, placed, push_made};
-use std::alloc::{AllocError, Global};
-use sts_asm::{AsmError, assemble};
+use std::alloc::Global;
+use sts_asm::assemble;
 use sts_code::{Program, name_of};
 use sts_model::Fault;
 use sts_output::Stopped;
@@ -235,18 +231,6 @@ fn say_sample(alloc: Global, out: &mut String, sampled: Sampled<'_, '_>) -> Said
     push_made(alloc, out, sample(alloc, sampled))
 }
 
-/// The line of a fault of a text. Running out of memory is no fault of it.
-fn fault_shown(alloc: Global, error: AsmError) -> Result<Explanation, AllocError>
-    ensures { (read : Result AnyProgram AsmError) → FailsAt error error.kind read
-        → IfOk result (λ o. (read ≡ Err error) × (o ≡ faulty (text_line error))) }
-{
-    let output = faulty_text(alloc, error)?;
-    Ok(Explanation {
-        bytes: output.text.into_bytes(),
-        status: output.status,
-    })
-}
-
 /// Lines of JSON.
 #[derive(Drop)]
 pub struct JsonEnds;
@@ -274,10 +258,10 @@ impl EndsForm for JsonEnds {
         Ok(out.into_bytes())
     }
 
-    fn program_of(&self, alloc: Global, text: &[u8]) -> Result<Program, Stopped<Explanation>> {
+    fn program_of(&self, alloc: Global, text: &[u8]) -> Result<Program, Stopped> {
         match assemble(alloc, text) {
             Ok(program) => Ok(program),
-            Err(error) => Err(Stopped::Shown(fault_shown(alloc, error)?)),
+            Err(error) => Err(Stopped::Shown(faulty_text(alloc, error)?)),
         }
     }
 }

@@ -1,4 +1,4 @@
-//! What is asked for.
+//! Which story is written.
 
 use look_options::TellOptions;
 

@@ -13,7 +13,7 @@ ghost use Rattle.look_json.specs.Explained as def;
 use crate::lines::text_of;
 use look_cases::{Case, Made, answer};
 use look_lines::Said;
-use look_refusal::{Explanation, explanation_of, whole};
+use look_refusal::{explanation_of, whole};
 use look_views::{VERSION, push_line, push_made};
 use serde_json::{Value, json};
 use std::alloc::{AllocError, Global};
@@ -77,17 +77,14 @@ fn answered(alloc: Global, text: &[u8]) -> Made
 }
 
 /// These lines, with the status of an output.
-pub(crate) fn with_status(text: String, told: &Explanation) -> Output
+pub(crate) fn with_status(text: String, told: &Output) -> Output
     ensures { result ≡ record { bytes = string_bytes text; status = told.now.status } }
 {
-    Output {
-        text,
-        status: told.status,
-    }
+    Output::of(text, told.status)
 }
 
 /// The line of an answer, which has no floats, and the lines of an explanation.
-fn said_by(alloc: Global, answer: &Value, told: &Explanation) -> Result<String, AllocError>
+fn said_by(alloc: Global, answer: &Value, told: &Output) -> Result<String, AllocError>
     ensures { has_float (view answer.now) ≡ false → IfOk result (λ s. string_bytes s
         ≡ line (view answer.now) ++ def.said_lines (lines told.now.bytes)) }
 {
@@ -120,7 +117,7 @@ pub fn write_explained<W: Write>(alloc: Global, text: &[u8], out: &mut W) -> Sta
         × cli.Writes (W.contents out.old) (W.contents out.new) s o) }
 {
     match said_of(alloc, text) {
-        Ok(output) => written(out, output.text.as_bytes(), output.status),
+        Ok(output) => written(out, output.bytes.as_slice(), output.status),
         Err(_) => failed(TakeError::Memory, out),
     }
 }

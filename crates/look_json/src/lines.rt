@@ -8,12 +8,12 @@ ghost use Rattle.look_json.specs.Stories as def;
 
 use look_cases::Made;
 use look_lines::Said;
-use look_refusal::Explanation;
 use look_views::{VERSION, event_string, push_made};
 use serde_json::json;
 use std::alloc::{AllocError, Global};
 use std::str;
 use sts_model::Event;
+use sts_output::Output;
 use sts_text::{cut_at, cut_at_newline, digits_up_to};
 
 /// Bytes as a text. What `look` prints is one.
@@ -109,11 +109,7 @@ fn say_lines(alloc: Global, out: &mut String, events: &[Event], story: &[u8]) ->
 /// # Errors
 ///
 /// Memory ran out.
-pub(crate) fn said(
-    alloc: Global,
-    events: &[Event],
-    story: &Explanation,
-) -> Result<String, AllocError>
+pub(crate) fn said(alloc: Global, events: &[Event], story: &Output) -> Result<String, AllocError>
     ensures { IfOk result (λ s. string_bytes s ≡ def.story_lines events.now (lines story.now.bytes)) }
 {
     let mut out = String::new(alloc);

@@ -10,7 +10,7 @@ ghost use Rattle.look_json.specs.Stories as def;
 use crate::asked::StoryOf;
 use crate::explained::with_status;
 use crate::lines::said;
-use look_refusal::{Explanation, whole};
+use look_refusal::whole;
 use look_tell::tell;
 use look_views::{faulty_text, faulty_trace};
 use std::alloc::{AllocError, Global};
@@ -21,13 +21,13 @@ use sts_output::{Output, Status, TakeError, failed, written};
 use sts_trace::read_trace;
 
 /// What `tell` prints.
-fn story_of(alloc: Global, asked: StoryOf<'_>) -> Result<Explanation, AllocError>
+fn story_of(alloc: Global, asked: StoryOf<'_>) -> Result<Output, AllocError>
     ensures { IfOk result (λ o.
         IsStoryOf asked.entry.options asked.entry.text.now asked.entry.trace.now o) }
 {
     let mut bytes = Vec::new(alloc);
     match tell(alloc, asked.options, asked.text, asked.trace, &mut bytes) {
-        Ok(status) => Ok(Explanation { bytes, status }),
+        Ok(status) => Ok(Output { bytes, status }),
         Err(_) => Err(AllocError),
     }
 }
@@ -78,7 +78,7 @@ pub fn write_stories<W: Write>(alloc: Global, asked: StoryOf<'_>, out: &mut W) -
         × cli.Writes (W.contents out.old) (W.contents out.new) s o) }
 {
     match told(alloc, asked) {
-        Ok(output) => written(out, output.text.as_bytes(), output.status),
+        Ok(output) => written(out, output.bytes.as_slice(), output.status),
         Err(_) => failed(TakeError::Memory, out),
     }
 }

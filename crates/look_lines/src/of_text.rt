@@ -76,7 +76,7 @@ pub fn write_run<F: Form, W: Write>(
         × Writes (W.contents out.old) (W.contents out.new) s o) }
 {
     match shown(alloc, form, text, trace) {
-        Ok(output) => written(out, output.text.as_bytes(), output.status),
+        Ok(output) => written(out, output.bytes.as_slice(), output.status),
         Err(_) => failed(TakeError::Memory, out),
     }
 }

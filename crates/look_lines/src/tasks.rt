@@ -17,7 +17,7 @@ use sts_world::{Records, World};
 
 /// A world, and the program that it runs.
 #[derive(Clone, Copy)]
-struct Standing<'w> {
+struct Execution<'w> {
     program: &'w Program,
     world: &'w World,
 }
@@ -97,7 +97,7 @@ fn rest_words<N: Naming>(out: &mut String, naming: &N, world: &World, t: u32) ->
 }
 
 /// The state of a task: ready, what it waits for, or how it ended.
-fn state_words<N: Naming>(out: &mut String, naming: &N, at: Standing<'_>, t: u32) -> Said
+fn state_words<N: Naming>(out: &mut String, naming: &N, at: Execution<'_>, t: u32) -> Said
     requires { t < length at.world.now.tasks }
     ensures { OnOk result (string_bytes out.new ≡ string_bytes out.old
         ++ def.state_words (N.names naming.now) at.entry.program.now at.entry.world.now t) }
@@ -122,7 +122,7 @@ pub fn stand_words(out: &mut String, program: &Program, world: &World, t: u32) -
     ensures { OnOk result (string_bytes out.new
         ≡ string_bytes out.old ++ def.stand_words program.now world.now t) }
 {
-    state_words(out, &Plain, Standing { program, world }, t)
+    state_words(out, &Plain, Execution { program, world }, t)
 }
 
 /// The scope that a task is a subtask of, or `-` for the root.
@@ -160,7 +160,7 @@ fn task_place<N: Naming>(
 }
 
 /// The state of a task, and whether an interrupt is pending.
-fn task_stand<N: Naming>(out: &mut String, naming: &N, at: Standing<'_>, t: u32) -> Said
+fn task_stand<N: Naming>(out: &mut String, naming: &N, at: Execution<'_>, t: u32) -> Said
     requires { t < length at.world.now.tasks }
     ensures { OnOk result (string_bytes out.new ≡ string_bytes out.old
         ++ def.task_stand (N.names naming.now) at.entry.program.now at.entry.world.now t) }
@@ -169,7 +169,7 @@ fn task_stand<N: Naming>(out: &mut String, naming: &N, at: Standing<'_>, t: u32)
     ended_by(out, at.world.records().flag(t), " interrupted")
 }
 
-fn task_line<N: Naming>(out: &mut String, naming: &N, at: Standing<'_>, t: u32) -> Said
+fn task_line<N: Naming>(out: &mut String, naming: &N, at: Execution<'_>, t: u32) -> Said
     requires { t < length at.world.now.tasks }
     ensures { OnOk result (string_bytes out.new ≡ string_bytes out.old
         ++ def.task_line (N.names naming.now) at.entry.program.now at.entry.world.now t) }
@@ -279,7 +279,7 @@ fn frame_lines<N: Naming>(out: &mut String, naming: &N, records: &Records, t: u3
 fn task_block<N: Naming>(
     out: &mut String,
     naming: &N,
-    at: Standing<'_>,
+    at: Execution<'_>,
     wanted: ViewOptions,
     t: u32,
 ) -> Said
@@ -315,7 +315,7 @@ pub fn task_lines<N: Naming>(
         (N.names naming.now) program.now wanted world.now world.now.tasks 0) }
 {
     for t in 0..world.records().tasks_born() {
-        task_block(out, naming, Standing { program, world }, wanted, t as u32)?;
+        task_block(out, naming, Execution { program, world }, wanted, t as u32)?;
     }
     Ok(())
 }

@@ -30,7 +30,8 @@ fn run_lines<N: Naming>(out: &mut String, naming: &N, watch: &Watch<'_>) -> Said
     steps_line(out, watch.steps())
 }
 
-/// Appends the same without lines and names of a text.
+/// Appends the state, the steps, the tasks and the scopes that are wanted, with names that need no
+/// text of the program.
 ///
 /// # Errors
 ///

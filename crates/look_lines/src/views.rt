@@ -57,10 +57,7 @@ fn after_all<V: View>(alloc: Global, view: &V, run: Run<'_>) -> Result<Output, A
     let watch = after(alloc, run.program, run.events)?;
     let mut text = String::new(alloc);
     view.say_state(&mut text, run.events.len(), &watch)?;
-    Ok(Output {
-        text,
-        status: state_status(watch.state()),
-    })
+    Ok(Output::of(text, state_status(watch.state())))
 }
 
 /// Applies these events, in order, and appends each with the state after it.
@@ -92,10 +89,7 @@ fn after_each<V: View>(alloc: Global, view: &V, run: Run<'_>) -> Result<Output, 
     let mut text = String::new(alloc);
     view.say_state(&mut text, 0, &watch)?;
     say_events(alloc, &mut text, view, &mut watch, run.events)?;
-    Ok(Output {
-        text,
-        status: state_status(watch.state()),
-    })
+    Ok(Output::of(text, state_status(watch.state())))
 }
 
 /// Returns what is written after the last event, or before the first and after each. The status is

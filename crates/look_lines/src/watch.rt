@@ -7,7 +7,6 @@ ghost use Rattle.sts_model.specs.World as def;
 ghost use Rattle.sts_plain.specs.Seen.{is_fault, shown, state_of};
 ghost use Rattle.look_lines.specs.Watched.{after_event, watched};
 
-use crate::naming::Said;
 use std::alloc::{AllocError, Global};
 use std::marker::Model;
 use sts_code::Program;
@@ -116,12 +115,7 @@ impl<'p> Watch<'p> {
     {
         match self.misstep {
             None => self.plain.state(),
-            Some(m) => PlainState::Fault {
-                kind: m.kind,
-                task: m.task,
-                function: m.function,
-                pc: m.pc,
-            },
+            Some(misstep) => misstep.state(),
         }
     }
 

@@ -21,6 +21,3 @@ same_at f g xs ys k same =
 
 pub found_at : {A B C : Type 0} (f : A → Option C) (g : B → Option C) (xs : List A) (ys : List B) (k : ℕ) (x : A) → map f xs ≡ map g ys → slice_get xs k ≡ Some x → f x ≡ option_and_then g (slice_get ys k)
 found_at f g xs ys k x same at = sym (ap (option_and_then f) at) ∙ same_at f g xs ys k same
-
-pub missing_at : {A B C : Type 0} (f : A → Option C) (g : B → Option C) (xs : List A) (ys : List B) (k : ℕ) → map f xs ≡ map g ys → slice_get xs k ≡ None → None ≡ option_and_then g (slice_get ys k)
-missing_at f g xs ys k same at = sym (ap (option_and_then f) at) ∙ same_at f g xs ys k same

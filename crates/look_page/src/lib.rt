@@ -20,7 +20,7 @@ use crate::ending::{traced, wanted};
 use crate::printing::{Asked, print};
 use look_options::ViewOptions;
 use std::alloc::Global;
-use sts_output::{Mode, STATUS_OUTSIDE, TextMode};
+use sts_output::{Mode, STATUS_OUTSIDE};
 
 /// The output if memory ran out.
 const OUT_OF_MEMORY: &[u8] = b"error memory\n";
@@ -66,7 +66,7 @@ pub extern "C" fn sts_verify(alloc: Global, text: &[u8], out: &mut [u8], size: &
     ensures { Hands (IsOutputOf Mode.Verify text.now [])
         (record { status = result; size = size.new; before = out.old; after = out.new }) }
 {
-    shown(alloc, Asked::Mode(TextMode::Verify), text, &[], out, size)
+    shown(alloc, Asked::Verify, text, &[], out, size)
 }
 
 /// What `sts list` prints, handed over as by `sts_verify`.
@@ -75,7 +75,7 @@ pub extern "C" fn sts_list(alloc: Global, text: &[u8], out: &mut [u8], size: &mu
     ensures { Hands (IsOutputOf Mode.List text.now [])
         (record { status = result; size = size.new; before = out.old; after = out.new }) }
 {
-    shown(alloc, Asked::Mode(TextMode::List), text, &[], out, size)
+    shown(alloc, Asked::List, text, &[], out, size)
 }
 
 /// What `sts plain` prints, handed over as by `sts_verify`.
@@ -90,7 +90,7 @@ pub extern "C" fn sts_plain(
     ensures { Hands (IsOutputOf Mode.Plain text.now trace.now)
         (record { status = result; size = size.new; before = out.old; after = out.new }) }
 {
-    shown(alloc, Asked::Mode(TextMode::Plain), text, trace, out, size)
+    shown(alloc, Asked::Plain, text, trace, out, size)
 }
 
 /// What `look view` prints, with `--each` and `--full` by choice, but without lines and names of the

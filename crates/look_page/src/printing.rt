@@ -13,7 +13,7 @@ use look_places::write_named;
 use look_run::explain_run;
 use look_view::write_view;
 use std::alloc::Global;
-use sts_output::{Status, TextMode, play_text};
+use sts_output::{Status, list, plain, verify, write_shown};
 
 /// The events from the first to the last that a trace may have.
 const ALL: Window = Window {
@@ -24,7 +24,9 @@ const ALL: Window = Window {
 /// The request of a caller.
 #[derive(Clone, Copy)]
 pub(crate) enum Asked {
-    Mode(TextMode),
+    Verify,
+    List,
+    Plain,
     View(ViewOptions),
     /// The same with lines and names of the text.
     NamedView(ViewOptions),
@@ -52,7 +54,9 @@ pub(crate) fn print(
         × Writes (Some printed.old.items) (Some printed.new.items) s o) }
 {
     match asked {
-        Asked::Mode(mode) => play_text(alloc, mode, text, trace, printed),
+        Asked::Verify => write_shown(verify::verified(alloc, text), printed),
+        Asked::List => write_shown(list::listed(alloc, text), printed),
+        Asked::Plain => write_shown(plain::after_trace(alloc, text, trace), printed),
         Asked::View(wanted) => write_run(alloc, &wanted, text, trace, printed),
         Asked::NamedView(wanted) => write_view(alloc, wanted, text, trace, printed),
         Asked::Explanation => write_named(alloc, text, printed),

@@ -1,5 +1,5 @@
 -- A run as a picture: a lane for each task, a column for each event (this project's own).
-use Rattle.std.specs.Prelude.{ℕ, ◌+◌, Bool, false, List, ◌∷◌, [], ◌++◌, length, take, drop, codes, Option}
+use Rattle.std.specs.Prelude.{ℕ, ◌+◌, Bool, List, ◌∷◌, [], ◌++◌, length, take, drop, codes, Option}
 use Rattle.sts_code.specs.Program.{Program}
 use Rattle.sts_model.specs.declared.event.End.{End}
 use Rattle.sts_model.specs.declared.event.Event.{Event}

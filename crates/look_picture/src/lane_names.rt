@@ -9,7 +9,6 @@ use look_lines::{Said, under_words};
 use look_tell::Told;
 use std::alloc::Global;
 use std::fmt::Write;
-use sts_world::Records;
 
 /// The room for a function and its arguments to the left of the lanes.
 const CALL_ROOM: Room = Room {

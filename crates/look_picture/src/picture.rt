@@ -298,10 +298,7 @@ fn sheet_output(alloc: Global, sheet: Sheet<'_, '_, '_, '_>) -> Result<Output, A
 {
     let mut text = String::new(alloc);
     framed(alloc, &mut text, sheet)?;
-    Ok(Output {
-        text,
-        status: status_of(sheet.story),
-    })
+    Ok(Output::of(text, status_of(sheet.story)))
 }
 
 /// The picture of a run of these events, and the status of the machine's last state.

@@ -8,11 +8,11 @@ ghost use Rattle.sts_text.specs.Words.{lines};
 ghost use Rattle.look_places.specs.Named as def;
 
 use look_names::{Names, Said};
-use look_refusal::{Explanation, explanation_of, write_explained};
+use look_refusal::explanation_of;
 use look_text::say;
 use std::alloc::{AllocError, Global};
 use std::io::Write;
-use sts_output::{Status, Stopped};
+use sts_output::{Output, Status, Stopped, write_shown};
 use sts_text::{Words, cut_at_newline, digits_up_to};
 
 /// The status for a fault of a text.
@@ -129,20 +129,20 @@ fn with_names(alloc: Global, text: &[u8], told: &[u8]) -> Result<Vec<u8>, AllocE
 }
 
 /// An explanation with names; a fault of the text has none.
-fn named(alloc: Global, text: &[u8], told: &Explanation) -> Result<Explanation, AllocError>
+fn named(alloc: Global, text: &[u8], told: &Output) -> Result<Output, AllocError>
     ensures { IfOk result (λ o. o ≡ record {
       bytes = def.named_lines text.now (lines told.now.bytes);
       status = told.now.status;
     }) }
 {
     let bytes = with_names(alloc, text, told.bytes.as_slice())?;
-    Ok(Explanation {
+    Ok(Output {
         bytes,
         status: told.status,
     })
 }
 
-fn named_if(alloc: Global, text: &[u8], told: Explanation) -> Result<Explanation, AllocError>
+fn named_if(alloc: Global, text: &[u8], told: Output) -> Result<Output, AllocError>
     ensures { IfOk result (λ o. o ≡ def.named text.now told) }
 {
     if told.status == FAULTY {
@@ -152,7 +152,7 @@ fn named_if(alloc: Global, text: &[u8], told: Explanation) -> Result<Explanation
     }
 }
 
-fn named_of(alloc: Global, text: &[u8]) -> Result<Explanation, Stopped<Explanation>>
+fn named_of(alloc: Global, text: &[u8]) -> Result<Output, Stopped>
     ensures { Prints result (def.IsNamed text.now) }
 {
     let told = explanation_of(alloc, text)?;
@@ -171,5 +171,5 @@ pub fn write_named<W: Write>(alloc: Global, text: &[u8], out: &mut W) -> Status
     ensures { IfOk result (λ s. (o : cli.Output) × def.IsNamedExplanation text.now o
         × cli.Writes (W.contents out.old) (W.contents out.new) s o) }
 {
-    write_explained(named_of(alloc, text), out)
+    write_shown(named_of(alloc, text), out)
 }

@@ -18,13 +18,13 @@ use crate::faults::{Finding, Problem, fault_line};
 use crate::marks::Source;
 use look_accepted::all_notes;
 use look_names::Names;
-use look_refusal::{Explanation, explanation_of, whole, write_explained};
+use look_refusal::{explanation_of, whole};
 use look_text::fault_lines;
 use std::alloc::{AllocError, Global};
 use std::io::Write;
 use sts_asm::{AsmError, AsmKind, assemble};
 use sts_code::Program;
-use sts_output::{Refusal, Status, Stopped, judge};
+use sts_output::{Output, Refusal, Status, Stopped, judge, write_shown};
 
 /// The lines of a problem whose explanation is known.
 fn problem_lines(
@@ -65,11 +65,7 @@ fn fault_report(
 }
 
 /// The report of a fault of a text. Running out of memory is no fault of it.
-fn faulty(
-    alloc: Global,
-    source: &Source<'_, '_>,
-    error: AsmError,
-) -> Result<Explanation, AllocError>
+fn faulty(alloc: Global, source: &Source<'_, '_>, error: AsmError) -> Result<Output, AllocError>
     ensures { (read : Result AnyProgram AsmError) → FailsAt error error.kind read
         → IfOk result (λ o. (read ≡ Err error) × (o ≡ def.fault_report source.now error)) }
 {
@@ -77,7 +73,7 @@ fn faulty(
         return Err(AllocError);
     }
     let bytes = fault_report(alloc, source, error)?;
-    Ok(Explanation { bytes, status: 3 })
+    Ok(Output { bytes, status: 3 })
 }
 
 /// The lines of an explanation of a refusal.
@@ -85,7 +81,7 @@ fn refusal_lines(
     alloc: Global,
     source: &Source<'_, '_>,
     refusal: &Refusal,
-    told: &Explanation,
+    told: &Output,
 ) -> Result<Vec<u8>, AllocError>
     ensures { IfOk result (λ b. b.items ≡ def.reported source.now
         (line_of source.now refusal.now.function refusal.now.pc) (refusal_code refusal.now.cause)
@@ -102,11 +98,7 @@ fn refusal_lines(
 }
 
 /// The report of a refusal: the lines of its explanation, and the notes on two ways that meet.
-fn refused(
-    alloc: Global,
-    source: &Source<'_, '_>,
-    refusal: &Refusal,
-) -> Result<Explanation, AllocError>
+fn refused(alloc: Global, source: &Source<'_, '_>, refusal: &Refusal) -> Result<Output, AllocError>
     requires { IsRefusal refusal.now.program refusal.now.function refusal.now.pc
         refusal.now.cause }
     ensures { IfOk result (λ o. def.IsRefused source.now refusal.now.program o) }
@@ -115,29 +107,21 @@ fn refused(
     let told = whole(printed)?;
     let mut bytes = refusal_lines(alloc, source, refusal, &told)?;
     source.say_ways(alloc, &mut bytes, refusal)?;
-    Ok(Explanation { bytes, status: 4 })
+    Ok(Output { bytes, status: 4 })
 }
 
 /// The report on an accepted program.
-fn accepted(
-    alloc: Global,
-    source: &Source<'_, '_>,
-    program: &Program,
-) -> Result<Explanation, AllocError>
+fn accepted(alloc: Global, source: &Source<'_, '_>, program: &Program) -> Result<Output, AllocError>
     requires { IsAccepted program.now }
     ensures { IfOk result (λ o. def.IsVerdict source.now program.now o) }
 {
     let notes = all_notes(alloc, program)?;
     let mut bytes = Vec::new(alloc);
     source.say_rules(alloc, &mut bytes, program, notes.as_slice())?;
-    Ok(Explanation { bytes, status: 0 })
+    Ok(Output { bytes, status: 0 })
 }
 
-fn verdict(
-    alloc: Global,
-    source: &Source<'_, '_>,
-    program: Program,
-) -> Result<Explanation, AllocError>
+fn verdict(alloc: Global, source: &Source<'_, '_>, program: Program) -> Result<Output, AllocError>
     ensures { IfOk result (λ o. def.IsVerdict source.now program o) }
 {
     match judge(alloc, program)? {
@@ -146,7 +130,7 @@ fn verdict(
     }
 }
 
-fn reported(alloc: Global, source: &Source<'_, '_>) -> Result<Explanation, AllocError>
+fn reported(alloc: Global, source: &Source<'_, '_>) -> Result<Output, AllocError>
     ensures { IfOk result (λ o. def.Reports source.now (judged source.now.text) o) }
 {
     match assemble(alloc, source.text()) {
@@ -155,7 +139,7 @@ fn reported(alloc: Global, source: &Source<'_, '_>) -> Result<Explanation, Alloc
     }
 }
 
-fn report(alloc: Global, file: &str, text: &[u8]) -> Result<Explanation, Stopped<Explanation>>
+fn report(alloc: Global, file: &str, text: &[u8]) -> Result<Output, Stopped>
     ensures { Prints result (def.Reports (record { file = file.now; text = text.now })
         (judged text.now)) }
 {
@@ -176,5 +160,5 @@ pub fn write_places<W: Write>(alloc: Global, file: &str, text: &[u8], out: &mut 
         × def.IsReport (record { file = file.now; text = text.now }) o
         × cli.Writes (W.contents out.old) (W.contents out.new) s o) }
 {
-    write_explained(report(alloc, file, text), out)
+    write_shown(report(alloc, file, text), out)
 }

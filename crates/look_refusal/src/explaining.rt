@@ -10,7 +10,7 @@ ghost use Rattle.sts_output.specs.Stops.{Prints};
 ghost use Rattle.look_refusal.specs.Output as def;
 
 use crate::differences::difference_lines;
-use crate::explanation::{Explanation, Made, outline_of, program_of, write_explained};
+use crate::explanation::{Made, outline_of, program_of};
 use crate::heavy::heaviest;
 use crate::lines::refused_lines;
 use crate::remedy::remedy_for;
@@ -23,7 +23,7 @@ use std::io::Write;
 use sts_asm::Outline;
 use sts_budget::Resource;
 use sts_code::Program;
-use sts_output::{Refusal, Status, Stopped, judge};
+use sts_output::{Output, Refusal, Status, Stopped, judge, write_shown};
 use sts_rules::Cause;
 
 /// A program, and the outline of the text that spells it.
@@ -105,7 +105,7 @@ impl Told<'_, '_> {
             self.program,
             notes.as_slice(),
         )?;
-        Ok(Explanation { bytes, status: 0 })
+        Ok(Output { bytes, status: 0 })
     }
 }
 
@@ -125,7 +125,7 @@ fn refused(alloc: Global, outline: &Outline<'_>, refusal: &Refusal) -> Made
         alloc, &mut bytes, program, sentence, function, cause, remedy,
     )?;
     Told { outline, program }.say_detail(alloc, &mut bytes, function, pc, cause)?;
-    Ok(Explanation { bytes, status: 4 })
+    Ok(Output { bytes, status: 4 })
 }
 
 fn verdict(alloc: Global, outline: &Outline<'_>, program: Program) -> Made
@@ -141,11 +141,7 @@ fn verdict(alloc: Global, outline: &Outline<'_>, program: Program) -> Made
     }
 }
 
-fn explained_by(
-    alloc: Global,
-    outline: &Outline<'_>,
-    text: &[u8],
-) -> Result<Explanation, Stopped<Explanation>>
+fn explained_by(alloc: Global, outline: &Outline<'_>, text: &[u8]) -> Result<Output, Stopped>
     requires { outlined text.now ≡ Ok outline.now }
     ensures { Prints result (def.Explains (judged text.now) text.now) }
 {
@@ -154,7 +150,7 @@ fn explained_by(
     Ok(output)
 }
 
-fn explained(alloc: Global, text: &[u8]) -> Result<Explanation, Stopped<Explanation>>
+fn explained(alloc: Global, text: &[u8]) -> Result<Output, Stopped>
     ensures { Prints result (def.Explains (judged text.now) text.now) }
 {
     let outline = outline_of(alloc, text)?;
@@ -173,7 +169,7 @@ pub fn explain<W: Write>(alloc: Global, text: &[u8], out: &mut W) -> Status
     ensures { IfOk result (λ s. (o : cli.Output) × def.IsExplanation text.now o
         × cli.Writes (W.contents out.old) (W.contents out.new) s o) }
 {
-    write_explained(explained(alloc, text), out)
+    write_shown(explained(alloc, text), out)
 }
 
 /// Returns what `explain` prints of a text; it may be that memory ran out.
@@ -186,7 +182,7 @@ pub fn explanation_of(alloc: Global, text: &[u8]) -> Made
 {
     let mut bytes = Vec::new(alloc);
     match explain(alloc, text, &mut bytes) {
-        Ok(status) => Ok(Explanation { bytes, status }),
+        Ok(status) => Ok(Output { bytes, status }),
         Err(_) => Err(AllocError),
     }
 }

@@ -26,6 +26,6 @@ pub mod ways;
 mod weights;
 
 pub use explaining::{explain, explanation_of};
-pub use explanation::{Explanation, Made, outline_of, program_of, whole, write_explained};
+pub use explanation::{Made, outline_of, program_of, whole};
 pub use remedy::{Remedy, label_remedy};
 pub use sentences::remedy_sentence;

@@ -95,12 +95,12 @@ fn say_others(alloc: Global, out: &mut Vec<u8>, count: usize) -> Said
 
 /// A function, and the outline of its text.
 #[derive(Clone, Copy)]
-struct Listing<'a, 't> {
+struct OutlinedFunction<'a, 't> {
     outline: &'a Outline<'t>,
     function: u32,
 }
 
-impl Listing<'_, '_> {
+impl OutlinedFunction<'_, '_> {
     /// The line of a place that is shown.
     fn say_share(self, alloc: Global, out: &mut Vec<u8>, ranked: Ranked<'_>, at: usize) -> Said
         requires last { IsLastShown ranked.shares.now ranked.last }
@@ -163,14 +163,14 @@ pub(crate) fn weight_lines(
     ensures { OnOk result (out.new.items
         ≡ out.old.items ++ def.weight_lines outline.now function resource heavy.now) }
 {
-    let listing = Listing { outline, function };
+    let outlined = OutlinedFunction { outline, function };
     let shares = heavy.shares.as_slice();
     let ranked = Ranked {
         shares,
         last: last_shown(shares),
     };
-    listing.say_weight(alloc, out, resource, heavy)?;
-    listing.say_shares(alloc, out, ranked)?;
+    outlined.say_weight(alloc, out, resource, heavy)?;
+    outlined.say_shares(alloc, out, ranked)?;
     say_others(alloc, out, ranked.others())?;
     say(out, own_line(resource))
 }

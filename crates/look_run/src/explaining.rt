@@ -11,11 +11,11 @@ use crate::states::Told;
 use crate::traces::trace_fault;
 use look_lines::{Watch, after};
 use look_names::Names;
-use look_refusal::{Explanation, Made, program_of, write_explained};
+use look_refusal::{Made, program_of};
 use std::alloc::Global;
 use std::io::Write;
 use sts_code::Program;
-use sts_output::{Status, Stopped, state_status};
+use sts_output::{Output, Status, Stopped, state_status, write_shown};
 use sts_trace::read_trace;
 
 /// The state of a watched machine, and each task that lives.
@@ -30,7 +30,7 @@ fn of_watch(alloc: Global, names: &Names<'_>, watch: &Watch<'_>) -> Made
     let mut bytes = Vec::new(alloc);
     told.say_outcome(alloc, &mut bytes, watch.world().records(), state)?;
     told.say_living(alloc, &mut bytes, watch.world())?;
-    Ok(Explanation {
+    Ok(Output {
         bytes,
         status: state_status(state),
     })
@@ -50,11 +50,7 @@ fn of_trace(alloc: Global, names: &Names<'_>, program: &Program, trace: &[u8]) -
     }
 }
 
-fn explanation(
-    alloc: Global,
-    text: &[u8],
-    trace: &[u8],
-) -> Result<Explanation, Stopped<Explanation>>
+fn explanation(alloc: Global, text: &[u8], trace: &[u8]) -> Result<Output, Stopped>
     ensures { Prints result (def.Explains (judged text.now) text.now trace.now) }
 {
     let program = program_of(alloc, text)?;
@@ -77,5 +73,5 @@ pub fn explain_run<W: Write>(alloc: Global, text: &[u8], trace: &[u8], out: &mut
     ensures { IfOk result (λ s. (o : cli.Output) × def.IsRunExplanation text.now trace.now o
         × cli.Writes (W.contents out.old) (W.contents out.new) s o) }
 {
-    write_explained(explanation(alloc, text, trace), out)
+    write_shown(explanation(alloc, text, trace), out)
 }

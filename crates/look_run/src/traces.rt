@@ -9,10 +9,10 @@ ghost use Rattle.look_run.specs.Output.{trace_fault_output};
 
 use crate::sentences::trace_sentence;
 use look_names::Said;
-use look_refusal::{Explanation, Made};
+use look_refusal::Made;
 use look_text::say;
 use std::alloc::{AllocError, Global};
-use sts_output::{line_at, say_shown};
+use sts_output::{Output, line_at, say_shown};
 use sts_trace::TraceError;
 
 /// The number of lines of a text. The last line comes after the last newline.
@@ -82,5 +82,5 @@ pub fn trace_fault(alloc: Global, text: &[u8], error: TraceError) -> Made
     }
     let mut bytes = Vec::new(alloc);
     say_fault(alloc, &mut bytes, text, error)?;
-    Ok(Explanation { bytes, status: 3 })
+    Ok(Output { bytes, status: 3 })
 }

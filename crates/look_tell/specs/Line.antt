@@ -9,6 +9,7 @@ use Rattle.sts_model.specs.declared.event.Stand.TheVariants.{Free, AtJoin, AtClo
 use Rattle.sts_model.specs.Living.{lives}
 use Rattle.sts_model.specs.Waiting.{can_step, stand_at}
 use Rattle.sts_model.specs.World.{scope_at, task_at}
+use Rattle.sts_output.specs.Printed.{rest_words}
 use Rattle.sts_plain.specs.Seen.{shown}
 use Rattle.sts_plain.specs.declared.misstep.PlainState.{PlainState}
 use Rattle.sts_plain.specs.declared.misstep.PlainState.TheVariants as plain
@@ -103,18 +104,14 @@ expiry_line text n before after scope =
 
 -- ---- an event that doesn't count
 
--- why a task can't step, or why it can't be interrupted
-abbrev pub rest_words : Story → ℕ → List ℕ
-rest_words s t =
-    if lives (task_at (world_of s) t) then codes " waits"
-    else (if (task_at (world_of s) t).started then codes " has ended" else codes " never starts")
-
 abbrev pub has_task : Story → ℕ → Bool
 has_task s t = nat_lt t (length (world_of s).tasks)
 
 abbrev pub idle_task : List ℕ → Story → ℕ → List ℕ
 idle_task text s t =
-    if has_task s t then task_words text s t ++ rest_words s t
+    if has_task s t
+    then task_words text s t
+    ++ rest_words (lives (task_at (world_of s) t)) (task_at (world_of s) t).started
     else codes "there is no task " ++ decimal t
 
 abbrev pub has_scope : Story → ℕ → Bool

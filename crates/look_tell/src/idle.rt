@@ -13,14 +13,6 @@ use sts_model::Event;
 use sts_output::printed;
 use sts_plain::PlainState;
 
-/// Why a task can't step, or why it can't be interrupted.
-fn rest_words(story: &Story<'_>, t: u32) -> &'static str
-    ensures { result.now ≡ def.rest_words story.now t }
-{
-    let records = story.records();
-    printed::rest_words(records.lives(t), records.has_started(t))
-}
-
 fn has_task(story: &Story<'_>, t: u32) -> bool
     ensures { result ≡ def.has_task story.now t }
 {
@@ -51,7 +43,11 @@ impl Told<'_, '_, '_, '_> {
     {
         if has_task(self.story, t) {
             self.say_task(alloc, out, t)?;
-            say(out, rest_words(self.story, t))
+            let records = self.story.records();
+            say(
+                out,
+                printed::rest_words(records.lives(t), records.has_started(t)),
+            )
         } else {
             say_numbered(alloc, out, "there is no task ", t)
         }

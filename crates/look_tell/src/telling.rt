@@ -12,13 +12,13 @@ use crate::story::Story;
 use crate::words::Told;
 use look_names::Names;
 use look_options::TellOptions;
-use look_refusal::{Explanation, Made, program_of, write_explained};
+use look_refusal::{Made, program_of};
 use look_run::trace_fault;
 use std::alloc::Global;
 use std::io::Write;
 use sts_code::Program;
 use sts_model::Event;
-use sts_output::{Status, Stopped, state_status};
+use sts_output::{Output, Status, Stopped, state_status, write_shown};
 use sts_trace::read_trace;
 
 fn status_of(story: &Story<'_>) -> u8
@@ -63,7 +63,7 @@ impl Asked<'_, '_> {
         say_events(alloc, &mut bytes, names, self.options, &mut story, told)?;
         let story = &story;
         Told { names, story }.say_strict_ends(alloc, &mut bytes, self.options.strict)?;
-        Ok(Explanation {
+        Ok(Output {
             bytes,
             status: status_of(story),
         })
@@ -106,7 +106,7 @@ fn story_of(
     options: TellOptions,
     text: &[u8],
     trace: &[u8],
-) -> Result<Explanation, Stopped<Explanation>>
+) -> Result<Output, Stopped>
     ensures { Prints result (def.Tells options (judged text.now) text.now trace.now) }
 {
     let program = program_of(alloc, text)?;
@@ -133,5 +133,5 @@ pub fn tell<W: Write>(
     ensures { IfOk result (λ s. (o : cli.Output) × def.IsStoryOf options text.now trace.now o
         × cli.Writes (W.contents out.old) (W.contents out.new) s o) }
 {
-    write_explained(story_of(alloc, options, text, trace), out)
+    write_shown(story_of(alloc, options, text, trace), out)
 }

@@ -29,6 +29,8 @@ begins_over [] b h k = absurd (omega (arith, h))
 begins_over (x ∷ xs) [] h k = refl
 begins_over (x ∷ xs) (y ∷ ys) h k = absurd (omega (arith, k))
 
+pub ruleset same_first = (one_apart_on, begins_on)
+
 pub ruleset one_apart_left = (one_apart_on, one_apart_over)
 
 pub ruleset begins_left = (begins_on, begins_over)

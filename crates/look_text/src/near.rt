@@ -1,6 +1,7 @@
 //! The known word that a wrong one is near to.
 
-ghost use Rattle.std.specs.Prelude.{◌≡◌, ◌<◌, ◌==◌, length, option_map, map, find, slice_index, false};
+ghost use Rattle.std.specs.Prelude.{◌≡◌, ◌<◌, ◌==◌, length, option_map, map, find};
+ghost use Rattle.std.specs.Prelude.{slice_index, false};
 ghost use Rattle.std.specs.Option.{option_or};
 ghost use Rattle.look_text.specs.Near as def;
 
@@ -79,7 +80,7 @@ fn is_one_off(word: &[u8], known: &[u8]) -> bool
 }
 
 /// The parts of two words after what both begin with.
-#[tactic(auto, using(crate::proofs::NearLemmas::one_apart_on, crate::proofs::NearLemmas::begins_on))]
+#[tactic(auto, using(crate::proofs::NearLemmas::same_first))]
 fn after_same<'a>(word: &'a [u8], known: &'a [u8]) -> (&'a [u8], &'a [u8])
     ensures apart { def.is_one_apart result.0.now result.1.now
         ≡ def.is_one_apart word.now known.now }

@@ -24,16 +24,15 @@ with_lists scopes tasks ms =
 -- and with all tasks and scopes
 abbrev pub with_whole : List ℕ → Bool → Watched → Members → Members
 with_whole text full m ms =
-    put (codes "tasks") (array (items_of (tasks text m.program full m.last m.last.tasks 0)))
-    (put (codes "scopes") (array (items_of (scopes text full m.last m.last.scopes 0)))
-    (with_run text m ms))
+    with_lists (items_of (scopes text full m.last m.last.scopes 0))
+    (items_of (tasks text m.program full m.last m.last.tasks 0)) (with_run text m ms)
 
 -- or with only the tasks that live and the scopes that are open
 abbrev pub with_living : List ℕ → Bool → Watched → Members → Members
 with_living text full m ms =
-    put (codes "tasks") (array (items_of (living_tasks text m.program full m.last m.last.tasks 0)))
-    (put (codes "scopes") (array (items_of (open_scopes text full m.last m.last.scopes 0)))
-    (with_run text m (put (codes "not_shown") (not_shown m.last) ms)))
+    with_lists (items_of (open_scopes text full m.last m.last.scopes 0))
+    (items_of (living_tasks text m.program full m.last m.last.tasks 0))
+    (with_run text m (put (codes "not_shown") (not_shown m.last) ms))
 
 -- with the tasks and scopes that are wanted
 abbrev pub with_stand : List ℕ → ViewOptions → Watched → Members → Members

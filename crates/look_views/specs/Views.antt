@@ -45,8 +45,7 @@ abbrev pub run : List ℕ → Program → PlainState → ℕ → Data
 run text p plain.Running steps = running steps
 run text p (plain.Ended end) steps = named_end text end steps
 run text p (plain.Fault kind task f pc) steps =
-    placed text f pc
-    (fault p (record { kind = kind; task = task; function = f; pc = pc }) steps)
+    placed text f pc (fault p kind task f pc steps)
 
 -- the state of a machine; after a fault its tasks and scopes are shown as before it
 abbrev pub stand_members : List ℕ → Bool → Watched → List (List ℕ × Data)

@@ -33,10 +33,7 @@ fn faulty(alloc: Global, value: &Value) -> Result<Output, AllocError>
 {
     let mut text = String::new(alloc);
     push_line(alloc, &mut text, value)?;
-    Ok(Output {
-        text,
-        status: FAULTY,
-    })
+    Ok(Output::of(text, FAULTY))
 }
 
 /// Returns a fault with the version of the lines.

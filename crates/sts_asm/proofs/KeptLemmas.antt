@@ -3,12 +3,12 @@ use Rattle.std.proofs.Common.{◌≡◌, ℕ, zero, suc, ◌+◌, get_or, ◌<�
 use Rattle.std.proofs.Common.{List, [], ◌∷◌, ◌++◌, length, take, drop, refl, sym, ◌∙◌, ap, arith}
 use Rattle.std.specs.Prelude.{Some, None, Option, Result, Ok, Err, if◌then◌else◌, map, slice_set}
 use Rattle.std.proofs.lemmas.List.Folds.{list_all_at}
-use Rattle.std.proofs.lemmas.List.{append-nil, append_assoc, drop_all, take_all, take-append-drop}
+use Rattle.std.proofs.lemmas.List.{append-nil, append_assoc, drop_all, take_all}
 use Rattle.sts_code.specs.declared.instr.Instr.{Instr}
 use Rattle.sts_asm.specs.declared.fault.AsmKind.{AsmKind}
 use Rattle.sts_asm.specs.declared.fault.AsmKind.TheVariants.{UnknownWord}
 use Rattle.sts_asm.specs.declared.fault.AsmError.{AsmError}
-use Rattle.sts_asm.specs.Fault.{◌>>=◌, at_line, FailsAt}
+use Rattle.sts_asm.specs.Fault.{◌>>=◌, at_line}
 use Rattle.sts_asm.specs.Marks.{Mark, Names}
 use Rattle.sts_asm.specs.Line.{has_names, instr_of}
 use Rattle.sts_asm.specs.Outline.{Sentence, Draft, AreUnnamed}
@@ -19,7 +19,7 @@ use Rattle.sts_asm.specs.Kept.{are_naming, without_names, filled}
 use Rattle.sts_asm.proofs.EachLemmas.{with_front, each_later}
 use Rattle.sts_asm.proofs.InPlaceLemmas.{moved, next_of}
 use Rattle.sts_asm.proofs.NamelessLemmas.{bool_cases, nameless, named_again, later_read}
-use Rattle.sts_asm.proofs.TextLemmas.{fails_on, ok_bind, err_bind}
+use Rattle.sts_asm.proofs.TextLemmas.{ok_bind}
 
 -- ---- the lines that are read again
 
@@ -101,33 +101,12 @@ filled_less read again next code after at c whole room is e front more h =
     place_next read (drop next again) code at c room is ∙ filled_skip read (drop next again) c (drop (at + 1) code) e in
     rw (front, more) (moved (take at code) c rest ∙ sym (ap (with_front (take at code)) here) ∙ h)
 
-fault_here : (read : Sentence → Result Instr AsmError) (again : List Sentence) (next : ℕ) (line : Sentence) (code : List Instr) (at : ℕ) (c : Instr) (whole : Result (List Instr) AsmError) (f : AsmError) → drop next again ≡ line ∷ drop (next + 1) again → at < length code → c ≡ get_or code at c → has_names c ≡ true → with_front (take at code) (filled read (drop next again) (drop at code)) ≡ whole → read line ≡ Err f → whole ≡ Err f
-fault_here read again next line code at c whole f l room is e h said =
-    let rest : Result (List Instr) AsmError = filled read (drop (next + 1) again) (drop (at + 1) code) in
-    let here : filled read (drop next again) (drop at code) ≡ Err f =
-    place_next read (drop next again) code at c room is ∙ ap (λ (ls : List Sentence). filled read ls (c ∷ drop (at + 1) code)) l
-    ∙ filled_take read line (drop (next + 1) again) c (drop (at + 1) code) e ∙ err_bind (read line) (λ (j : Instr). rest >>= λ (is : List Instr). Ok (j ∷ is)) f said in
-    sym h ∙ ap (with_front (take at code)) here
-
--- the fault of a line that is read again is the first
-pub filled_fails : (read : Sentence → Result Instr AsmError) (again : List Sentence) (next : ℕ) (line : Sentence) (code : List Instr) (at : ℕ) (c : Instr) (whole : Result (List Instr) AsmError) (f : AsmError) → drop next again ≡ line ∷ drop (next + 1) again → at < length code → c ≡ get_or code at c → has_names c ≡ true → with_front (take at code) (filled read (drop next again) (drop at code)) ≡ whole → FailsAt f f.kind (read line) → FailsAt f f.kind whole
-filled_fails read again next line code at c whole f l room is e h fails =
-    fails_on f.kind f (read line) whole (fault_here read again next line code at c whole f l room is e h) fails
-
 -- all places are filled
 pub filled_done : (read : Sentence → Result Instr AsmError) (again : List Sentence) (code : List Instr) (at : ℕ) (whole : Result (List Instr) AsmError) → length code ≤ at → with_front (take at code) (filled read again (drop at code)) ≡ whole → whole ≡ Ok code
 filled_done read again code at whole end h =
     let none : filled read again (drop at code) ≡ Ok [] = rw (drop_all at code end) (filled_end read again) in
     let all : with_front (take at code) (Ok []) ≡ Ok code = rw (append-nil (take at code), take_all at code end) refl in
     sym h ∙ ap (with_front (take at code)) none ∙ all
-
--- no line is left to be read again
-pub filled_none : (read : Sentence → Result Instr AsmError) (again : List Sentence) (next : ℕ) (code : List Instr) (at : ℕ) (whole : Result (List Instr) AsmError) → next ≡ length again → with_front (take at code) (filled read (drop next again) (drop at code)) ≡ whole → whole ≡ Ok code
-filled_none read again next code at whole end h =
-    let none : drop next again ≡ [] = drop_all next again (omega arith) in
-    let rest : filled read (drop next again) (drop at code) ≡ Ok (drop at code) = rw none refl in
-    let all : with_front (take at code) (Ok (drop at code)) ≡ Ok code = rw (take-append-drop at code) refl in
-    sym h ∙ ap (with_front (take at code)) rest ∙ all
 
 -- ---- the parts that name nothing
 

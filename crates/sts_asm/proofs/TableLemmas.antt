@@ -44,9 +44,6 @@ use Rattle.sts_asm.specs.Table.{IsWord, IsJoiner, IsTimed, ReadByTable}
 
 -- ---- from the table to what is read
 
-is_dash : List ℕ → Bool
-is_dash u = bytes_eq u (codes "-")
-
 pub same : (u v : List ℕ) → bytes_eq u v ≡ true → u ≡ v
 same u v e = (bytes_eq-Decides u v).0 e
 

@@ -96,7 +96,7 @@ module _ (s : Source) (k : Resource) (p : Pass) (is : IsPassOf s k p) where
   -- what holds of the function and the resource holds of the pass, and the other way round
   pub to_pass : (P : Resource → List Budgets → List Instr → Layout → ℕ → Type 0) → P k s.earlier.now s.code.now s.layout.now (most k) → P p.resource p.earlier.now p.code.now p.layout.now p.most
   to_pass P x =
-      let l = subst (λ y. P k s.earlier.now s.code.now s.layout.now y) (sym is.limit) x in
+      let l = subst (λ y. P k s.earlier.now s.code.now s.layout.now y) (sym is.most) x in
       let c = subst (λ y. P k s.earlier.now s.code.now y p.most) (sym is.layout) l in
       let e = subst (λ y. P k s.earlier.now y p.layout.now p.most) (sym is.code) c in
       let r = subst (λ y. P k y p.code.now p.layout.now p.most) (sym is.earlier) e in
@@ -108,7 +108,7 @@ module _ (s : Source) (k : Resource) (p : Pass) (is : IsPassOf s k p) where
       let e = subst (λ y. P k y p.code.now p.layout.now p.most) is.earlier r in
       let c = subst (λ y. P k s.earlier.now y p.layout.now p.most) is.code e in
       let l = subst (λ y. P k s.earlier.now s.code.now y p.most) is.layout c in
-      subst (λ y. P k s.earlier.now s.code.now s.layout.now y) is.limit l
+      subst (λ y. P k s.earlier.now s.code.now s.layout.now y) is.most l
 
   pub laid_for_pass : IsLaidFor s.earlier.now s.code.now s.layout.now → IsLaidFor p.earlier.now p.code.now p.layout.now
   laid_for_pass ready = to_pass (λ r earlier code l m. IsLaidFor earlier code l) ready

@@ -19,7 +19,7 @@ pub record IsPassOf (s : Source) (k : Resource) (p : Pass) : Type 0 where
   pub earlier : p.earlier.now ≡ s.earlier.now
   pub code : p.code.now ≡ s.code.now
   pub layout : p.layout.now ≡ s.layout.now
-  pub limit : p.most ≡ limit_of k - own_of k
+  pub most : p.most ≡ limit_of k - own_of k
 
 -- the table of a resource
 abbrev pub rows_of : {n : ℕ} → Tables n → Resource → List (List ℕ)

@@ -1,10 +1,8 @@
 -- The outcome of a run, and its output.
-use Rattle.std.proofs.Common.{◌≡◌, ℕ, ◌≤◌, List, length, Bool, true, false, Option, inl, Result, Ok, Err, MatchResult, count_by, ap, subst, sym, ◌∙◌, refl}
-use Rattle.std.specs.Prelude.{IfOk}
+use Rattle.std.proofs.Common.{◌≡◌, ℕ, ◌≤◌, List, [], length, Bool, true, if◌then◌else◌, Option, inl, Result, Err, MatchResult, ap, subst, sym, ◌∙◌, refl}
 use Rattle.sts_code.specs.Program.{Program}
-use Rattle.sts_model.specs.Run.{is_step}
 use Rattle.sts_pool.specs.Outside.{IsGiven}
-use Rattle.sts_pool.specs.Report.{IsEnding, IsReport}
+use Rattle.sts_pool.specs.Report.{IsReportOf}
 use Rattle.sts_pool.specs.declared.report.Report.{Report}
 use Rattle.sts_trace.specs.declared.outside.Due.{Due}
 use Rattle.sts_rules.specs.Refusal.{IsAccepted}
@@ -13,7 +11,7 @@ use Rattle.sts_cli.proofs.Given.{are_given}
 use Rattle.sts_cli.specs.Dues.{dues_give}
 use Rattle.sts_asm.specs.Text.{judged}
 use Rattle.sts_cli.specs.Running.{IsOutcomeOf, IsRun, Outcome, RunWrites, TextRuns, alone}
-use Rattle.sts_cli.specs.Running.{Holds, IsReportOf, refused, report_output, reported}
+use Rattle.sts_cli.specs.Running.{Holds, refused, report_output, reported}
 use Rattle.sts_output.specs.Taking.{IsTakenOf}
 use Rattle.sts_cli.specs.Ending.{IsOfRun, IsPrinted, of_run}
 use Rattle.sts_output.specs.Streams.{Written, WritesBoth, most_of_a_text, most_of_a_stream, no_trace, whole}
@@ -28,22 +26,10 @@ whole_told kept P o is = record { outcome = o; is = is; output = refl; journal =
 pub told_as : (kept : Bool) (P Q : Outcome → Type 0) (r : Outcome) → ((o : Outcome) → P o → Q o) → Holds kept P r → Holds kept Q r
 told_as kept P Q r more h = record { outcome = h.outcome; is = more h.outcome h.is; output = h.output; journal = h.journal }
 
--- the report of a run that keeps its journal
-pub kept_report : {E : Type 0} (kept : Bool) (p : Program) (dues : List Due) (r : Result Report E) → length dues ≤ 4096 → IfOk r (λ r. IsReport p r.journal.items r.end) → IfOk r (λ r. IsGiven dues_give dues r.journal.items) → IfOk r (λ r. r.steps ≡ count_by is_step r.journal.items)
-    → IfOk r (IsReportOf kept p dues)
-kept_report kept p dues (Ok r) few report given steps =
-    record { journal = r.journal.items; report = report; given = are_given dues r.journal.items few given; steps = steps; held = λ k. refl }
-kept_report kept p dues (Err e) few report given steps = tt
-
--- and of one that doesn't
-pub ended_report : (kept : Bool) (p : Program) (dues : List Due) (r : Report) → kept ≡ false → length dues ≤ 4096 → IsEnding p (IsGiven dues_give dues) r.end r.steps → IsReportOf kept p dues r
-ended_report kept p dues r none few is =
-    record { journal = is.journal; report = is.report; given = are_given dues is.journal few is.came; steps = is.counted; held = λ k. absurd (cc) }
-
 -- what is printed of a report
-pub reported_run : (kept : Bool) (p : Program) (dues : List Due) (budgets : List ℕ) (r : Report) (o : Outcome) → IsAccepted p → AreLines p budgets → IsReportOf kept p dues r
+pub reported_run : (kept : Bool) (p : Program) (dues : List Due) (budgets : List ℕ) (r : Report) (o : Outcome) → IsAccepted p → AreLines p budgets → length dues ≤ 4096 → IsReportOf kept p (IsGiven dues_give dues) r
     → o ≡ record { output = report_output budgets r.end r.steps; journal = r.journal.items } → Holds kept (IsRun p dues) o
-reported_run kept p dues budgets r o accepted lines is same =
+reported_run kept p dues budgets r o accepted lines few is same =
     subst (Holds kept (IsRun p dues)) (sym same)
     (record {
       outcome = record { output = report_output budgets r.end r.steps; journal = is.journal };
@@ -54,11 +40,11 @@ reported_run kept p dues budgets r o accepted lines is same =
             told = lines;
             end = r.end;
             report = is.report;
-            given = is.given;
+            given = are_given dues is.journal few is.came;
             printed = ap (report_output budgets r.end) (is.steps ∙ sym is.report.steps);
           });
       output = refl;
-      journal = is.held;
+      journal = λ k. is.held ∙ ap (λ b. if b then is.journal else []) k;
     })
 
 -- a program that isn't accepted is refused

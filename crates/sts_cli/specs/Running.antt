@@ -1,8 +1,8 @@
 -- The outcome of `run`: its output, and the journal that its trace spells (this project's own).
 use Rattle.std.specs.Prelude.{◌≡◌, ◌⊎◌, ℕ, List, [], ◌++◌, Result, Ok, Err}
-use Rattle.std.specs.Prelude.{Bool, true, Option, count_by}
+use Rattle.std.specs.Prelude.{Bool, true, Option}
 use Rattle.sts_code.specs.Program.{Program}
-use Rattle.sts_model.specs.Run.{is_step, taken}
+use Rattle.sts_model.specs.Run.{taken}
 use Rattle.sts_model.specs.declared.event.End.{End}
 use Rattle.sts_model.specs.declared.event.Event.{Event}
 use Rattle.sts_rules.specs.Refusal.{IsAccepted}
@@ -13,7 +13,6 @@ use Rattle.sts_trace.specs.declared.error.TraceError.{TraceError}
 use Rattle.sts_trace.specs.declared.outside.Due.{Due}
 use Rattle.sts_pool.specs.Report.{IsReport}
 use Rattle.sts_pool.specs.declared.report.PoolError.{PoolError}
-use Rattle.sts_pool.specs.declared.report.Report.{Report}
 use Rattle.sts_pool.specs.declared.report.PoolError.TheVariants as pool
 use Rattle.sts_output.specs.Output.{AreLines, IsRefused, Output, end_status}
 use Rattle.sts_output.specs.Output.{memory_output, text_fault_output, trace_fault_output}
@@ -82,14 +81,6 @@ pub record Holds (kept : Bool) (P : Outcome → Type 0) (r : Outcome) : Type 0 w
   pub is : P outcome
   pub output : r.output ≡ outcome.output
   pub journal : kept ≡ true → r.journal ≡ outcome.journal
-
--- the report of a run by some journal; it holds the journal if `kept` is true
-pub record IsReportOf (kept : Bool) (p : Program) (dues : List Due) (r : Report) : Type 0 where
-  pub journal : List Event
-  pub report : IsReport p journal r.end
-  pub given : AreGiven dues journal
-  pub steps : r.steps ≡ count_by is_step journal
-  pub held : kept ≡ true → r.journal.items ≡ journal
 
 -- ---- what is written
 

@@ -23,7 +23,7 @@ use sts_output::{
 };
 use sts_trace::write_trace;
 
-fn output(alloc: Global, mode: Mode, text: &[u8], trace: &[u8]) -> Result<Output, Stopped<Output>>
+fn output(alloc: Global, mode: Mode, text: &[u8], trace: &[u8]) -> Result<Output, Stopped>
     ensures { Prints result (def.Shows mode text.now trace.now) }
 {
     match mode {
@@ -95,7 +95,7 @@ fn print_ran<W: Write>(ran: &mut Ran, out: &mut W, aside: &mut Aside) -> Status
         def.Writes (W.contents out.old) (W.contents out.new) s ran.old.output) }
 {
     aside.came = ran.came.take();
-    written(out, ran.output.text.as_bytes(), ran.output.status)
+    written(out, ran.output.bytes.as_slice(), ran.output.status)
 }
 
 /// Writes the journal of a run to its trace, and then the output. If the trace can't be written,
@@ -106,7 +106,8 @@ fn write_ran<T: Write, W: Write>(
     out: &mut W,
     aside: &mut Aside,
 ) -> Status
-    ensures { IfOk result (λ s. RunWrites (trace_and_output (T.contents trace.old) (T.contents trace.new)
+    ensures { IfOk result (λ s. RunWrites
+        (trace_and_output (T.contents trace.old) (T.contents trace.new)
         (W.contents out.old) (W.contents out.new)) s ran.old) }
 {
     match traced(ran.journal.as_slice(), trace) {
@@ -139,7 +140,8 @@ pub(crate) fn play_untraced<R: Threads + Wait + Sync, W: Write>(
     aside: &mut Aside,
 ) -> Status
     requires { (1 ≤ job.workers) × (job.workers ≤ 16) }
-    ensures { IfOk result (λ s. (o : Outcome) × IsOutcomeOf job.entry.text.now job.entry.outside.now o
+    ensures { IfOk result (λ s. (o : Outcome)
+        × IsOutcomeOf job.entry.text.now job.entry.outside.now o
         × def.Writes (W.contents out.old) (W.contents out.new) s o.output) }
 {
     let manner = Manner {
@@ -162,7 +164,8 @@ pub(crate) fn play_traced<R: Threads + Wait + Sync, T: Write, W: Write>(
     aside: &mut Aside,
 ) -> Status
     requires { (1 ≤ job.workers) × (job.workers ≤ 16) }
-    ensures { IfOk result (λ s. (o : Outcome) × IsOutcomeOf job.entry.text.now job.entry.outside.now o
+    ensures { IfOk result (λ s. (o : Outcome)
+        × IsOutcomeOf job.entry.text.now job.entry.outside.now o
         × RunWrites (trace_and_output (T.contents trace.old) (T.contents trace.new)
         (W.contents out.old) (W.contents out.new)) s o) }
 {

@@ -79,7 +79,3 @@ without_link at k p (x ∷ xs) n none a = ((λ e. let f = a.0 in let q : at k �
 -- a list of keys with unchanged links
 pub list_stays : (at new : ℕ → Option Link) (list : Ends) (keys : List ℕ) → ((k : ℕ) → (NotIn k keys → ⊥) → new k ≡ at k) → IsList at list keys → IsList new list keys
 list_stays at new list keys same is = record { first = is.first; last = is.last; linked = stays at new None keys None same is.linked; distinct = is.distinct }
-
--- a list that doesn't have the changed key
-pub list_stays_beside : (at new : ℕ → Option Link) (x : ℕ) (list : Ends) (keys : List ℕ) → ((k : ℕ) → k ≢ x → new k ≡ at k) → NotIn x keys → IsList at list keys → IsList new list keys
-list_stays_beside at new x list keys others apart is = list_stays at new list keys (λ k inside. others k (λ e. inside (rw e apart))) is

@@ -18,7 +18,7 @@ use Rattle.sts_code.specs.declared.instr.Joiner.TheVariants.{AwaitAll, Until}
 use Rattle.sts_code.specs.declared.instr.Pred.{Pred}
 use Rattle.sts_code.specs.declared.instr.Pred.TheVariants.{Failed, Success, AtLeast}
 use Rattle.sts_code.specs.declared.instr.Kind.{Kind}
-use Rattle.sts_code.specs.declared.instr.Kind.TheVariants.{S, F, U}
+use Rattle.sts_code.specs.declared.instr.Kind.TheVariants.{S}
 use Rattle.sts_asm.specs.Marks.{Names, label_in}
 use Rattle.std.specs.Fmt.{decimal, signed_decimal}
 use Rattle.sts_text.specs.Number.{number_up_to}

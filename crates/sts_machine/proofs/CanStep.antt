@@ -1,7 +1,5 @@
 -- A store that has recorded at which scopes its tasks are knows which of them can step.
 use Rattle.std.proofs.Common.{◌≡◌, ℕ, Bool, true, false, Option, Some, None, refl, sym, ◌∙◌, ap, ◌&&◌}
-use Rattle.std.proofs.lemmas.Bool.{and_from, and_left}
-use Rattle.sts_model.specs.Live.{Live}
 use Rattle.sts_model.specs.declared.event.Stand.{Stand}
 use Rattle.sts_model.specs.declared.event.Stand.TheVariants.{Free, AtJoin, AtClose}
 use Rattle.sts_code.specs.Program.{Program}
@@ -22,14 +20,6 @@ pub at_none : (stand : Stand) → is_free stand ≡ true → stand ≡ Free
 at_none Free e = refl
 at_none (AtJoin s) e = absurd (cc)
 at_none (AtClose s) e = absurd (cc)
-
--- a living task that is at no scope can step
-pub free_can : (p : Program) (v : Live) (t : ℕ) → lives_in v t ≡ true → live_stand_at p v t ≡ Free → live_can_step p v t ≡ true
-free_can p v t lives free = and_from (lives_in v t) (live_can_go v t (live_stand_at p v t)) lives (ap (live_can_go v t) free)
-
--- a task that has ended can't
-pub ended_cannot : (p : Program) (v : Live) (t : ℕ) → lives_in v t ≡ false → live_can_step p v t ≡ false
-ended_cannot p v t dead = and_left (lives_in v t) (live_can_go v t (live_stand_at p v t)) dead
 
 -- an answer picked by one test, for another that is the same
 pub picks : (test other : ℕ → Bool) (o : Option ℕ) → ((t : ℕ) → other t ≡ test t) → ((t : ℕ) → o ≡ Some t → other t ≡ true) → ((t : ℕ) → o ≡ None → other t ≡ false) → Picks test o

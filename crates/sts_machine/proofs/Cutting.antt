@@ -12,7 +12,7 @@ use Rattle.std.proofs.lemmas.Option.{same_Some, slice_get_within}
 use Rattle.laws_live.specs.Fine.{IsLiveFine}
 use Rattle.laws_live.specs.Reading.{alive_at, with_live_frame}
 use Rattle.laws_live.specs.Waiting.{live_can_step, live_stand_at, live_stand_at_instr}
-use Rattle.sts_machine.specs.Slice.{Cut, IsLawful, IsReached, IsSlice, steps_of}
+use Rattle.sts_machine.specs.Slice.{IsLawful, IsReached, IsSlice, steps_of}
 use Rattle.sts_machine.proofs.LocalSteps.{AtLocal, can-local, slices_are_steps, beside-locals, lives-framed, frame-framed, within_limit}
 
 -- a local instruction that is next

@@ -1,9 +1,8 @@
 -- Local instructions: they read and change only the frame (this project's own).
 use Rattle.std.specs.Prelude.{ℕ, ◌+◌, ◌-◌, ℤ, pos, negsuc, ◌+ℤ◌, ◌-ℤ◌, ◌*ℤ◌, int_lt, List, [], ◌∷◌}
-use Rattle.std.specs.Prelude.{◌++◌, length, drop, min, Bool, true, false, Option, nat_le, ◌==◌}
-use Rattle.std.specs.Prelude.{if◌then◌else◌, slice_set, slice_index_or, slice_range, count_by, find}
+use Rattle.std.specs.Prelude.{◌++◌, drop, min, Bool, true, false, Option, nat_le, ◌==◌}
+use Rattle.std.specs.Prelude.{if◌then◌else◌, slice_set, slice_index_or}
 use Rattle.std.specs.Prelude.{unwrap_or}
-use Rattle.std.specs.List.{range_with_len}
 use Rattle.std.specs.Int.{int_wrap, int_wrapping_div, w64}
 use Rattle.std.specs.Ordering.{int_eq}
 use Rattle.sts_code.specs.declared.instr.Instr.{Instr}

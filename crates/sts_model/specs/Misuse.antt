@@ -7,21 +7,17 @@
 use Rattle.std.specs.Prelude.{◌≡◌, ℕ, ◌+◌, ◌-◌, List, [], ◌∷◌, length, Bool, true, false, Option}
 use Rattle.std.specs.Prelude.{Some, None, is_some, is_none, nat_lt, nat_le, ◌==◌, ◌&&◌, ◌||◌, not}
 use Rattle.std.specs.Prelude.{if◌then◌else◌, slice_index_or}
-use Rattle.sts_code.specs.Program.{Program, routine}
+use Rattle.sts_code.specs.Program.{Program}
 use Rattle.sts_code.specs.declared.limits.TheConstants.{MAX_BIRTHS, MAX_ENTRIES, MAX_LOOPS}
 use Rattle.sts_code.specs.declared.limits.TheConstants.{MAX_OPERANDS, MAX_STANDING}
 use Rattle.sts_code.specs.declared.instr.Instr.{Instr}
-use Rattle.sts_code.specs.declared.instr.Instr.TheVariants.{Push, Pop, Dup, Swap, Load, Store, Add}
-use Rattle.sts_code.specs.declared.instr.Instr.TheVariants.{Sub, Mul, Lt, Eq, Div, Jz, Times, Next}
+use Rattle.sts_code.specs.declared.instr.Instr.TheVariants.{Sub, Times, Next}
 use Rattle.sts_code.specs.declared.instr.Instr.TheVariants.{Open, Fork, Join, Close, Cancelled}
-use Rattle.sts_code.specs.declared.instr.Instr.TheVariants.{Case, Get, Except, Tally, Total, Forget}
-use Rattle.sts_code.specs.declared.instr.Instr.TheVariants.{Bind, Unbind, Read, Bound, OrElse}
-use Rattle.sts_code.specs.declared.instr.Instr.TheVariants.{Interrupted, Ret, Fail}
+use Rattle.sts_code.specs.declared.instr.Instr.TheVariants.{Get, Except, Tally, Total}
+use Rattle.sts_code.specs.declared.instr.Instr.TheVariants.{Bind, Unbind, Read}
+use Rattle.sts_code.specs.declared.instr.Instr.TheVariants.{Ret, Fail}
 use Rattle.sts_code.specs.declared.profile.Profile.{Profile}
-use Rattle.sts_code.specs.declared.profile.Profile.TheVariants.{One, Two}
 use Rattle.sts_code.specs.declared.instr.Joiner.{Joiner}
-use Rattle.sts_code.specs.declared.instr.Joiner.TheVariants.{AllSucceed, AnySucceeds, AwaitOk}
-use Rattle.sts_code.specs.declared.instr.Joiner.TheVariants.{AwaitAll}
 use Rattle.sts_code.specs.Facts.{pops, pushes, owners_slot, subtask_slot, filled_slot, can_fail}
 use Rattle.sts_code.specs.Facts.{is_await_all, same, is_two}
 use Rattle.sts_code.specs.Loops.{match_of, is_at}

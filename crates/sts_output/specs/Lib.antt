@@ -6,4 +6,3 @@ pub mod Shown
 pub mod Stops
 pub mod Streams
 pub mod Taking
-pub mod TextMode

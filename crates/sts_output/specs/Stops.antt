@@ -10,16 +10,16 @@ use Rattle.sts_output.specs.declared.stopped.Stopped.{Stopped}
 use Rattle.sts_output.specs.declared.stopped.Stopped.TheVariants as stopped
 
 -- the output that says why, if memory didn't run out
-abbrev pub Says : (Output → Type 0) → Stopped Output → Type 0
+abbrev pub Says : (Output → Type 0) → Stopped → Type 0
 Says Q (stopped.Shown output) = Q output
 Says Q stopped.Memory = ⊤
 
 -- something to go on with, or the output that says why there is none
-abbrev pub Gives : {T : Type 0} → Result T (Stopped Output) → (T → Type 0) → (Output → Type 0) → Type 0
+abbrev pub Gives : {T : Type 0} → Result T Stopped → (T → Type 0) → (Output → Type 0) → Type 0
 Gives r P Q = MatchResult r P (Says Q)
 
 -- an output, also if it went no further
-abbrev pub Prints : Result Output (Stopped Output) → (Output → Type 0) → Type 0
+abbrev pub Prints : Result Output Stopped → (Output → Type 0) → Type 0
 Prints r P = Gives r P P
 
 -- the output for a fault of the text
@@ -35,7 +35,7 @@ pub record IsTraceFault (read : Result (List Event) TraceError) (output : Output
   pub printed : output ≡ trace_fault_output error
 
 -- what is written of it
-abbrev pub IsShown : Result Output (Stopped Output) → Output → Type 0
+abbrev pub IsShown : Result Output Stopped → Output → Type 0
 IsShown (Ok shown) output = output ≡ shown
 IsShown (Err (stopped.Shown shown)) output = output ≡ shown
 IsShown (Err stopped.Memory) output = output ≡ memory_output

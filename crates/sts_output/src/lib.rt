@@ -18,7 +18,6 @@ mod sinks;
 mod sources;
 mod stopped;
 mod taking;
-mod text_mode;
 mod texts;
 mod writing;
 
@@ -38,7 +37,6 @@ pub use sinks::{Sinks, made, spared};
 pub use sources::{Host, Sources, file};
 pub use stopped::{Stopped, events_of, program_of, write_shown};
 pub use taking::{TakeError, bytes_of, take};
-pub use text_mode::{TextMode, play_text};
 pub use texts::{
     MOST_OF_A_STREAM, MOST_OF_A_TEXT, NOT_TEXT, Texts, borrowed, read_input, read_text, read_texts,
 };

@@ -1,6 +1,7 @@
 //! The output of the program, and its status.
 
 ghost use Rattle.std.specs.Prelude.{◌≡◌, ◌≢◌, IfOk, Result, Err};
+ghost use Rattle.std.specs.String.{string_bytes};
 ghost use Rattle.sts_code.specs.Program.{Program as AnyProgram};
 ghost use Rattle.sts_asm.specs.Fault.{FailsAt};
 ghost use Rattle.sts_asm.specs.declared.fault.AsmError.{AsmError};
@@ -19,17 +20,28 @@ use sts_trace::TraceError;
 /// The output, and the status.
 #[derive(Drop)]
 pub struct Output {
-    pub text: String,
+    pub bytes: Vec<u8>,
     pub status: u8,
 }
 
 impl Model for Output {
-    ghost use Rattle.std.specs.String.{string_bytes};
     ghost use Rattle.sts_output.specs.Output as def;
 
     ghost Value = { def.Output };
 
-    ghost view = { λ o. record { bytes = string_bytes o.text; status = o.status } };
+    ghost view = { λ o. record { bytes = o.bytes.items; status = o.status } };
+}
+
+impl Output {
+    /// The output of this text.
+    pub fn of(text: String, status: u8) -> Output
+        ensures { result ≡ record { bytes = string_bytes text; status = status } }
+    {
+        Output {
+            bytes: text.into_bytes(),
+            status,
+        }
+    }
 }
 
 /// The output for a fault of a text. Running out of memory is no fault of it.
@@ -46,7 +58,7 @@ pub fn text_fault(alloc: Global, error: AsmError) -> Result<Output, AllocError>
     }
     let mut text = String::new(alloc);
     printed::text_fault_line(&mut text, error)?;
-    Ok(Output { text, status: 3 })
+    Ok(Output::of(text, 3))
 }
 
 /// The output for a fault of a trace. Running out of memory is no fault of it.
@@ -62,7 +74,7 @@ pub fn trace_fault(alloc: Global, error: TraceError) -> Result<Output, AllocErro
     }
     let mut text = String::new(alloc);
     printed::trace_fault_line(&mut text, error)?;
-    Ok(Output { text, status: 3 })
+    Ok(Output::of(text, 3))
 }
 
 /// The status for an end of the root.
@@ -97,8 +109,5 @@ pub fn state_output(
     let mut text = String::new(alloc);
     printed::state_line(&mut text, program, state)?;
     printed::steps_line(&mut text, steps)?;
-    Ok(Output {
-        text,
-        status: state_status(state),
-    })
+    Ok(Output::of(text, state_status(state)))
 }

@@ -12,7 +12,7 @@ use sts_asm::AsmError;
 use sts_code::{CodeError, Function, Instr, Program, name_of};
 use sts_list::spell;
 use sts_model::{End, Fault};
-use sts_plain::{Misstep, PlainState};
+use sts_plain::PlainState;
 use sts_rules::{Budgets, Cause};
 use sts_trace::TraceError;
 
@@ -102,14 +102,19 @@ pub fn end_line(out: &mut String, end: End) -> Result<(), AllocError>
     }
 }
 
-fn fault_line(out: &mut String, program: &Program, fault: Misstep) -> Result<(), AllocError>
+fn fault_line(
+    out: &mut String,
+    program: &Program,
+    kind: Fault,
+    task: u32,
+    function: u32,
+    pc: u32,
+) -> Result<(), AllocError>
     ensures { OnOk result (string_bytes out.new ≡ string_bytes out.old
-        ++ def.fault_line program.now fault.kind fault.task fault.function fault.pc) }
+        ++ def.fault_line program.now kind task function pc) }
 {
-    let word = fault_word(fault.kind);
-    let task = fault.task;
-    let name = name_of(program, fault.function);
-    let pc = fault.pc;
+    let word = fault_word(kind);
+    let name = name_of(program, function);
     writeln!(out, "fault {word} task {task} in {name} at {pc}")
 }
 
@@ -130,16 +135,7 @@ pub fn state_line(out: &mut String, program: &Program, state: PlainState) -> Res
             task,
             function,
             pc,
-        } => fault_line(
-            out,
-            program,
-            Misstep {
-                kind,
-                task,
-                function,
-                pc,
-            },
-        ),
+        } => fault_line(out, program, kind, task, function, pc),
     }
 }
 

@@ -64,7 +64,7 @@ fn refused(alloc: Global, refusal: &Refusal) -> Result<Output, AllocError>
         refusal.pc,
         refusal.cause,
     )?;
-    Ok(Output { text, status: 4 })
+    Ok(Output::of(text, 4))
 }
 
 /// Returns the program, if it is accepted.
@@ -72,7 +72,7 @@ fn refused(alloc: Global, refusal: &Refusal) -> Result<Output, AllocError>
 /// # Errors
 ///
 /// The program is refused, or memory ran out.
-pub fn verified_of(alloc: Global, program: Program) -> Result<Verified, Stopped<Output>>
+pub fn verified_of(alloc: Global, program: Program) -> Result<Verified, Stopped>
     ensures { Gives result (λ verified. verified ≡ program) (def.IsRefused program) }
 {
     match judge(alloc, program)? {

@@ -18,20 +18,20 @@ use sts_trace::read_trace;
 
 /// Why a mode or an explanation goes no further.
 #[derive(Drop)]
-pub enum Stopped<O> {
+pub enum Stopped {
     /// This output says why: a fault of a text or a trace, or a refusal.
-    Shown(O),
+    Shown(Output),
     /// Memory ran out.
     Memory,
 }
 
-impl<O> From<AllocError> for Stopped<O> {
+impl From<AllocError> for Stopped {
     ghost use Rattle.std.specs.Prelude.{◌≡◌};
     ghost use Rattle.sts_output.specs.declared.stopped.Stopped.TheVariants.{Memory};
 
     ghost from_gives = { λ _ e. e ≡ Memory };
 
-    fn from(_error: AllocError) -> Stopped<O> {
+    fn from(_error: AllocError) -> Stopped {
         Stopped::Memory
     }
 }
@@ -41,7 +41,7 @@ impl<O> From<AllocError> for Stopped<O> {
 /// # Errors
 ///
 /// The text has a fault, or memory ran out.
-pub fn program_of(alloc: Global, text: &[u8]) -> Result<Program, Stopped<Output>>
+pub fn program_of(alloc: Global, text: &[u8]) -> Result<Program, Stopped>
     ensures { def.Gives result (λ p. judged text.now ≡ Ok p) (def.IsTextFault (judged text.now)) }
 {
     match assemble(alloc, text) {
@@ -55,7 +55,7 @@ pub fn program_of(alloc: Global, text: &[u8]) -> Result<Program, Stopped<Output>
 /// # Errors
 ///
 /// The trace has a fault, or memory ran out.
-pub fn events_of(alloc: Global, trace: &[u8]) -> Result<Vec<Event>, Stopped<Output>>
+pub fn events_of(alloc: Global, trace: &[u8]) -> Result<Vec<Event>, Stopped>
     ensures { def.Gives result (λ events. trace_read trace.now ≡ Ok events.items)
         (def.IsTraceFault (trace_read trace.now)) }
 {
@@ -71,13 +71,13 @@ pub fn events_of(alloc: Global, trace: &[u8]) -> Result<Vec<Event>, Stopped<Outp
 /// # Errors
 ///
 /// A write failed.
-pub fn write_shown<W: Write>(output: Result<Output, Stopped<Output>>, out: &mut W) -> Status
+pub fn write_shown<W: Write>(output: Result<Output, Stopped>, out: &mut W) -> Status
     ensures { IfOk result (λ s. (o : AnyOutput) × def.IsShown output o
         × Writes (W.contents out.old) (W.contents out.new) s o) }
 {
     match output {
-        Ok(output) => written(out, output.text.as_bytes(), output.status),
-        Err(Stopped::Shown(output)) => written(out, output.text.as_bytes(), output.status),
+        Ok(output) => written(out, output.bytes.as_slice(), output.status),
+        Err(Stopped::Shown(output)) => written(out, output.bytes.as_slice(), output.status),
         Err(Stopped::Memory) => failed(TakeError::Memory, out),
     }
 }

@@ -1,4 +1,4 @@
--- The next instruction of a living task, which is no misuse (this project's own).
+-- What is known of the instruction that a task does next (this project's own).
 use Rattle.std.specs.Prelude.{◌≡◌, ℕ, ◌+◌, ◌^◌, ◌<◌, length, true, Some}
 use Rattle.sts_code.specs.Program.{Program}
 use Rattle.sts_code.specs.declared.instr.Instr.{Instr}
@@ -6,6 +6,7 @@ use Rattle.sts_model.specs.Living as living
 use Rattle.sts_model.specs.Misuse.{IsFine}
 use Rattle.sts_model.specs.World.{World, code, instr_at, task_at}
 
+-- the task t lives, its next instruction is i, and i is no misuse
 pub record IsNext (p : Program) (w : World) (t : ℕ) (i : Instr) : Type 0 where
   pub born : t < length w.tasks
   pub lives : living.lives (task_at w t) ≡ true

@@ -103,12 +103,7 @@ impl Position {
         ensures { result ≡ shown self.now }
     {
         match self.misstep {
-            Some(m) => PlainState::Fault {
-                kind: m.kind,
-                task: m.task,
-                function: m.function,
-                pc: m.pc,
-            },
+            Some(misstep) => misstep.state(),
             None => match self.world.records().root_end() {
                 None => PlainState::Running,
                 Some(end) => PlainState::Ended(end),

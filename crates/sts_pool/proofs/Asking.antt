@@ -1,19 +1,20 @@
 -- A book that asks its outside: the interrupts and expiries of its journal came from there.
-use Rattle.std.proofs.Common.{◌≡◌, ℕ, zero, suc, ◌+◌, List, [], ◌∷◌, ◌++◌, Option, Some, None, Bool, true, false, inl, inr, refl, sym, ap, ◌∙◌, subst, count_by, append_assoc, append-nil, length-append, arith}
-use Rattle.std.specs.Prelude.{IfErr, IfNone, IfSome, OnErr, Result, Ok, Err, is_some, option_map}
+use Rattle.std.proofs.Common.{◌≡◌, ℕ, zero, suc, ◌+◌, List, [], ◌∷◌, ◌++◌, Option, Some, None, Bool, true, false, if◌then◌else◌, inl, inr, refl, sym, ap, ◌∙◌, subst, count_by, append_assoc, append-nil, length-append, arith}
+use Rattle.std.specs.Prelude.{IfErr, IfNone, IfOk, IfSome, OnErr, Result, Ok, Err, is_some, option_map, unwrap_or}
 use Rattle.sts_code.specs.Program.{Program}
 use Rattle.sts_machine.specs.Slice.{steps_of}
-use Rattle.sts_model.specs.declared.event.End.{End}
 use Rattle.sts_model.specs.declared.event.Event.{Event}
 use Rattle.sts_model.specs.declared.event.Event.TheVariants.{Step}
 use Rattle.sts_model.specs.Run.{is_step}
 use Rattle.sts_pool.specs.Asked.{HasGiven, IsAsked}
 use Rattle.sts_pool.specs.Book.{BookSeen, IsJournal, MayBe, Records}
+use Rattle.sts_pool.specs.Journal.{opened}
 use Rattle.sts_pool.specs.Outside as outside
 use Rattle.sts_pool.specs.Outside.{Gave, IsGiven, IsOutside}
-use Rattle.sts_pool.specs.Report.{EndsUnfinished, IsEnding, IsReport, IsUnfinished}
+use Rattle.sts_pool.specs.Report.{EndsUnfinished, IsReport, IsReportOf, IsUnfinished}
 use Rattle.sts_pool.specs.declared.report.PoolError.{PoolError}
 use Rattle.sts_pool.specs.declared.report.PoolError.TheVariants.{Unfinished}
+use Rattle.sts_pool.specs.declared.report.Report.{Report}
 use Rattle.sts_pool.proofs.Books.{steps_and_outside}
 use Rattle.sts_pool.proofs.OutsideLemmas.{entries_more}
 
@@ -72,23 +73,29 @@ gave_steps gives first (suc c) t journal now gave =
 given_beside : {O : Type 0} (gives : O → ℕ → Option Event → O → Type 0) (first : Option O) (b : BookSeen) (out : List ℕ) → HasGiven gives first b → HasGiven gives first (record b { out = out })
 given_beside gives first b out has = record { events = has.events; journal = journal_beside b out has.events has.journal; given = has.given }
 
--- its journal, if it is written
-pub written_given : {O : Type 0} (gives : O → ℕ → Option Event → O → Type 0) (o : O) (b : BookSeen) (entries : List Event) → HasGiven gives (Some o) b → b.journal ≡ Some entries → IsGiven gives o entries
-written_given gives o b entries has e =
-    let same : entries ≡ has.events = subst (λ j. IfSome j (λ es. es ≡ has.events)) e has.journal.written in
-    subst (IsGiven gives o) (sym same) has.given
+-- its entries, if they are written
+entries_held : (o : Option (List Event)) (events : List Event) → IfSome o (λ es. es ≡ events) → unwrap_or o [] ≡ (if is_some o then events else [])
+entries_held (Some es) events same = same
+entries_held None events same = refl
 
--- or one that may be its journal
-pub ended_given : {O : Type 0} (gives : O → ℕ → Option Event → O → Type 0) (o : O) (b : BookSeen) (p : Program) (end : End) (steps : ℕ) → b.program ≡ p → HasGiven gives (Some o) b
-    → ((events : List Event) → MayBe b events → IsReport b.program events end × (steps ≡ count_by is_step events)) → IsEnding p (IsGiven gives o) end steps
-ended_given gives o b p end steps ours has ended =
+-- a book that is opened with a journal has one
+pub opened_written : (w : Bool) → is_some (opened w) ≡ w
+opened_written true = refl
+opened_written false = refl
+
+-- its report
+pub report_given : {O E : Type 0} (gives : O → ℕ → Option Event → O → Type 0) (o : O) (b : BookSeen) (p : Program) (w : Bool) (r : Result Report E) → b.program ≡ p → is_some b.journal ≡ w → HasGiven gives (Some o) b
+    → IfOk r (λ r. (events : List Event) → MayBe b events → IsReport b.program events r.end × (r.steps ≡ count_by is_step events)) → IfOk r (λ r. r.journal.items ≡ unwrap_or b.journal []) → IfOk r (IsReportOf w p (IsGiven gives o))
+report_given gives o b p w (Ok r) ours written has ended held =
     let told = ended has.events has.journal.may in
     record {
       journal = has.events;
-      report = subst (λ q. IsReport q has.events end) ours told.0;
-      counted = told.1;
+      report = subst (λ q. IsReport q has.events r.end) ours told.0;
+      steps = told.1;
       came = has.given;
+      held = subst (λ k. r.journal.items ≡ (if k then has.events else [])) written (held ∙ entries_held b.journal has.events has.journal.written);
     }
+report_given gives o b p w (Err e) ours written has ended held = tt
 
 -- and if its root lives
 unfinished_given : {O : Type 0} (gives : O → ℕ → Option Event → O → Type 0) (o : O) (b : BookSeen) (p : Program) → b.program ≡ p → HasGiven gives (Some o) b → ((events : List Event) → MayBe b events → IsUnfinished b.program events) → EndsUnfinished p (IsGiven gives o)

@@ -1,8 +1,8 @@
 -- A book keeps its facts, whether its journal is written or only counted.
 use Rattle.std.proofs.Common.{◌≡◌, ℕ, ◌+◌, ◌≤◌, ◌<◌, ◌^◌, List, [], ◌∷◌, ◌++◌, length, Bool, true, false, not, ◌&&◌, Option, Some, None, refl, sym, ap, ◌∙◌, subst, cond, vec_len, vec_capacity, count_by, rules, arith, append-nil}
-use Rattle.std.proofs.lemmas.Bool.{both_ways, cond-true}
+use Rattle.std.proofs.lemmas.Bool.{cond-true}
 use Rattle.std.proofs.lemmas.List.Folds.{sum_by-replicate}
-use Rattle.std.specs.Prelude.{IfSome, option_map, unwrap_or}
+use Rattle.std.specs.Prelude.{IfSome, option_map}
 use Rattle.sts_code.specs.Program.{Program}
 use Rattle.sts_model.specs.declared.event.End.{End}
 use Rattle.sts_model.specs.declared.event.Event.{Event}
@@ -24,8 +24,7 @@ use Rattle.sts_pool.specs.Outside.{outside_entries}
 use Rattle.sts_pool.specs.Report.{IsReport}
 use Rattle.sts_pool.specs.declared.journal.Journal.{Journal}
 use Rattle.sts_pool.specs.declared.journal.Journal.TheVariants.{Written, Counted}
-use Rattle.sts_pool.proofs.OutsideLemmas.{entries_more, one_outside}
-use Rattle.sts_pool.proofs.Books.{back_book, entries_few, entries_fit, free_parts, lives, opening_book, out_book, out_fits, outside_book, ran_book, released_book, reports, room_kept, stepped_book, steps_counted, still_entries, still_entries_one}
+use Rattle.sts_pool.proofs.Books.{back_book, entries_few, entries_fit, free_parts, lives, opening_book, out_book, out_fits, ran_book, released_book, reports, room_kept, stepped_book, steps_counted, still_entries, still_entries_one}
 use Rattle.sts_pool.proofs.Outs.{among, without}
 
 -- ---- a journal of either kind
@@ -56,11 +55,6 @@ written_more Counted Counted more recorded = refl
 written_more (Written v) Counted more recorded = absurd recorded
 written_more Counted (Written w) more recorded = absurd recorded
 
--- what is written is held
-same_events : (j : Journal) (events entries : List Event) (room : ℕ) → Holds j events room → written j ≡ Some entries → events ≡ entries
-same_events (Written v) events entries room holds e = sym holds.0 ∙ ap (λ o. unwrap_or o []) e
-same_events Counted events entries room holds e = absurd (cc)
-
 -- ---- what is known of a kept book
 
 pub may_be : (m : Seen) (j : Journal) (n : ℕ) (out : List ℕ) (k : ℕ) (is : IsKept m j n out k) → MayBe (book_of m (written j) n out) is.events
@@ -85,17 +79,6 @@ most_entries m j n out k b view is =
     let entries : outside_entries is.events ≡ n = is.entries in
     let same : n ≡ b.outside = ap (λ (x : BookSeen). x.outside) view in
     omega (arith, most, entries, same)
-
--- if fewer outside events came than may, one more may come
-pub few_entries : (m : Seen) (j : Journal) (n : ℕ) (out : List ℕ) (k : ℕ) → IsKept m j n out k → (n ≡ 4096 → ⊥) → n + 1 ≤ 4096
-few_entries m j n out k is other =
-    let most = is.book.most in
-    let entries : outside_entries is.events ≡ n = is.entries in
-    omega (arith, most, entries, other)
-
--- one more may come to a book that isn't full
-pub few_more : (m : Seen) (j : Journal) (n : ℕ) (out : List ℕ) (k : ℕ) (b : BookSeen) (full : Bool) → book_of m (written j) n out ≡ b → IsKept m j n out k → (b.outside ≡ 4096 → full ≡ true) → full ≡ false → n + 1 ≤ 4096
-few_more m j n out k b full view is filled free = few_entries m j n out k is (λ e. both_ways full free (filled (sym (ap (λ (x : BookSeen). x.outside) view) ∙ e)))
 
 -- the entries that are written may be the journal's
 pub shown : (m : Seen) (j : Journal) (n : ℕ) (out : List ℕ) (k : ℕ) → IsKept m j n out k → IfSome (written j) (MayBe (book_of m (written j) n out))
@@ -208,16 +191,6 @@ step_grows m x j n out k t is same stands live steps can absent =
     grows m x j n n out out k (event.Step t ∷ []) is same (still_entries_one is.events t ∙ is.entries)
     (stepped_book m x is.events out t is.book is.room.stay stands live steps can absent)
 
--- by an event from outside
-pub event_grows : (m x : Seen) (j : Journal) (n : ℕ) (out : List ℕ) (k : ℕ) (e : Event) → IsKept m j n out k → n + 1 ≤ 4096 → is_step e ≡ false → x.program ≡ m.program → ((events : List Event) → Stands m events → Stands x (events ++ e ∷ [])) → x.live ≡ live_apply m.program m.live e
-    → x.steps ≡ m.steps + live_steps_in m.program m.live e → Grows j (e ∷ []) x (n + 1) out k
-event_grows m x j n out k e is few outer same stands live steps =
-    let more = entries_more is.events (e ∷ []) in
-    let one = one_outside e n outer in
-    let entries : outside_entries is.events ≡ n = is.entries in
-    grows m x j n (n + 1) out out k (e ∷ []) is same (omega (arith, more, one, entries))
-    (outside_book m x is.events out e is.book is.room.stay stands live steps outer (omega (arith, entries, few)))
-
 -- by the steps of a task, after which these tasks are out
 steps_grow : (m x : Seen) (j : Journal) (n : ℕ) (out left : List ℕ) (k c t : ℕ) (is : IsKept m j n out k) → x.program ≡ m.program → IsBook x (is.events ++ steps_of c t) left → Grows j (steps_of c t) x n left k
 steps_grow m x j n out left k c t is same book = grows m x j n n out left k (steps_of c t) is same (still_entries is.events c t ∙ is.entries) book
@@ -295,15 +268,3 @@ ends m j n out k end o is ended some events may =
     let most = is.book.most in
     let book : IsBook m events out = record { stands = may.stands; counted = omega (arith, counted, from); most = omega (arith, most, entries, from); apart = is.book.apart; living = is.book.living } in
     (reports m events out end o book is.room.main (ended events may.stands) some, steps_counted m events out book)
-
--- the written entries may be the journal's
-kept_may : (m : Seen) (j : Journal) (n : ℕ) (out : List ℕ) (k : ℕ) (entries : List Event) → IsKept m j n out k → written j ≡ Some entries → MayBe (book_of m (written j) n out) entries
-kept_may m j n out k entries is e =
-    let all : length is.events ≡ m.steps + outside_entries is.events = is.book.counted in
-    let from : outside_entries is.events ≡ n = is.entries in
-    let may : MayBe (book_of m (written j) n out) is.events = record { stands = is.book.stands; outside = from; counted = omega (arith, all, from) } in
-    subst (MayBe (book_of m (written j) n out)) (same_events j is.events entries is.journal_room is.holds e) may
-
-pub taken_may : {V : Type 0} (items : V → List Event) (m : Seen) (j : Journal) (n : ℕ) (out : List ℕ) (k : ℕ) (taken : Option V) → IsKept m j n out k → option_map items taken ≡ written j → IfSome taken (λ v. MayBe (book_of m (written j) n out) (items v))
-taken_may items m j n out k (Some v) is e = kept_may m j n out k (items v) is (sym e)
-taken_may items m j n out k None is e = tt

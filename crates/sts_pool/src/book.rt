@@ -3,7 +3,7 @@
 ghost use Rattle.std.specs.Prelude.{◌≡◌, ◌≢◌, ◌<◌, ◌≤◌, ℕ, ◌+◌, ◌++◌, ◌∷◌, [], ◌↔◌, List, IfOk, OnOk, IfErr};
 ghost use Rattle.std.specs.Prelude.{OnErr, IfSome, IfNone, IsErr, IsOk, IsTrue, true, false};
 ghost use Rattle.std.specs.Prelude.{filter, not, ◌==◌, MatchBool, count_by, None, Some};
-ghost use Rattle.std.specs.Prelude.{vec_capacity, option_map, is_some};
+ghost use Rattle.std.specs.Prelude.{vec_capacity, unwrap_or};
 ghost use Rattle.std.specs.List.{list_any};
 ghost use Rattle.sts_frames.specs.Locals.{local_at};
 ghost use Rattle.sts_machine.specs.Slice.{code_at, frame_at, steps_of};
@@ -21,7 +21,7 @@ ghost use Rattle.laws_runs.specs.Runs.{In};
 ghost use Rattle.laws_live.specs.Reading.{alive_at};
 
 use crate::journal::Journal;
-use crate::report::{Ending, PoolError, Report};
+use crate::report::{PoolError, Report};
 use laws_accepted::{every_run, stands_stay, turns_are_seen, views_are_within};
 use std::alloc::{AllocError, Global};
 use std::marker::Model;
@@ -343,65 +343,35 @@ impl<'p> Book<'p> {
         true
     }
 
-    /// The end of the root and the steps taken, with the number of workers, and with which events
-    /// from outside counted.
+    /// The end of the root, the steps taken and the journal, with the number of workers, and with
+    /// which events from outside counted.
     ///
     /// # Errors
     ///
     /// The root lives.
-    pub(crate) fn ending(&self, workers: u32, counted: Vec<bool>) -> Result<Ending, PoolError>
-        ensures report { IfOk result (λ r. (events : List AnyEvent) → MayBe self.now events
-            → IsReport self.now.program events r.end × (r.steps ≡ count_by is_step events)) }
-        ensures unfinished { OnErr result ((events : List AnyEvent) → MayBe self.now events
-            → IsUnfinished self.now.program events) }
+    pub(crate) fn report(
+        self,
+        alloc: Global,
+        workers: u32,
+        counted: Vec<bool>,
+    ) -> Result<Report, PoolError>
+        ensures report { IfOk result (λ r. (events : List AnyEvent) → MayBe self.entry events
+            → IsReport self.entry.program events r.end × (r.steps ≡ count_by is_step events)) }
+        ensures journal { IfOk result (λ r. r.journal.items ≡ unwrap_or self.entry.journal []) }
+        ensures unfinished { OnErr result ((events : List AnyEvent) → MayBe self.entry events
+            → IsUnfinished self.entry.program events) }
         ensures workers { IfOk result (λ r. r.workers ≡ workers) }
     {
         let Some(end) = self.machine.root_end() else {
             return Err(PoolError::Unfinished);
         };
-        Ok(Ending {
+        Ok(Report {
             end,
             steps: self.machine.steps(),
+            journal: self.journal.into_entries(alloc),
             workers,
             counted,
         })
-    }
-
-    /// The same with the journal.
-    ///
-    /// # Errors
-    ///
-    /// The root lives.
-    pub(crate) fn report(self, workers: u32, counted: Vec<bool>) -> Result<Report, PoolError>
-        requires { is_some self.journal ≡ true }
-        ensures report { IfOk result (λ r. IsReport self.entry.program r.journal.items r.end) }
-        ensures unfinished { OnErr result ((events : List AnyEvent) → MayBe self.entry events
-            → IsUnfinished self.entry.program events) }
-        ensures journal { IfOk result (λ r. self.entry.journal ≡ Some r.journal.items) }
-        ensures steps { IfOk result (λ r. r.steps ≡ count_by is_step r.journal.items) }
-        ensures workers { IfOk result (λ r. r.workers ≡ workers) }
-    {
-        let ending = self.ending(workers, counted);
-        let entries = self.into_entries();
-        let ending = ending?;
-        let Some(journal) = entries else {
-            unreachable!();
-        };
-        Ok(Report {
-            end: ending.end,
-            journal,
-            steps: ending.steps,
-            workers: ending.workers,
-            counted: ending.counted,
-        })
-    }
-
-    /// The entries of the journal, if they are written.
-    fn into_entries(self) -> Option<Vec<Event>>
-        ensures entries { option_map (λ v. v.items) result ≡ self.entry.journal }
-        ensures may { IfSome result (λ v. MayBe self.entry v.items) }
-    {
-        self.journal.into_entries()
     }
 
     /// Is there a task that can step and isn't out?

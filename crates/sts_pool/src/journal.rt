@@ -1,6 +1,6 @@
 //! The journal of a run: its entries, or only their number if they aren't asked for.
 
-ghost use Rattle.std.specs.Prelude.{◌≡◌, ◌∷◌, [], IfOk, IfSome, option_map};
+ghost use Rattle.std.specs.Prelude.{◌≡◌, ◌∷◌, [], IfOk, IfSome, unwrap_or};
 ghost use Rattle.sts_machine.specs.Slice.{steps_of};
 ghost use Rattle.sts_pool.specs.Journal as def;
 
@@ -45,12 +45,12 @@ impl Journal {
     }
 
     /// The entries, if they are written, taken out.
-    pub(crate) fn into_entries(self) -> Option<Vec<Event>>
-        ensures { option_map (λ v. v.items) result ≡ def.written self }
+    pub(crate) fn into_entries(self, alloc: Global) -> Vec<Event>
+        ensures { result.items ≡ unwrap_or (def.written self) [] }
     {
         match self {
-            Journal::Written(entries) => Some(entries),
-            Journal::Counted => None,
+            Journal::Written(entries) => entries,
+            Journal::Counted => Vec::new(alloc),
         }
     }
 

@@ -12,5 +12,5 @@ mod workers;
 
 pub use book::{Book, OutsideFull, Stranger};
 pub use gate::{Gate, Outside};
-pub use report::{Ending, PoolError, Report};
-pub use workers::{run, run_unwritten};
+pub use report::{PoolError, Report};
+pub use workers::{run, run_with_journal};

@@ -5,21 +5,11 @@ use thiserror::Error;
 
 /// How the root ended, the journal that led there, how many steps it has, and how many workers
 /// joined the run. For each interrupt and expiry of the journal, in order, `counted` has whether it
-/// counted.
+/// counted. If the journal wasn't written, it is empty here.
 #[derive(Debug, Drop)]
 pub struct Report {
     pub end: End,
     pub journal: Vec<Event>,
-    pub steps: u64,
-    pub workers: u32,
-    pub counted: Vec<bool>,
-}
-
-/// How the root ended, how many steps were taken, how many workers joined the run, and for each
-/// event from outside that came, in order, whether it counted.
-#[derive(Debug, Drop)]
-pub struct Ending {
-    pub end: End,
     pub steps: u64,
     pub workers: u32,
     pub counted: Vec<bool>,

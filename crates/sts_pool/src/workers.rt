@@ -5,12 +5,12 @@ ghost use Rattle.sts_model.specs.Run.{is_step};
 ghost use Rattle.sts_pool.specs.Asked.{HasGiven};
 ghost use Rattle.sts_pool.specs.Book.{IsJournal};
 ghost use Rattle.sts_pool.specs.Outside.{IsGiven};
-ghost use Rattle.sts_pool.specs.Report.{EndsUnfinished, IsEnding, IsReport};
+ghost use Rattle.sts_pool.specs.Report.{EndsUnfinished, IsReport, IsReportOf};
 
 use crate::asked::{Asked, Runs};
 use crate::book::Book;
 use crate::gate::{Gate, Outside};
-use crate::report::{Ending, PoolError, Report};
+use crate::report::{PoolError, Report};
 use crate::tasks::Batch;
 use arrayvec::ArrayVec;
 use std::alloc::Global;
@@ -163,38 +163,27 @@ pub fn run<R: Threads + Wait + Sync, G: Gate + Sync, O: Outside + Send + Drop>(
     ensures unfinished { IfErr result (λ e. e ≡ PoolError.Unfinished
         → EndsUnfinished verified.now (IsGiven O.gives outside)) }
 {
-    let stacks = &[STACK; 16][..workers as usize];
-    let Ok(counted) = Vec::with_capacity(alloc, MAX_OUTSIDE as usize) else {
-        return Err(PoolError::Memory);
-    };
-    let Ok(book) = Book::start(alloc, verified) else {
-        return Err(PoolError::Memory);
-    };
-    let left = run_on::<Brand, R, G, O>(rt, book, counted, stacks, gate, outside)?;
-    let Left {
-        book,
-        counted,
-        workers,
-    } = left;
-    book.report(workers, counted)
+    run_with_journal(rt, alloc, verified, workers, gate, outside, true)
 }
 
-/// Does what `run` does, but writes no journal: how the root ended, and the steps taken.
+/// Does what `run` does, but writes the journal only if `is_written` is true. Otherwise the journal
+/// of the report is empty, and the rest of the report is that of some journal.
 ///
 /// # Errors
 ///
 /// Those of `run`.
-pub fn run_unwritten<R: Threads + Wait + Sync, G: Gate + Sync, O: Outside + Send + Drop>(
+pub fn run_with_journal<R: Threads + Wait + Sync, G: Gate + Sync, O: Outside + Send + Drop>(
     rt: &R,
     alloc: Global,
     verified: &Verified,
     workers: u32,
     gate: &G,
     outside: O,
-) -> Result<Ending, PoolError>
+    is_written: bool,
+) -> Result<Report, PoolError>
     requires { (1 ≤ workers) × (workers ≤ 16) }
-    ensures ending { IfOk result (λ r.
-        IsEnding verified.now (IsGiven O.gives outside) r.end r.steps) }
+    ensures report { IfOk result
+        (IsReportOf is_written verified.now (IsGiven O.gives outside)) }
     ensures workers { IfOk result (λ r. r.workers ≡ workers) }
     ensures unfinished { IfErr result (λ e. e ≡ PoolError.Unfinished
         → EndsUnfinished verified.now (IsGiven O.gives outside)) }
@@ -203,7 +192,7 @@ pub fn run_unwritten<R: Threads + Wait + Sync, G: Gate + Sync, O: Outside + Send
     let Ok(counted) = Vec::with_capacity(alloc, MAX_OUTSIDE as usize) else {
         return Err(PoolError::Memory);
     };
-    let Ok(book) = Book::with_journal(alloc, verified, false) else {
+    let Ok(book) = Book::with_journal(alloc, verified, is_written) else {
         return Err(PoolError::Memory);
     };
     let left = run_on::<Brand, R, G, O>(rt, book, counted, stacks, gate, outside)?;
@@ -212,7 +201,7 @@ pub fn run_unwritten<R: Threads + Wait + Sync, G: Gate + Sync, O: Outside + Send
         counted,
         workers,
     } = left;
-    book.ending(workers, counted)
+    book.report(alloc, workers, counted)
 }
 
 /// The result of all workers: the book, which events from outside counted, and how many workers

@@ -9,21 +9,18 @@ use Rattle.sts_model.specs.Living.{lives}
 use Rattle.sts_model.specs.Run.{apply, counts}
 use Rattle.sts_model.specs.World.{World, State, Running, Faulted, opening, task_at}
 use Rattle.sts_trace.specs.Spelling.{event_text}
+use Rattle.sts_output.specs.Printed.{rest_words}
 
 -- ---- why an event does nothing
-
--- why a task can't step, or why it can't be interrupted
-abbrev pub rest_words : World → ℕ → List ℕ
-rest_words w t =
-    if lives (task_at w t) then codes " waits"
-    else (if (task_at w t).started then codes " has ended" else codes " never starts")
 
 abbrev pub has_task : World → ℕ → Bool
 has_task w t = nat_lt t (length w.tasks)
 
 abbrev pub task_reason : World → ℕ → List ℕ
 task_reason w t =
-    if has_task w t then codes "task " ++ decimal t ++ rest_words w t ++ codes " then"
+    if has_task w t
+    then codes "task " ++ decimal t ++ rest_words (lives (task_at w t)) (task_at w t).started
+    ++ codes " then"
     else codes "there is no task " ++ decimal t ++ codes " then"
 
 abbrev pub has_scope : World → ℕ → Bool

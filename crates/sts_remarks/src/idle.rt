@@ -15,13 +15,6 @@ use sts_output::printed;
 use sts_plain::{Position, can_step};
 use sts_world::{Records, World};
 
-/// Why a task can't step, or why it can't be interrupted.
-fn rest_words(records: &Records, t: u32) -> &'static str
-    ensures { result.now ≡ def.rest_words records.now t }
-{
-    printed::rest_words(records.lives(t), records.has_started(t))
-}
-
 fn has_task(records: &Records, t: u32) -> bool
     ensures { result ≡ def.has_task records.now t }
 {
@@ -39,7 +32,7 @@ fn say_task(out: &mut String, records: &Records, t: u32) -> Result<(), AllocErro
         ≡ string_bytes out.old ++ def.task_reason records.now t) }
 {
     if has_task(records, t) {
-        let words = rest_words(records, t);
+        let words = printed::rest_words(records.lives(t), records.has_started(t));
         write!(out, "task {t}{words} then")
     } else {
         write!(out, "there is no task {t} then")

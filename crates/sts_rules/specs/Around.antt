@@ -1,13 +1,12 @@
 -- The places that an instruction may lead to, and the loops around a place (this project's own).
-use Rattle.std.specs.Prelude.{ℕ, ◌+◌, List, [], ◌∷◌, ◌++◌, Bool, true, false, ◌&&◌, Option, Some}
+use Rattle.std.specs.Prelude.{ℕ, ◌+◌, List, [], ◌∷◌, Bool, true, false, ◌&&◌, Option, Some}
 use Rattle.std.specs.Prelude.{None, nat_le, reverse, filter, drop, option_map, option_to_list}
-use Rattle.std.specs.Prelude.{slice_index_or, if◌then◌else◌}
+use Rattle.std.specs.Prelude.{if◌then◌else◌}
 use Rattle.std.specs.List.{range_with_len}
 use Rattle.sts_code.specs.Facts.{falls_through}
 use Rattle.sts_code.specs.Program.{instr_at}
 use Rattle.sts_code.specs.declared.instr.Instr.{Instr}
-use Rattle.sts_code.specs.declared.instr.Instr.TheVariants.{Div, Jmp, Jz, Times, Next, Join, Case}
-use Rattle.sts_code.specs.declared.instr.Instr.TheVariants.{Ret, Fail}
+use Rattle.sts_code.specs.declared.instr.Instr.TheVariants.{Times, Next}
 use Rattle.sts_code.specs.Loops.{match_of, is_times}
 
 abbrev pub next_place : ℕ → Instr → List ℕ

@@ -4,16 +4,12 @@ use Rattle.std.specs.Prelude.{is_some, count_by}
 use Rattle.sts_env.specs.Environments.{Records, IsWhole, keys_of}
 use Rattle.sts_tree.specs.Forest.{root}
 use Rattle.sts_tree.specs.declared.record.TaskNode.{TaskNode}
-use Rattle.std.specs.Prelude.{filter_map, replicate, slice_index_or}
-use Rattle.std.specs.List.{list_any}
+use Rattle.std.specs.Prelude.{replicate, slice_index_or}
 use Rattle.std.proofs.lemmas.Option.{same_Some}
-use Rattle.sts_model.specs.Environment.{bound_of}
 use Rattle.sts_model.specs.Live.{Live}
-use Rattle.sts_model.specs.Misuse.{is_binding, is_entry_of, slot}
+use Rattle.sts_model.specs.Misuse.{is_binding}
 use Rattle.sts_model.specs.declared.record.Bound.{Bound}
 use Rattle.sts_model.specs.declared.record.Slot.TheVariants.{Empty}
-use Rattle.laws_live.specs.Reading.{live_task_at, lives_in}
-use Rattle.laws_live.specs.Order.{InOrder, IsInside, LivesInOrder}
 use Rattle.sts_model.specs.declared.record.Entry.{Entry}
 use Rattle.sts_model.specs.declared.record.Frame.{Frame}
 use Rattle.sts_store.specs.declared.running.Running.{Running}
@@ -76,33 +72,3 @@ empty_slot : (n x : ℕ) → slice_index_or (replicate n Empty) x Empty ≡ Empt
 empty_slot zero x = refl
 empty_slot (suc n) zero = refl
 empty_slot (suc n) (suc x) = empty_slot n x
-
--- it is in order, since its slots are empty and its entries are those bindings
-pub root_in_order : (f : Frame) (env : List Bound) (n : ℕ) → f.slots ≡ replicate n Empty → ((s : ℕ) → list_any (is_entry_of s) f.entries ≡ false) → env ≡ filter_map bound_of f.entries ++ [] → InOrder (root_bound f env)
-root_in_order f env n slots entries bound =
-    record {
-      alive = alive;
-      held = λ s e. cc;
-      inside = inside;
-      root = refl;
-    }
-  where
-    nothing : (x : ℕ) → slot f x ≡ Empty
-    nothing x = ap (λ l. slice_index_or l x Empty) slots ∙ empty_slot n x
-
-    inside : (u s : ℕ) → (live_task_at (root_bound f env) u).scope ≡ Some s → IsInside (root_bound f env) u s
-    inside zero s e = cc
-    inside (suc u) s e = cc
-
-    alive : (t : ℕ) → lives_in (root_bound f env) t ≡ true → LivesInOrder (root_bound f env) t
-    alive zero e =
-        record {
-          own = λ x s q. let h = nothing x in cc;
-          lent = λ x s q. let h = nothing x in cc;
-          sub = λ x u q. let h = nothing x in cc;
-          entered = λ s q. let h = entries s in cc;
-          once = λ s q. let h = entries s in cc;
-          environment = bound;
-          state = refl;
-        }
-    alive (suc t) e = cc

@@ -3,7 +3,7 @@ use Rattle.std.proofs.Common.{◌≡◌, ℕ, ◌<◌, ◌≤◌, List, [], ◌�
 use Rattle.std.specs.Prelude.{is_some, unwrap_or, count_by}
 use Rattle.sts_env.specs.Environments.{Records, IsWhole, keys_of}
 use Rattle.sts_env.specs.Sharing as env
-use Rattle.sts_env.specs.Sharing.{Sharing, IsSharing, IsLastBinding, IsUnshared, FrontIsUnshared}
+use Rattle.sts_env.specs.Sharing.{Sharing, IsSharing, IsUnshared, FrontIsUnshared}
 use Rattle.sts_model.specs.Misuse.{is_binding}
 use Rattle.sts_store.specs.Sharing.{Shares, Holder, Keeper, keys_kept, inherited, home_at, behind}
 use Rattle.sts_store.specs.Parts.{no_running}

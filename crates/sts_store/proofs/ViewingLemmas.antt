@@ -28,7 +28,7 @@ use Rattle.sts_tree.specs.Reading.{lives_at}
 use Rattle.sts_tree.specs.Steps.{unmarked, seen, with_task, with_scope, can_step, can_go, is_over}
 use Rattle.sts_cancel.specs.Cancelling.{raise, raise_all, cancel, expire}
 use Rattle.laws_live.specs.Reading.{with_live_task, with_live_scope, task_in, scope_in}
-use Rattle.laws_live.specs.Reading.{live_scope_at, live_task_at, no_live_task, no_live_scope}
+use Rattle.laws_live.specs.Reading.{live_scope_at, no_live_task, no_live_scope}
 use Rattle.laws_live.specs.Reading.{is_live_living, alive_at, no_alive, live_any_lives}
 use Rattle.laws_live.specs.Reading as reading
 use Rattle.laws_live.specs.Cancelling.{live_raise, live_raised, live_marked, live_cancel}

@@ -17,7 +17,6 @@ use Rattle.sts_tree.specs.declared.record.TaskNode.{TaskNode}
 use Rattle.sts_tree.specs.declared.record.TaskRecord.{TaskRecord}
 use Rattle.sts_tree.proofs.BirthLemmas.{not_in}
 use Rattle.sts_tree.proofs.ForkLemmas.{one_scope, lives_of}
-use Rattle.sts_tree.proofs.HoldingLemmas.{no_link}
 use Rattle.sts_tree.proofs.KeyLemmas.{has_not}
 use Rattle.sts_tree.proofs.Stores.{Stored, rekeyed, ready_is}
 
@@ -117,10 +116,6 @@ pub record Removes (first now : Holes TaskRecord) (keys : List ℕ) (n : ℕ) (a
   pub keys_stay : now.keys ≡ first.keys
   pub room : now.room ≡ first.room + n
 
-pub removes_first : (first : Holes TaskRecord) (list : Ends) (keys : List ℕ) → IsList (link_at first.slots 0) list keys → Removes first first keys 0 list.first
-removes_first first list keys is =
-    record { rest = keys; before = None; next = is.first; linked = is.linked; distinct = is.distinct; count = omega arith; slots = refl; keys_stay = refl; room = omega arith }
-
 -- the next one
 pub record Next (now : Holes TaskRecord) (t : ℕ) (rest : List ℕ) : Type 0 where
   pub later : List ℕ
@@ -129,14 +124,6 @@ pub record Next (now : Holes TaskRecord) (t : ℕ) (rest : List ℕ) : Type 0 wh
 next_of : (now : Holes TaskRecord) (t : ℕ) (rest : List ℕ) → Some t ≡ first_or rest None → Next now t rest
 next_of now t [] e = cc
 next_of now t (k ∷ ks) e = let s : k ≡ t = cc in record { later = ks; rest_is = rw s refl }
-
-pub has_next : (first now : Holes TaskRecord) (keys : List ℕ) (n t : ℕ) → Removes first now keys n (Some t) → get_or now.slots t None ≢ None
-has_next first now keys n t r none =
-    let x = next_of now t r.rest r.next in
-    let linked : AreLinked (link_at now.slots 0) r.before (t ∷ x.later) None = rw x.rest_is at r.linked in
-    let e = linked.0 in
-    let gone = no_link now.slots 0 t none in
-    cc
 
 pub removes_next : (first now new : Holes TaskRecord) (keys : List ℕ) (n t : ℕ) (r : TaskRecord) (at : Option ℕ) → Removes first now keys n (Some t) → get_or now.slots t None ≡ Some r → new.slots ≡ set now.slots t None → new.keys ≡ now.keys → new.room ≡ now.room + 1 → at ≡ (get_or r.links 0 (record { before = None; after = None })).after → Removes first new keys (suc n) at
 removes_next first now new keys n t r at i is same same_keys more at_is =
@@ -179,9 +166,6 @@ all_removed first now keys n at r none =
     let count : n + 0 ≡ length keys = rw none at r.count in
     let room = r.room in
     record { slots = slots; keys_stay = r.keys_stay; room = omega (arith, count, room) }
-
-pub removed_end : (first now : Holes TaskRecord) (keys : List ℕ) (n : ℕ) (at : Option ℕ) → Removes first now keys n at → n ≡ length keys → Removed first now keys
-removed_end first now keys n at r e = let count = r.count in all_removed first now keys n at r (empty r.rest (omega (arith, count, e)))
 
 pub removed_none : (first now : Holes TaskRecord) (keys : List ℕ) (n : ℕ) (at : Option ℕ) → Removes first now keys n at → at ≡ None → Removed first now keys
 removed_none first now keys n at r e = all_removed first now keys n at r (none_next r.rest (sym e ∙ r.next))

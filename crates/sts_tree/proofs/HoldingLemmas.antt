@@ -1,12 +1,11 @@
 -- Lists by birth with holes: one record changed, and the view of each.
-use Rattle.std.proofs.Common.{◌≡◌, ◌≢◌, ℕ, zero, suc, ◌<◌, List, [], ◌∷◌, length, map, Option, Some, None, refl, sym, ◌∙◌, ap, arith, get_or, set, nat_lt, true}
-use Rattle.std.proofs.lemmas.Bool.Decides.{nat_tests}
+use Rattle.std.proofs.Common.{◌≡◌, ◌≢◌, ℕ, zero, suc, ◌<◌, List, [], ◌∷◌, length, map, Option, Some, None, refl, sym, ◌∙◌, ap, arith, get_or, set, true}
 use Rattle.std.proofs.lemmas.List.{map-set, set-get_or}
 use Rattle.std.specs.Prelude.{option_map}
 use Rattle.sts_records.specs.Holes.{key_at}
 use Rattle.laws_words.proofs.OptionLemmas.{some_mapped}
 use Rattle.sts_tree.specs.declared.record.TaskRecord.{TaskRecord}
-use Rattle.sts_tree.specs.Stored.{link_of, link_at}
+use Rattle.sts_tree.specs.Stored.{link_at}
 
 -- what is seen of each record
 pub map_at : {A B : Type 0} → (f : A → B) (xs : List (Option A)) (k : ℕ) → get_or (map (option_map f) xs) k None ≡ option_map f (get_or xs k None)
@@ -27,14 +26,6 @@ pub inside_of : {A : Type 0} → (xs : List (Option A)) (k : ℕ) → get_or xs 
 inside_of [] k h = absurd (h refl)
 inside_of (x ∷ xs) zero h = omega arith
 inside_of (x ∷ xs) (suc k) h = let i = inside_of xs k h in omega (arith, i)
-
--- a record has a link in each of the three layers
-link_some : (l : ℕ) (o : Option TaskRecord) → l < 3 → o ≢ None → link_of l o ≢ None
-link_some l None less h = absurd (h refl)
-link_some l (Some r) less h = let q : nat_lt l 3 ≡ true = grind (arith, nat_tests) in rw q (λ e. cc)
-
-pub has_link : (slots : List (Option TaskRecord)) (l k : ℕ) → l < 3 → get_or slots k None ≢ None → link_at slots l k ≢ None
-has_link slots l k less h = link_some l (get_or slots k None) less h
 
 pub no_link : (slots : List (Option TaskRecord)) (l k : ℕ) → get_or slots k None ≡ None → link_at slots l k ≡ None
 no_link slots l k e = rw e refl

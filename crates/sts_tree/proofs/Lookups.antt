@@ -1,5 +1,5 @@
 -- Readings of the lists.
-use Rattle.std.proofs.Common.{◌≡◌, ◌≢◌, ℕ, zero, suc, ◌<◌, ◌≤◌, List, [], ◌∷◌, ◌++◌, length, Option, Some, None, refl, sym, ◌∙◌, ap, arith, get_or, false}
+use Rattle.std.proofs.Common.{◌≡◌, ◌≢◌, ℕ, ◌<◌, ◌≤◌, List, [], ◌∷◌, ◌++◌, length, Option, Some, None, refl, sym, ◌∙◌, ap, arith, get_or, false}
 use Rattle.std.proofs.lemmas.List.{length-map}
 use Rattle.std.specs.Prelude.{option_map}
 use Rattle.sts_links.specs.Lists.{first_or, IsList}
@@ -9,10 +9,12 @@ use Rattle.sts_model.specs.Living.{is_in}
 use Rattle.sts_tree.specs.Births.{births}
 use Rattle.sts_tree.specs.Stored.{task_of, tasks_of, link_at}
 use Rattle.sts_tree.specs.Forest.{is_of, lives_in, families_of, family_of}
-use Rattle.sts_tree.specs.Layers.{listed, list_in}
+use Rattle.sts_tree.specs.Layers.{layer_of, listed, list_in}
 use Rattle.sts_tree.specs.declared.record.TaskNode.{TaskNode}
 use Rattle.sts_tree.specs.declared.record.TaskRecord.{TaskRecord}
 use Rattle.sts_tree.specs.declared.record.ScopeRecord.{ScopeRecord}
+use Rattle.sts_tree.specs.declared.record.Subtasks.{Subtasks}
+use Rattle.sts_tree.specs.declared.record.Subtasks.TheVariants.{All, Living}
 use Rattle.sts_tree.proofs.BirthLemmas.{births_none}
 use Rattle.sts_tree.proofs.ForkLemmas.{not_lives_of, other_scope}
 use Rattle.sts_tree.proofs.HoldingLemmas.{map_at, inside_of, no_link}
@@ -55,25 +57,20 @@ no_middle : (front : List ℕ) (key : ℕ) (back : List ℕ) → [] ≡ front ++
 no_middle [] key back e = cc
 no_middle (x ∷ front) key back e = cc
 
--- the births in the list of a scope without a record, in either layer
-pub none_in : {E : Type 0} → (m : ℕ) (slots : List (Option TaskRecord)) (rows : List (Option (ScopeRecord E))) (ready : Ends) (room s : ℕ) → Stored slots (families_of rows) ready room → get_or rows s None ≡ None → births (listed m s) 0 (tasks_of slots) ≡ []
-none_in zero slots rows ready room s i none = no_subtasks slots rows ready room s i none
-none_in (suc m) slots rows ready room s i none = no_living slots rows ready room s i none
+-- the births in a list of a scope without a record
+pub none_in : {E : Type 0} → (subtasks : Subtasks) (slots : List (Option TaskRecord)) (rows : List (Option (ScopeRecord E))) (ready : Ends) (room s : ℕ) → Stored slots (families_of rows) ready room → get_or rows s None ≡ None → births (listed subtasks s) 0 (tasks_of slots) ≡ []
+none_in All slots rows ready room s i none = no_subtasks slots rows ready room s i none
+none_in Living slots rows ready room s i none = no_living slots rows ready room s i none
 
-pub other_list : {E : Type 0} → (m : ℕ) (row : ScopeRecord E) → m ≢ 0 → row.living ≡ list_in m row
-other_list zero row ne = absurd (ne refl)
-other_list (suc m) row ne = refl
-
--- the list of a scope with a record
-pub row_in : {E : Type 0} → (m : ℕ) (slots : List (Option TaskRecord)) (rows : List (Option (ScopeRecord E))) (ready : Ends) (room s : ℕ) (row : ScopeRecord E) → m < 2 → Stored slots (families_of rows) ready room → get_or rows s None ≡ Some row → IsList (link_at slots m) (list_in m row) (births (listed m s) 0 (tasks_of slots))
-row_in zero slots rows ready room s row less i is = i.forks s (family_of row) (family_at rows s row is)
-row_in (suc zero) slots rows ready room s row less i is = i.living s (family_of row) (family_at rows s row is)
-row_in (suc (suc m)) slots rows ready room s row less i is = absurd (omega (arith, less))
+-- a list of a scope with a record
+pub row_in : {E : Type 0} → (subtasks : Subtasks) (slots : List (Option TaskRecord)) (rows : List (Option (ScopeRecord E))) (ready : Ends) (room s : ℕ) (row : ScopeRecord E) → Stored slots (families_of rows) ready room → get_or rows s None ≡ Some row → IsList (link_at slots (layer_of subtasks)) (list_in subtasks row) (births (listed subtasks s) 0 (tasks_of slots))
+row_in All slots rows ready room s row i is = i.forks s (family_of row) (family_at rows s row is)
+row_in Living slots rows ready room s row i is = i.living s (family_of row) (family_at rows s row is)
 
 -- the list of a subtask's scope
-pub list_of : {E : Type 0} → (m : ℕ) (slots : List (Option TaskRecord)) (rows : List (Option (ScopeRecord E))) (ready : Ends) (room s t : ℕ) (front back : List ℕ) → m < 2 → Stored slots (families_of rows) ready room → births (listed m s) 0 (tasks_of slots) ≡ front ++ t ∷ back → (list : Ends) × IsList (link_at slots m) list (front ++ t ∷ back)
-list_of {E} m slots rows ready room s t front back less i e = by (get_or rows s None) refl
+pub list_of : {E : Type 0} → (subtasks : Subtasks) (slots : List (Option TaskRecord)) (rows : List (Option (ScopeRecord E))) (ready : Ends) (room s t : ℕ) (front back : List ℕ) → Stored slots (families_of rows) ready room → births (listed subtasks s) 0 (tasks_of slots) ≡ front ++ t ∷ back → (list : Ends) × IsList (link_at slots (layer_of subtasks)) list (front ++ t ∷ back)
+list_of {E} subtasks slots rows ready room s t front back i e = by (get_or rows s None) refl
   where
-    by : (o : Option (ScopeRecord E)) → get_or rows s None ≡ o → (list : Ends) × IsList (link_at slots m) list (front ++ t ∷ back)
-    by None q = absurd (no_middle front t back (sym (none_in m slots rows ready room s i q) ∙ e))
-    by (Some row) q = (list_in m row, rw (← e) (row_in m slots rows ready room s row less i q))
+    by : (o : Option (ScopeRecord E)) → get_or rows s None ≡ o → (list : Ends) × IsList (link_at slots (layer_of subtasks)) list (front ++ t ∷ back)
+    by None q = absurd (no_middle front t back (sym (none_in subtasks slots rows ready room s i q) ∙ e))
+    by (Some row) q = (list_in subtasks row, rw (← e) (row_in subtasks slots rows ready room s row i q))

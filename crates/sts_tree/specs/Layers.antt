@@ -1,16 +1,22 @@
--- The lists of a scope's subtasks, by the layer of their links: in layer 0 all subtasks, in layer 1
--- the living ones (this project's own).
-use Rattle.std.specs.Prelude.{ℕ, zero, suc, Bool}
+-- The lists of a scope's subtasks: of all of them, and of the living ones (this project's own).
+use Rattle.std.specs.Prelude.{ℕ, Bool}
 use Rattle.sts_links.specs.declared.links.Ends.{Ends}
 use Rattle.sts_tree.specs.Forest.{is_of, lives_in}
 use Rattle.sts_tree.specs.declared.record.TaskNode.{TaskNode}
 use Rattle.sts_tree.specs.declared.record.ScopeRecord.{ScopeRecord}
+use Rattle.sts_tree.specs.declared.record.Subtasks.{Subtasks}
+use Rattle.sts_tree.specs.declared.record.Subtasks.TheVariants.{All, Living}
 
--- is the task in the list of the scope s in this layer?
-abbrev pub listed : ℕ → ℕ → TaskNode → Bool
-listed zero s = is_of s
-listed (suc m) s = lives_in s
+-- the layer of the links in this list
+abbrev pub layer_of : Subtasks → ℕ
+layer_of All = 0
+layer_of Living = 1
 
-abbrev pub list_in : {E : Type 0} → ℕ → ScopeRecord E → Ends
-list_in zero row = row.forks
-list_in (suc m) row = row.living
+-- is the task in this list of the scope s?
+abbrev pub listed : Subtasks → ℕ → TaskNode → Bool
+listed All s = is_of s
+listed Living s = lives_in s
+
+abbrev pub list_in : {E : Type 0} → Subtasks → ScopeRecord E → Ends
+list_in All row = row.forks
+list_in Living row = row.living

@@ -12,7 +12,7 @@ ghost use Rattle.laws_words.specs.Keys.{NotIn};
 ghost use Rattle.sts_tree.specs.declared.record.TaskNode.{TaskNode as AnyTask};
 
 use crate::ending::{Ended, tell};
-use crate::record::{Mark, ScopeNode, ScopeRecord, TaskNode, TaskRecord};
+use crate::record::{Mark, ScopeNode, ScopeRecord, Subtasks, TaskNode, TaskRecord};
 use crate::tasks::Tasks;
 use std::alloc::{AllocError, Global};
 use std::marker::Model;
@@ -496,30 +496,27 @@ impl<E: Drop> Forest<E> {
         }
     }
 
-    /// The first subtask of a scope in the list of this layer: in layer 0 of all its subtasks, in
-    /// layer 1 of those that live. The list is in fork order.
+    /// The first of these subtasks of a scope, in fork order.
     #[inline(always)]
-    pub fn front_in(&self, layer: u8, s: u32) -> Option<u32>
-        requires { layer < 2 }
-        ensures { result ≡ first_or (births (listed layer s) 0 self.now.tasks) None }
+    pub fn front_in(&self, subtasks: Subtasks, s: u32) -> Option<u32>
+        ensures { result ≡ first_or (births (listed subtasks s) 0 self.now.tasks) None }
     {
         match self.scopes.get(s as usize) {
             None => None,
-            Some(row) => small(row.list(layer).first),
+            Some(row) => small(row.list(subtasks).first),
         }
     }
 
-    /// The next subtask of its scope in the list of this layer.
+    /// The next of these subtasks of its scope, in fork order.
     #[inline(always)]
-    pub fn after_in(&self, layer: u8, t: u32) -> Option<u32>
-        requires layer { layer < 2 }
-        requires list { (s : ℕ) × (front : List ℕ) × (back : List ℕ)
-            × (births (listed layer s) 0 self.now.tasks ≡ front ++ t ∷ back) }
+    pub fn after_in(&self, subtasks: Subtasks, t: u32) -> Option<u32>
+        requires { (s : ℕ) × (front : List ℕ) × (back : List ℕ)
+            × (births (listed subtasks s) 0 self.now.tasks ≡ front ++ t ∷ back) }
         ensures { (s : ℕ) (front back : List ℕ) →
-            births (listed layer s) 0 self.now.tasks ≡ front ++ t ∷ back →
+            births (listed subtasks s) 0 self.now.tasks ≡ front ++ t ∷ back →
             result ≡ first_or back None }
     {
-        small(after(&self.tasks, layer, t as usize))
+        small(after(&self.tasks, subtasks.layer(), t as usize))
     }
 
     /// The next of the ready list.

@@ -12,7 +12,7 @@ ghost use Rattle.sts_model.specs.Told.{result_told};
 ghost use Rattle.sts_tree.specs.Reading.{count_of, lives_at};
 ghost use Rattle.sts_tree.specs.Steps as steps;
 
-use crate::record::{ScopeNode, TaskNode};
+use crate::record::{ScopeNode, Subtasks, TaskNode};
 use crate::tree::Tree;
 use sts_code::{Joiner, Kind};
 use sts_model::{End, Phase, Verdict};
@@ -204,7 +204,7 @@ impl<E: Drop> Tree<E> {
     pub fn fork_front(&self, s: u32) -> Option<u32>
         ensures { result ≡ first_or (births (is_of s) 0 self.now.tasks) None }
     {
-        self.forest.front_in(0, s)
+        self.forest.front_in(Subtasks::All, s)
     }
 
     /// The next subtask of its scope in fork order.
@@ -214,14 +214,14 @@ impl<E: Drop> Tree<E> {
         ensures { (s : ℕ) (front back : List ℕ) →
             births (is_of s) 0 self.now.tasks ≡ front ++ t ∷ back → result ≡ first_or back None }
     {
-        self.forest.after_in(0, t)
+        self.forest.after_in(Subtasks::All, t)
     }
 
     /// The first living subtask in fork order.
     pub fn living_front(&self, s: u32) -> Option<u32>
         ensures { result ≡ first_or (births (lives_in s) 0 self.now.tasks) None }
     {
-        self.forest.front_in(1, s)
+        self.forest.front_in(Subtasks::Living, s)
     }
 
     /// The next living subtask of its scope in fork order.
@@ -231,7 +231,7 @@ impl<E: Drop> Tree<E> {
         ensures { (s : ℕ) (front back : List ℕ) →
             births (lives_in s) 0 self.now.tasks ≡ front ++ t ∷ back → result ≡ first_or back None }
     {
-        self.forest.after_in(1, t)
+        self.forest.after_in(Subtasks::Living, t)
     }
 
     /// The key of a task's record, if it exists.

@@ -1,7 +1,7 @@
 //! The records of tasks and of scopes.
 
 ghost use Rattle.std.specs.Prelude.{◌≡◌};
-ghost use Rattle.sts_tree.specs.Layers.{list_in};
+ghost use Rattle.sts_tree.specs.Layers.{layer_of, list_in};
 ghost use Rattle.sts_tree.specs.Marks.{with_mark};
 
 use sts_joiners::Tally;
@@ -62,6 +62,26 @@ impl<E: Drop> ScopeNode<E> {
     }
 }
 
+/// Which subtasks of a scope are in a list, in fork order.
+#[derive(Clone, Copy)]
+pub enum Subtasks {
+    All,
+    Living,
+}
+
+impl Subtasks {
+    /// The layer of the links in this list.
+    #[inline(always)]
+    pub(crate) fn layer(self) -> u8
+        ensures { result ≡ layer_of self }
+    {
+        match self {
+            Subtasks::All => 0,
+            Subtasks::Living => 1,
+        }
+    }
+}
+
 /// A scope with the lists of its subtasks.
 #[derive(Drop)]
 pub(crate) struct ScopeRecord<E> {
@@ -72,11 +92,14 @@ pub(crate) struct ScopeRecord<E> {
 }
 
 impl<E: Drop> ScopeRecord<E> {
-    /// Returns the list in a layer: of all subtasks in layer 0, of the living ones in layer 1.
+    /// Returns the list of these subtasks.
     #[inline(always)]
-    pub(crate) fn list(&self, layer: u8) -> Ends
-        ensures { result ≡ list_in layer self.now }
+    pub(crate) fn list(&self, subtasks: Subtasks) -> Ends
+        ensures { result ≡ list_in subtasks self.now }
     {
-        if layer == 0 { self.forks } else { self.living }
+        match subtasks {
+            Subtasks::All => self.forks,
+            Subtasks::Living => self.living,
+        }
     }
 }

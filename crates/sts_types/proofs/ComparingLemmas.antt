@@ -19,7 +19,7 @@ use Rattle.sts_rules.specs.contracts.typing.TypedPhasePartialEq.TheImpl as phase
 use Rattle.sts_rules.specs.contracts.typing.TypedScopePartialEq.TheImpl as scope_eq
 use Rattle.sts_rules.specs.contracts.typing.TypedEntryPartialEq.TheImpl as entry_eq
 use Rattle.sts_rules.specs.contracts.typing.SlotKindPartialEq.TheImpl as slot_eq
-use Rattle.sts_code.proofs.EqualLemmas.{pred-to, pred-from, joiner-to, joiner-from, bool-to, bool-from}
+use Rattle.sts_code.proofs.EqualLemmas.{joiner-to, joiner-from, bool-to, bool-from}
 
 -- the test decides equality
 abbrev pub IsSame : {X : Type 0} → (X → X → Bool) → Type 0
@@ -43,9 +43,6 @@ loops_same = ((λ a b e. grind (arith)), λ a. grind arith)
 
 slots_same : IsSame slot_eq.eq-value.it
 slots_same = ((λ a b e. grind arith), λ a. grind arith)
-
-preds_same : IsSame pred_eq.eq-value.it
-preds_same = (pred-to, pred-from)
 
 joiners_same : IsSame joiner_eq.eq-value.it
 joiners_same = (joiner-to, joiner-from)

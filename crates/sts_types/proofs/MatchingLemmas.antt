@@ -177,39 +177,3 @@ nested code p q m n e is e' is' lt le = by (cases_lt m n)
         let two = inside code p m (q - 1) e is (omega arith) (omega arith) in
         let three : nexts_before code q + times_before code p < times_before code q + nexts_before code p = subst (λ x. nexts_before code x + times_before code p < times_before code x + nexts_before code p) z two in
         absurd (omega (arith, one, three, e.here))
-
--- two loops have two ends
-one_end : (code : List Instr) (p q m : ℕ) → Ends code p m → is_times (instr_at code p) ≡ true → Ends code q m → p < q → ⊥
-one_end code p q m e is e' lt =
-    let z : q - 1 + 1 ≡ q = omega arith in
-    let two = inside code p m (q - 1) e is (omega arith) (omega (arith, e'.after)) in
-    let three : nexts_before code q + times_before code p < times_before code q + nexts_before code p = subst (λ x. nexts_before code x + times_before code p < times_before code x + nexts_before code p) z two in
-    omega (arith, three, e.here, e'.here)
-
-pub mates : (code : List Instr) (p q m : ℕ) → Ends code p m → is_times (instr_at code p) ≡ true → Ends code q m → is_times (instr_at code q) ≡ true → p ≡ q
-mates code p q m e is e' is' = by (cases_lt p q) (cases_lt q p)
-  where
-    by : (p < q) ⊎ (q ≤ p) → (q < p) ⊎ (p ≤ q) → p ≡ q
-    by (inl lt) y = absurd (one_end code p q m e is e' lt)
-    by (inr ge) (inl lt) = absurd (one_end code q p m e' is' e lt)
-    by (inr ge) (inr le) = omega arith
-
--- the match of a `times` is a `next`
-pub ends_at_next : (code : List Instr) (p m : ℕ) → Ends code p m → is_times (instr_at code p) ≡ true → is_next (instr_at code m) ≡ true
-ends_at_next code p m e is =
-    let z : m - 1 + 1 ≡ m = omega (arith, e.after) in
-    let two = inside code p m (m - 1) e is (omega (arith, e.after)) (omega (arith, e.after)) in
-    let three : nexts_before code m + times_before code p < times_before code m + nexts_before code p = subst (λ x. nexts_before code x + times_before code p < times_before code x + nexts_before code p) z two in
-    let t = count_more is_times code m e.within in
-    let n = count_more is_next code m e.within in
-    by (is_next (instr_at code m)) refl three t n
-  where
-    by : (b : Bool) → is_next (instr_at code m) ≡ b
-        → nexts_before code m + times_before code p < times_before code m + nexts_before code p
-        → times_before code (m + 1) ≡ times_before code m + one_if (is_times (instr_at code m))
-        → nexts_before code (m + 1) ≡ nexts_before code m + one_if (is_next (instr_at code m))
-        → is_next (instr_at code m) ≡ true
-    by true is less t n = is
-    by false is less t n =
-        let none : one_if (is_next (instr_at code m)) ≡ 0 = rw is refl in
-        absurd (omega (arith, e.here, less, t, n, none))

@@ -8,7 +8,9 @@ use Rattle.look_page.proofs.shown.Goals as goal
 
 -- memory may run out for any request
 refused : (a : Asked) (text trace : List ℕ) → Prints a text trace memory_output
-refused (asked.Mode mode) text trace = inr refl
+refused asked.Verify text trace = inr refl
+refused asked.List text trace = inr refl
+refused asked.Plain text trace = inr refl
 refused (asked.View wanted) text trace = inr refl
 refused (asked.NamedView wanted) text trace = inr refl
 refused asked.Explanation text trace = inr refl

@@ -40,7 +40,7 @@ fn run(alloc: Global, verified: &Verified, events: &[Event]) -> Result<Output, A
 /// # Errors
 ///
 /// The text or the trace has a fault, the program is refused, or memory ran out.
-pub fn replayed(alloc: Global, text: &[u8], trace: &[u8]) -> Result<Output, Stopped<Output>>
+pub fn replayed(alloc: Global, text: &[u8], trace: &[u8]) -> Result<Output, Stopped>
     ensures { Prints result (def.ReplayShows (judged text.now) trace.now) }
 {
     let program = program_of(alloc, text)?;

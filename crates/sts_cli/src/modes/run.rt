@@ -1,6 +1,6 @@
 //! Mode `run`: workers bring an accepted program to its end.
 
-ghost use Rattle.std.specs.Prelude.{◌≡◌, ◌≤◌, ◌++◌, ℕ, IfOk, OnOk, [], length};
+ghost use Rattle.std.specs.Prelude.{◌≡◌, ◌≤◌, ◌++◌, IfOk, OnOk, length};
 ghost use Rattle.std.specs.String.{string_bytes};
 ghost use Rattle.sts_asm.specs.Text.{judged};
 ghost use Rattle.sts_trace.specs.Reading.{outside_read};
@@ -17,7 +17,7 @@ use sts_asm::assemble;
 use sts_code::{MAX_OUTSIDE, Program};
 use sts_model::{End, Event};
 use sts_output::{Output, accepted, output, printed, verify};
-use sts_pool::{Ending, Gate, PoolError, Report, run, run_unwritten};
+use sts_pool::{Gate, PoolError, Report, run_with_journal};
 use sts_trace::read_outside;
 use sts_verify::Verified;
 
@@ -65,35 +65,6 @@ fn alone(alloc: Global, output: Output) -> Ran
     }
 }
 
-/// How an accepted program ended, with its journal if that is kept.
-fn report<R: Threads + Wait + Sync>(
-    rt: &R,
-    alloc: Global,
-    verified: &Verified,
-    manner: Manner,
-    dues: Dues,
-) -> Result<Report, PoolError>
-    requires few { length dues ≤ MAX_OUTSIDE }
-    ensures { IfOk result (def.IsReportOf manner.kept verified.now dues) }
-{
-    if manner.kept {
-        return run(rt, alloc, verified, manner.workers, &Open, dues);
-    }
-    let Ending {
-        end,
-        steps,
-        workers,
-        counted,
-    } = run_unwritten(rt, alloc, verified, manner.workers, &Open, dues)?;
-    Ok(Report {
-        end,
-        journal: Vec::new(alloc),
-        steps,
-        workers,
-        counted,
-    })
-}
-
 /// Appends how the root ended, and the steps.
 fn say_end(out: &mut String, end: End, steps: u64) -> Result<(), AllocError>
     ensures { OnOk result (string_bytes out.new
@@ -113,10 +84,7 @@ fn reported(budgets: String, report: Report) -> Result<Ran, AllocError>
     let mut text = budgets;
     say_end(&mut text, report.end, report.steps)?;
     Ok(Ran {
-        output: Output {
-            text,
-            status: output::end_status(report.end),
-        },
+        output: Output::of(text, output::end_status(report.end)),
         journal: report.journal,
         came: Some(Came::new(report.counted, report.steps)),
     })
@@ -132,7 +100,7 @@ fn unreported(alloc: Global, error: PoolError) -> Result<Ran, AllocError>
         PoolError::Unfinished => "error unfinished\n",
     };
     let text = line.to_string(alloc)?;
-    Ok(alone(alloc, Output { text, status: 6 }))
+    Ok(alone(alloc, Output::of(text, 6)))
 }
 
 /// Runs an accepted program.
@@ -147,7 +115,15 @@ fn run_accepted<R: Threads + Wait + Sync>(
     ensures { IfOk result (def.Holds manner.kept (def.IsRun verified.now dues)) }
 {
     let budgets = verify::lines(alloc, verified)?;
-    match report(rt, alloc, verified, manner, dues) {
+    match run_with_journal(
+        rt,
+        alloc,
+        verified,
+        manner.workers,
+        &Open,
+        dues,
+        manner.kept,
+    ) {
         Ok(report) => reported(budgets, report),
         Err(error) => unreported(alloc, error),
     }

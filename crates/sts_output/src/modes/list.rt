@@ -14,12 +14,10 @@ use std::alloc::Global;
 /// # Errors
 ///
 /// The text has a fault, or memory ran out.
-pub fn listed(alloc: Global, text: &[u8]) -> Result<Output, Stopped<Output>>
+pub fn listed(alloc: Global, text: &[u8]) -> Result<Output, Stopped>
     ensures { Prints result (λ o. o ≡ def.list_output (judged text.now)) }
 {
     let program = program_of(alloc, text)?;
-    Ok(Output {
-        text: sts_list::list(alloc, &program)?,
-        status: 0,
-    })
+    let listing = sts_list::list(alloc, &program)?;
+    Ok(Output::of(listing, 0))
 }

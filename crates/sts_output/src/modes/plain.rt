@@ -27,7 +27,7 @@ fn run(alloc: Global, program: &Program, events: &[Event]) -> Result<Output, All
 /// # Errors
 ///
 /// The text or the trace has a fault, or memory ran out.
-pub fn after_trace(alloc: Global, text: &[u8], trace: &[u8]) -> Result<Output, Stopped<Output>>
+pub fn after_trace(alloc: Global, text: &[u8], trace: &[u8]) -> Result<Output, Stopped>
     ensures { Prints result (λ o. o ≡ def.plain_output (judged text.now) trace.now) }
 {
     let program = program_of(alloc, text)?;

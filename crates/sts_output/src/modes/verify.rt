@@ -51,7 +51,7 @@ fn told(alloc: Global, verified: &Verified) -> Result<Output, AllocError>
     ensures { IfOk result (λ o. def.IsVerdict verified.now o) }
 {
     let text = lines(alloc, verified)?;
-    Ok(Output { text, status: 0 })
+    Ok(Output::of(text, 0))
 }
 
 /// Assembles the text and verifies the program.
@@ -59,7 +59,7 @@ fn told(alloc: Global, verified: &Verified) -> Result<Output, AllocError>
 /// # Errors
 ///
 /// The text has a fault, the program is refused, or memory ran out.
-pub fn verified(alloc: Global, text: &[u8]) -> Result<Output, Stopped<Output>>
+pub fn verified(alloc: Global, text: &[u8]) -> Result<Output, Stopped>
     ensures { Prints result (def.VerifyShows (judged text.now)) }
 {
     let program = program_of(alloc, text)?;

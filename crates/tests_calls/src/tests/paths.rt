@@ -6,7 +6,7 @@ use std::process::Abort;
 use std::sync::Wait;
 use std::thread::Threads;
 use sts_model::{End, Event};
-use sts_pool::{Ending, Gate, Outside, Report, run, run_unwritten};
+use sts_pool::{Gate, Outside, Report, run, run_with_journal};
 
 /// Is the journal of a run written?
 #[derive(Clone, Copy, Debug)]
@@ -48,13 +48,13 @@ fn reported(report: &Report) -> Outcome {
 }
 
 /// Returns what came of a run whose journal wasn't written.
-fn counted(ending: &Ending) -> Outcome {
-    let came = ending.counted.len() as u64;
+fn counted(report: &Report) -> Outcome {
+    let came = report.counted.len() as u64;
     Outcome {
-        end: ending.end,
-        steps: ending.steps,
-        entries: ending.steps.saturating_add(came),
-        idle: ending.counted.iter().filter(|counts| !**counts).count() as u64,
+        end: report.end,
+        steps: report.steps,
+        entries: report.steps.saturating_add(came),
+        idle: report.counted.iter().filter(|counts| !**counts).count() as u64,
     }
 }
 
@@ -76,7 +76,7 @@ pub fn ending<R: Abort + Threads + Wait + Sync, G: Gate + Sync, O: Outside + Sen
             reported(&ran.expect(rt, "a run"))
         }
         Path::Unwritten => {
-            let ran = run_unwritten(rt, alloc, &verified, workers, gate, outside);
+            let ran = run_with_journal(rt, alloc, &verified, workers, gate, outside, false);
             counted(&ran.expect(rt, "a run"))
         }
     }

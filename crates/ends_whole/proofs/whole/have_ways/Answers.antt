@@ -12,6 +12,6 @@ pub loop-way-preserved : goal.loop-way-preserved
 loop-way-preserved c =
     let is_there = λ (way : Way). Contains (ends_of c.args.found.now) (plain.Ended way.end) in
     let none : Way = record { end = Success (pos 0) } in
-    let here = c.is_found.ensures c.if-not-is_found.false in
+    let here = c.is_found.ensures.yes c.if-not-is_found.false in
     AllWithin-more is_there c.args.ways.now 0 c.loop-way.way-index c.loop-way.invariant
     (λ d. subst is_there (sym (get_or_default c.args.ways.now c.loop-way.way-index d none c.loop-way-test.true)) here)

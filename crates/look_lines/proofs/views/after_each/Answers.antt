@@ -14,4 +14,4 @@ returns g c =
     let first = c.in_ok-say_state.ensures ∙ ap₂ (λ xs w. xs ++ v.state 0 w) c.new-text.ensures.bytes start in
     let written = c.in_ok-say_events.ensures.written ∙ ap₂ (λ xs (w : Watched). xs ++ def.views_from v w.program [] es) first start in
     let status = c.state_status.ensures ∙ ap out.state_status (c.state.ensures ∙ ap (λ (w : Watched). shown w.state) stands) in
-    ap₂ (λ bytes s. record { bytes = bytes; status = s }) written status
+    c.of.ensures ∙ ap₂ (λ bytes s. record { bytes = bytes; status = s }) written status

@@ -1,9 +1,5 @@
-use Rattle.std.proofs.lemmas.Result.{IfOk-weaker}
-use Rattle.sts_output.proofs.StopLemmas.{shown_or_memory}
+use Rattle.sts_output.proofs.StopLemmas.{written_or_memory}
 use Rattle.look_places.proofs.named.write_named.Goals as goal
 
 pub returns : goal.returns
-returns g c =
-    IfOk-weaker c.write_explained.result _ _
-    (λ s h. (h.0, shown_or_memory c.named_of.result h.0 _ c.named_of.ensures h.1, h.2))
-    c.write_explained.ensures
+returns g c = written_or_memory c.named_of.result c.write_shown.result _ _ c.named_of.ensures c.write_shown.ensures

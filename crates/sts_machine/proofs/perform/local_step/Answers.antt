@@ -1,8 +1,7 @@
-use Rattle.std.proofs.Common.{◌≡◌, sym, ◌∙◌, ap, subst, List}
+use Rattle.std.proofs.Common.{sym, ◌∙◌, ap, List}
 use Rattle.sts_code.specs.declared.instr.Instr.{Instr}
 use Rattle.sts_model.specs.Local.{local}
 use Rattle.sts_model.specs.Live.{Live}
-use Rattle.laws_live.specs.Effect.{live_effect}
 use Rattle.laws_live.specs.Reading.{lives_in, with_live_frame}
 use Rattle.sts_store.specs.Parts.{Unseen, frame_of, live_of, stand_in, unseen_of}
 use Rattle.sts_machine.proofs.Changing.{as_are, changes-quiet, lives_quiet}

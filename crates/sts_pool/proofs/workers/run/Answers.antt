@@ -1,9 +1,21 @@
-use Rattle.std.proofs.Common.{◌∙◌}
-use Rattle.sts_pool.proofs.Asking.{error_given}
+use Rattle.std.proofs.Common.{◌≡◌, count_by, sym, subst}
+use Rattle.std.proofs.lemmas.Result.{IfOk-weaker}
+use Rattle.sts_model.specs.Run.{is_step}
+use Rattle.sts_pool.specs.Outside.{IsGiven}
+use Rattle.sts_pool.specs.Report.{IsReport}
 use Rattle.sts_pool.proofs.workers.run.Goals as goal
 
-pub returns-clause-unfinished : goal.returns-clause-unfinished
-returns-clause-unfinished g c =
-    let left = c.in_ok-left in
-    let ours = left.ensures.program ∙ c.in-Ok-start.ensures.program in
-    error_given g.O.Outside.gives c.args.outside left.left.book c.args.verified.now c.report.result ours left.ensures.given c.report.ensures.unfinished
+pub returns-clause-report : goal.returns-clause-report
+returns-clause-report g c =
+    IfOk-weaker c.run_with_journal.result _ _
+    (λ r is. subst (λ es. IsReport c.args.verified.now es r.end) (sym is.held) is.report) c.run_with_journal.ensures.report
+
+pub returns-clause-given : goal.returns-clause-given
+returns-clause-given g c =
+    IfOk-weaker c.run_with_journal.result _ _
+    (λ r is. subst (IsGiven g.O.Outside.gives c.args.outside) (sym is.held) is.came) c.run_with_journal.ensures.report
+
+pub returns-clause-steps : goal.returns-clause-steps
+returns-clause-steps g c =
+    IfOk-weaker c.run_with_journal.result _ _
+    (λ r is. subst (λ es. r.steps ≡ count_by is_step es) (sym is.held) is.steps) c.run_with_journal.ensures.report

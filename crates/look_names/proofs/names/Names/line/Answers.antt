@@ -1,4 +1,4 @@
-use Rattle.std.proofs.Common.{ap, ap₂, refl, sym, ◌∙◌, ◌≡◌, ◌-◌, Some}
+use Rattle.std.proofs.Common.{ap₂, refl, sym, ◌∙◌, ◌≡◌, ◌-◌, Some}
 use Rattle.std.specs.Prelude.{option_map, slice_get}
 use Rattle.std.proofs.lemmas.Option.{slice_get_read}
 use Rattle.sts_text.specs.Words.{lines}

@@ -7,7 +7,7 @@ pub returns-in-Ok : goal.returns-in-Ok
 returns-in-Ok g c =
     let lines = c.in_ok-budgets.ensures in
     IfOk-weaker c.reported.result _ _
-    (λ r h. reported_run c.args.manner.kept c.args.verified.now c.args.dues _ c.in-Ok.report r lines.accepted lines c.in-Ok.ensures h)
+    (λ r h. reported_run c.args.manner.kept c.args.verified.now c.args.dues _ c.in-Ok.report r lines.accepted lines c.requires.few c.in-Ok.ensures.report h)
     c.reported.ensures
 
 pub returns-in-Err : goal.returns-in-Err

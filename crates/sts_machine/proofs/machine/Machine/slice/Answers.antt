@@ -1,4 +1,4 @@
-use Rattle.std.proofs.Common.{◌≡◌, true, sym, ◌∙◌, subst}
+use Rattle.std.proofs.Common.{◌≡◌, true, sym, subst}
 use Rattle.laws_live.specs.Waiting.{live_can_step}
 use Rattle.sts_machine.specs.Machine.{Seen}
 use Rattle.sts_machine.specs.Slice.{IsReached}

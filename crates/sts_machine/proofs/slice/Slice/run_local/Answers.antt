@@ -1,4 +1,4 @@
-use Rattle.std.proofs.Common.{◌≡◌, sym, ◌∙◌, ap, subst, arith}
+use Rattle.std.proofs.Common.{sym, ◌∙◌, ap, subst, arith}
 use Rattle.sts_frames.specs.Locals.{AreSafe}
 use Rattle.sts_machine.specs.Slice.{Cut}
 use Rattle.sts_machine.proofs.Cutting.{goes, slice_safe}

@@ -1,4 +1,4 @@
-use Rattle.std.proofs.Common.{arith, ap, sym, ◌∙◌, length}
+use Rattle.std.proofs.Common.{arith, ap, sym, length}
 use Rattle.sts_model.proofs.ListLemmas.{read_reverse, past_reverse}
 use Rattle.sts_model.proofs.stack.Stack.get.Goals as goal
 

@@ -1,4 +1,4 @@
-use Rattle.std.proofs.Common.{None, sym, ◌∙◌, ap}
+use Rattle.std.proofs.Common.{sym, ◌∙◌, ap}
 use Rattle.std.specs.Prelude.{option_map}
 use Rattle.sts_tree.specs.Forest.{scope_of}
 use Rattle.sts_tree.proofs.HoldingLemmas.{map_at}

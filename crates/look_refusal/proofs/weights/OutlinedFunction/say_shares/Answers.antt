@@ -2,7 +2,7 @@ use Rattle.std.proofs.Common.{ℕ, List, ◌++◌, ◌∙◌, ap, sym, append_as
 use Rattle.std.specs.List.{flat_map, range_with_len}
 use Rattle.look_refusal.specs.Weights.{share_line}
 use Rattle.look_refusal.proofs.WeightLemmas.{one_more}
-use Rattle.look_refusal.proofs.weights.Listing.say_shares.Goals as goal
+use Rattle.look_refusal.proofs.weights.OutlinedFunction.say_shares.Goals as goal
 
 pub loop-at-preserved : goal.loop-at-preserved
 loop-at-preserved c =

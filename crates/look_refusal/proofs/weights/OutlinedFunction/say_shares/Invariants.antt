@@ -1,7 +1,7 @@
 use Rattle.std.proofs.Common.{◌≡◌, ◌++◌}
 use Rattle.std.specs.List.{flat_map, range_with_len}
 use Rattle.look_refusal.specs.Weights.{share_line}
-use Rattle.look_refusal.proofs.weights.Listing.say_shares.Given as goal
+use Rattle.look_refusal.proofs.weights.OutlinedFunction.say_shares.Given as goal
 
 -- the lines of the places so far
 abbrev pub invariant-loop-at : goal.invariant-loop-at

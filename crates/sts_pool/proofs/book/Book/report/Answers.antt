@@ -1,11 +1,12 @@
-use Rattle.std.proofs.Common.{◌≡◌, List, count_by, subst, ◌∙◌}
+use Rattle.std.proofs.Common.{◌≡◌, List, [], count_by, subst, ap, ◌∙◌}
+use Rattle.std.specs.Prelude.{unwrap_or}
 use Rattle.sts_model.specs.declared.event.Event.{Event}
 use Rattle.sts_model.specs.Run.{is_step}
 use Rattle.sts_pool.specs.Book.{BookSeen, MayBe}
 use Rattle.sts_pool.specs.Report.{IsReport, IsUnfinished}
 use Rattle.sts_pool.proofs.Books.{unfinished}
 use Rattle.sts_pool.proofs.Kept.{ends}
-use Rattle.sts_pool.proofs.book.Book.ending.Goals as goal
+use Rattle.sts_pool.proofs.book.Book.report.Goals as goal
 
 pub returns-clause-report : goal.returns-clause-report
 returns-clause-report c =
@@ -14,6 +15,9 @@ returns-clause-report c =
     subst (λ (b : BookSeen). (events : List Event) → MayBe b events → IsReport b.program events c.in-Some.end
     × (c.steps.result ≡ count_by is_step events)) c.self.view_is
     (λ events may. ((told events may).0, c.steps.ensures.seen ∙ (told events may).1))
+
+pub returns-clause-journal : goal.returns-clause-journal
+returns-clause-journal c = c.into_entries.ensures ∙ ap (λ (b : BookSeen). unwrap_or b.journal []) c.self.view_is
 
 pub returns-in_default-clause-unfinished : goal.returns-in_default-clause-unfinished
 returns-in_default-clause-unfinished c =
