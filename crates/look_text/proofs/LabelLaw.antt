@@ -20,7 +20,7 @@ use Rattle.sts_asm.specs.Outline.{Sentence, Draft, Outline, empty, profile_at, n
 use Rattle.sts_asm.specs.Source.{sentences_of}
 use Rattle.look_text.specs.Labels.{is_end, is_named, gives, are_giving, number_of, last_line, names_none, BehindNamesNone}
 use Rattle.sts_asm.proofs.KeptLemmas.{at_line_ok}
-use Rattle.sts_asm.proofs.BucketLemmas.{got_last}
+use Rattle.sts_code.proofs.ListLemmas.{got_last}
 use Rattle.look_text.proofs.StandLemmas.{after, finished_same, AreFrom, from_first, line_from, next_from, one_of}
 use Rattle.look_text.proofs.HeadLaw.{either_way}
 
