@@ -1,7 +1,7 @@
 -- Elements at their places, and how many pass a test.
 use Rattle.std.proofs.Common.{◌≡◌, ℕ, zero, suc, ◌+◌, ◌<◌, ◌≤◌, ◌||◌, Bool, true, false, cond, List}
 use Rattle.std.proofs.Common.{[], ◌∷◌, ◌++◌, length, get_or, set, drop, Option, Some, None, refl}
-use Rattle.std.proofs.Common.{sym, ap, ◌∙◌, arith, count_by, replicate, slice_index_or, find, is_some, ◌≢◌}
+use Rattle.std.proofs.Common.{sym, ap, ◌∙◌, arith, count_by, replicate, find, is_some, ◌≢◌}
 use Rattle.std.specs.Prelude.{nat_lt}
 use Rattle.std.specs.List.{list_any}
 use Rattle.std.proofs.lemmas.Bool.{lt-ltb}
@@ -70,11 +70,6 @@ drop_past zero [] h = refl
 drop_past zero (x ∷ xs) h = absurd (omega arith)
 drop_past (suc n) [] h = refl
 drop_past (suc n) (x ∷ xs) h = drop_past n xs (omega arith)
-
--- the only element
-pub sole : {X : Type 0} (x e : X) (k : ℕ) → k < 1 → slice_index_or (x ∷ []) k e ≡ e → e ≡ x
-sole x e zero less i = sym i
-sole x e (suc k) less i = absurd (omega arith)
 
 -- zeros alone, and a zero past the end
 pub zeros : (n k : ℕ) → get_or {A = ℕ} (replicate n 0) k 0 ≡ 0

@@ -4,3 +4,4 @@ pub mod InstrLemmas
 pub mod LimitLemmas
 pub mod ListLemmas
 pub mod LoopLemmas
+pub mod OptionLemmas
