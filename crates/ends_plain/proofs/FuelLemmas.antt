@@ -7,9 +7,9 @@ use Rattle.std.specs.Int.{int_wrapping_div, w64}
 use Rattle.std.specs.Ordering.{int_eq}
 use Rattle.std.proofs.Math.Nat.{mul-lt-mul_of_pos_right, mul-le-mul_right, add-mul, one-mul}
 use Rattle.std.proofs.lemmas.Bool.{ltb-true, leb-false, or_parts, not-false}
-use Rattle.std.proofs.lemmas.Bool.Decides.{nat_tests}
 use Rattle.std.proofs.lemmas.List.Sums.{get_or-le-sum_by}
 use Rattle.std.proofs.lemmas.Option.{slice_get_within, get_or_from_slice_get}
+use Rattle.sts_code.proofs.LoopLemmas.{at_match}
 use Rattle.sts_code.specs.Loops.{match_of, is_balanced, is_at}
 use Rattle.sts_code.specs.Program.{Program}
 use Rattle.sts_code.specs.declared.instr.Instr.{Instr}
@@ -55,10 +55,6 @@ match_past is at m e = let h = found_past (λ q. is_balanced (slice_range is at 
 skips : (at : ℕ) (o : Option ℕ) → is_none o ≡ false → ((m : ℕ) → o ≡ Some m → at < m) → at < unwrap_or o 0 + 1
 skips at None e past = cc
 skips at (Some m) e past = let h = past m refl in omega (arith, h)
-
-at_match : (o : Option ℕ) (q : ℕ) → is_at o q ≡ true → o ≡ Some q
-at_match None q e = cc
-at_match (Some m) q e = let same : m ≡ q = grind (arith, nat_tests) in ap Some same
 
 -- the innermost loop began before the `next` that closes it
 closes_past : (is : List Instr) (pc : ℕ) (l : Loop) (ls : List Loop) → not (closes_loop is pc (l ∷ ls)) ≡ false → l.at < pc

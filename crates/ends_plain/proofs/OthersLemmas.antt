@@ -43,6 +43,7 @@ use Rattle.ends_plain.proofs.ApartLemmas.{task_apart, value_apart, scope_of_apar
 use Rattle.ends_plain.proofs.ApartLemmas.{standing_tasks_apart, tasks_born_apart, environment_apart, tally_apart, cleared_apart}
 use Rattle.ends_plain.proofs.ApartLemmas.{with_task_apart, flag_apart, more_apart, cancel_apart}
 use Rattle.sts_model.proofs.LivesLemmas.{born_alive, cancel_alive}
+use Rattle.laws_names.proofs.EffectLemmas.{closing}
 
 -- the second world with this frame in place of the task's, which lives there, is the first
 pub record Apart (t : ℕ) (g : Frame) (v w : World) : Type 0 where
@@ -141,10 +142,6 @@ apart-join w t g u f s failed timeout interrupted apart alive =
     (apart-verdict answer w t g u s f failed apart alive)
     (apart-change (with_phase w s Attempted) t g u change apart alive))
     )
-
--- a close after the cancel
-abbrev closing : ℕ → Frame → ℕ → World → World
-closing u f s w = cond (any_lives w s) (with_phase w s Closing) (closed w u f s)
 
 apart-closed : (w : World) (t : ℕ) (g : Frame) (u : ℕ) (f : Frame) (s : ℕ) → (u ≡ t → ⊥) → lives (task_at w t) ≡ true → Apart t g (closed (with_frame w t g) u f s) (closed w u f s)
 apart-closed w t g u f s apart alive =

@@ -6,6 +6,7 @@ use Rattle.std.specs.Int.{int_wrapping_div, w64}
 use Rattle.std.specs.Ordering.{int_eq}
 use Rattle.std.proofs.lemmas.Bool.{and_parts, or_parts}
 use Rattle.std.proofs.lemmas.List.{set-get_or}
+use Rattle.sts_code.proofs.OptionLemmas.{is_nothing}
 use Rattle.sts_code.specs.Loops.{match_of}
 use Rattle.sts_code.specs.Program.{Program}
 use Rattle.sts_code.specs.declared.instr.Instr.{Instr}
@@ -93,10 +94,6 @@ own_function bs is f i = refl
 
 -- ---- an own step
 
-none_of : (m : Option Fault) → is_none m ≡ true → m ≡ None
-none_of None e = refl
-none_of (Some k) e = cc
-
 -- the frame after the next instruction
 after_next : List Bound → List Instr → Option Instr → Frame → Frame
 after_next bs is None f = f
@@ -155,7 +152,7 @@ pub own_step : (p : Program) (w : World) (t : ℕ) → has_own_step p w t ≡ tr
 own_step p w t e =
     let a = and_parts (lives (task_at w t) && is_own_at (task_at w t).frame (instr_at p (task_at w t).frame)) (is_none (misuse p w t)) e in
     let b = and_parts (lives (task_at w t)) (is_own_at (task_at w t).frame (instr_at p (task_at w t).frame)) a.0 in
-    own_at p w t (instr_at p (task_at w t).frame) refl b.0 b.1 (none_of (misuse p w t) a.1)
+    own_at p w t (instr_at p (task_at w t).frame) refl b.0 b.1 (is_nothing (misuse p w t) a.1)
 
 -- ---- it stays an own step
 

@@ -41,11 +41,6 @@ put_index {X} (y ∷ ys) place (suc i) x n = by (place == length ys) refl (put_i
 
 -- ---- parts
 
-pub get_less : {X : Type 0} (xs : List X) (i : ℕ) (x : X) → slice_get xs i ≡ Some x → i < length xs
-get_less [] i x e = cc
-get_less (y ∷ ys) zero x e = omega arith
-get_less (y ∷ ys) (suc i) x e = let less = get_less ys i x e in omega (arith, less)
-
 pub get_same : {X : Type 0} (xs : List X) (i : ℕ) (x y : X) → slice_get xs i ≡ Some x → y ≡ get_or xs i y → x ≡ y
 get_same [] i x y e is = cc
 get_same (z ∷ zs) zero x y e is = cc

@@ -23,6 +23,7 @@ use Rattle.sts_model.specs.Standing.{standing_scopes, standing_bindings}
 use Rattle.laws_runs.proofs.SoundLemmas.{Sound}
 use Rattle.laws_runs.proofs.BirthLemmas.{born_alive}
 use Rattle.laws_runs.proofs.EntryLemmas.{Has, times_in}
+use Rattle.laws_accepted.proofs.Points.{has-rest}
 use Rattle.laws_runs.proofs.EnteredLemmas.{Entered, some_times, times_none}
 use Rattle.laws_accepted.specs.Costs.{Peak, tasks_peak, scopes_peak, binds_peak, share}
 use Rattle.laws_accepted.specs.Costs.{subtask_shares, entry_use, use_of, slack, room}
@@ -79,18 +80,11 @@ has_here x es r e = by (is_entry_of r x) e
     by true e = refl
     by false e = cc
 
-has_later : (x : Entry) (es : List Entry) (r : ℕ) → Has r es → Has r (x ∷ es)
-has_later x es r e = by (is_entry_of r x)
-  where
-    by : (b : Bool) → (b || list_any (is_entry_of r) es) ≡ true
-    by true = refl
-    by false = e
-
 gates_upto : (g : ℕ → ℕ) (n : ℕ) (es : List Entry) → ((r : ℕ) → Has r es → r < n) → sum_by (gate g) es ≡ upto (λ s. sum_by (at_scope g s) es) n
 gates_upto g n [] born = sym (upto-none (λ s. 0) n (λ s less. refl))
 gates_upto g n (x ∷ es) born =
     let a = gate_upto g n x (λ r e. born r (has_here x es r e)) in
-    let b = gates_upto g n es (λ r h. born r (has_later x es r h)) in
+    let b = gates_upto g n es (λ r h. born r (has-rest r x es h)) in
     let c = sum_by-cons (gate g) x es in
     let both : upto (λ s. sum_by (at_scope g s) (x ∷ es)) n ≡ upto (λ s. at_scope g s x) n + upto (λ s. sum_by (at_scope g s) es) n =
     upto-same _ _ n (λ s less. sum_by-cons (at_scope g s) x es) ∙ added (λ s. at_scope g s x) (λ s. sum_by (at_scope g s) es) n

@@ -16,6 +16,7 @@ use Rattle.sts_model.specs.declared.record.Frame.{Frame}
 use Rattle.sts_model.specs.declared.record.Slot.{Slot}
 use Rattle.sts_model.specs.declared.record.Slot.TheVariants.{Empty, Own, Sub}
 use Rattle.sts_rules.specs.declared.typing.Known.TheVariants as known
+use Rattle.sts_budget.proofs.TypedLemmas.{slot_loops}
 use Rattle.sts_rules.specs.declared.typing.SlotKind.{SlotKind}
 use Rattle.sts_rules.specs.declared.typing.SlotKind.TheVariants as kind_of
 use Rattle.sts_rules.specs.declared.typing.TypedEntry.{TypedEntry}
@@ -145,10 +146,6 @@ height-slot : (s : TypeState) (h : Option ℕ) (k : SlotKind) → (edges.with_sl
 height-slot s None k = refl
 height-slot s (Some h) k = refl
 
-loops-slot : (s : TypeState) (h : Option ℕ) (k : SlotKind) → (edges.with_slot h k s).loops ≡ s.loops
-loops-slot s None k = refl
-loops-slot s (Some h) k = refl
-
 entries-slot : (s : TypeState) (h : Option ℕ) (k : SlotKind) → (edges.with_slot h k s).entries ≡ s.entries
 entries-slot s None k = refl
 entries-slot s (Some h) k = refl
@@ -166,7 +163,7 @@ lands-fork p w m f x a n u h s st same own inside =
       fits =
           record {
             height = height-moved f.operands [] (routine p a).args s.height st.fits.height ∙ sym (height-slot (edges.moved p (Fork x a h) s) h (kind_of.Sub x known.Unknown));
-            loops = rw (loops-slot (edges.moved p (Fork x a h) s) h (kind_of.Sub x known.Unknown)) st.fits.loops;
+            loops = rw (slot_loops h (kind_of.Sub x known.Unknown) (edges.moved p (Fork x a h) s)) st.fits.loops;
             entries =
                 subst (λ (rs : List TypedEntry). Zips (FitsEntry p m g) f.entries rs) (sym (entries-slot (edges.moved p (Fork x a h) s) h (kind_of.Sub x known.Unknown)))
                 (zips-map (FitsEntry p m f) (FitsEntry p m g) f.entries s.entries (entry-on p m f g on) old.entries);

@@ -10,6 +10,7 @@ use Rattle.std.proofs.lemmas.Bool.Decides.{nat_tests}
 use Rattle.std.proofs.lemmas.List.{length-map}
 use Rattle.std.proofs.Math.ListN.{get_or-map}
 use Rattle.laws_words.proofs.BoolLemmas.{other_false}
+use Rattle.laws_words.proofs.ListLemmas.{found_passes}
 use Rattle.sts_code.specs.Program.{Program, routine}
 use Rattle.sts_code.specs.declared.instr.Instr.{Instr}
 use Rattle.sts_code.specs.declared.instr.Instr.TheVariants.{Join}
@@ -134,14 +135,6 @@ leads-interrupted pc x failed timeout interrupted s =
 
 -- ---- the joiner's answer
 
-found-passes : {X : Type 0} (test : X → Bool) (xs : List X) (x : X) → find test xs ≡ Some x → test x ≡ true
-found-passes test [] x e = cc
-found-passes test (y ∷ ys) x e = by (test y) refl e (found-passes test ys x)
-  where
-    by : (b : Bool) → test y ≡ b → cond b (Some y) (find test ys) ≡ Some x → (find test ys ≡ Some x → test x ≡ true) → test x ≡ true
-    by true h e next = let same : y ≡ x = cc in rw (← same) h
-    by false h e next = next e
-
 found-none : {X : Type 0} (test : X → Bool) (xs : List X) → find test xs ≡ None → list_any test xs ≡ false
 found-none test [] e = refl
 found-none test (y ∷ ys) e = by (test y) e (found-none test ys)
@@ -159,12 +152,12 @@ pub record Answers (j : Joiner) (es : List End) (v : Verdict) : Type 0 where
 
 answers-all : (es : List End) (n : ℤ) (o : Option End) → find joining.is_failure es ≡ o → Answers AllSucceed es (verdict_or o (verdict.Ok (Some n)))
 answers-all es n None e = record { nothing = λ d. cc; value = λ x d. refl; failed = λ c d. refl; ok = λ q d is. found-none joining.is_failure es e }
-answers-all es n (Some (Success v)) e = let h = found-passes joining.is_failure es (Success v) e in cc
+answers-all es n (Some (Success v)) e = let h = found_passes joining.is_failure es (Success v) e in cc
 answers-all es n (Some (Failed c)) e = record { nothing = λ d. cc; value = λ x d. cc; failed = λ c d. refl; ok = λ q d is. cc }
 
 answers-awaitok : (es : List End) (o : Option End) → find joining.is_failure es ≡ o → Answers AwaitOk es (verdict_or o (verdict.Ok None))
 answers-awaitok es None e = record { nothing = λ d. refl; value = λ x d. cc; failed = λ c d. refl; ok = λ q d is. found-none joining.is_failure es e }
-answers-awaitok es (Some (Success v)) e = let h = found-passes joining.is_failure es (Success v) e in cc
+answers-awaitok es (Some (Success v)) e = let h = found_passes joining.is_failure es (Success v) e in cc
 answers-awaitok es (Some (Failed c)) e = record { nothing = λ d. cc; value = λ x d. cc; failed = λ c d. refl; ok = λ q d is. cc }
 
 answers-any : (es : List End) (a b : Option End) → Answers AnySucceeds es (verdict_or a (verdict_or b (verdict.Failed (ℤ.negsuc 0))))

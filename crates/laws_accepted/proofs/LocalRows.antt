@@ -1,5 +1,5 @@
 -- The places after local instructions.
-use Rattle.std.proofs.Common.{◌≡◌, ℕ, ◌+◌, ◌-◌, ◌<◌, ◌≤◌, inl, inr, List, [], ◌∷◌, ◌++◌, length}
+use Rattle.std.proofs.Common.{◌≡◌, ℕ, ◌+◌, ◌-◌, ◌≤◌, inl, inr, List, [], ◌∷◌, ◌++◌, length}
 use Rattle.std.proofs.Common.{map, drop, true, false, Option, Some, None, refl, sym, ◌∙◌, ap}
 use Rattle.std.proofs.Common.{arith, unwrap_or, length-append, length-drop}
 use Rattle.std.specs.Prelude.{ℤ, pos, is_none, nat_le, option_map, option_to_list, ◌==◌}
@@ -23,7 +23,7 @@ use Rattle.sts_rules.specs.TypeState.{TypeState}
 use Rattle.sts_rules.specs.Causes as cause
 use Rattle.sts_rules.specs.Edges.{follows, moved}
 use Rattle.sts_rules.specs.Flow.{Leads}
-use Rattle.sts_code.proofs.LoopLemmas.{match_of_bound}
+use Rattle.sts_code.proofs.LoopLemmas.{match_of_bound, at_match}
 use Rattle.laws_accepted.specs.Typed.{closes}
 use Rattle.laws_accepted.proofs.Stands.{Stands, Lands, Keeps, lands-operands, fits-onward}
 use Rattle.laws_accepted.proofs.Stands.{not_closing}
@@ -97,10 +97,6 @@ tails : (xs : List ℕ) (ys : List TypedLoop) (x : ℕ) → x ∷ xs ≡ map (λ
 tails xs [] x e = cc
 tails xs (y ∷ ys) x e = cc
 
-bounded : (is : List Instr) (at pc : ℕ) (o : Option ℕ) → match_of is at ≡ o → is_at o pc ≡ true → at + 1 < length is
-bounded is at pc None e h = cc
-bounded is at pc (Some m) e h = match_of_bound is at m e
-
 -- the innermost loop ends here
 closes_here : (p : Program) (w : World) (f : Frame) (s : TypeState) → Stands p w f Next s → cause.closes_loop (routine p f.function).code f.pc s.loops ≡ true
 closes_here p w f s h = not-false (cause.closes_loop (routine p f.function).code f.pc s.loops) (or_parts _ _ (or_parts _ _ h.clear.loops).0).0
@@ -125,7 +121,7 @@ lands-turn p w f s l ls h e (x ∷ xs) some =
     record {
       function = refl;
       state = s;
-      reached = h.back (l.at + 1) (rw (some, same) refl) (rw same (bounded (code p f) x.at f.pc (match_of (code p f) x.at) refl closing));
+      reached = h.back (l.at + 1) (rw (some, same) refl) (rw same (match_of_bound (code p f) x.at f.pc (at_match (match_of (code p f) x.at) f.pc closing)));
       fits = fits-onward p w f (record f { pc = l.at + 1; loops = record l { left = l.left - 1 } ∷ ls }) s s h.fits still refl refl refl refl refl h.fits.height (rw some heads);
     })
 

@@ -34,6 +34,7 @@ use Rattle.sts_budget.proofs.CheckedLemmas.{is_checked}
 use Rattle.laws_accepted.specs.Costs.{AreTyped, main_budget, Accepted, IsModest, AcceptedIsModest}
 use Rattle.laws_accepted.specs.Costs.{HasPlaceFor, AcceptedHasPlace}
 use Rattle.laws_accepted.proofs.RangeLemmas.{some_function, not_more}
+use Rattle.laws_accepted.proofs.Printed.{all_typed}
 use Rattle.laws_accepted.proofs.Turns.{waits-few, waits-fork}
 use Rattle.laws_accepted.proofs.Good.{IsCosted, Good}
 use Rattle.laws_accepted.proofs.Effects.{same_instr}
@@ -96,15 +97,12 @@ module _ (p : Program) (checked : program_fault p.routines ≡ None) (accepted :
   high : IsPeaked p budgets_of
   high = record { peaks = λ f low_f pc loops before es r. (let b = within_of f low_f pc loops before es r in (b.1, b.2, b.3)) }
 
-  typed : AreTyped p
-  typed f low_f = (accepted.sound f low_f).typed
-
   -- ---- a state of a run
 
   modest : (events : List Event) (w : World) → Good (AreTyped p) p budgets_of w (taken p events) → Also Timely w → IsModest p events w
   modest events w o facts =
       let a = adds_up (AreTyped p) p budgets_of w (taken p events) accepted_costed high o facts in
-      let s = o.sum typed in
+      let s = o.sum (all_typed p accepted) in
       let at_tasks = a.tasks in
       let at_scopes = a.scopes in
       let at_binds = a.binds in
@@ -136,14 +134,14 @@ module _ (p : Program) (checked : program_fault p.routines ≡ None) (accepted :
       let c_steps : (main_budget p budgets_of).steps ≡ 1000000 = ap (λ (b : Budgets). b.steps) limits_main in
       let c_scopes : (main_budget p budgets_of).scopes ≡ 65536 = ap (λ (b : Budgets). b.scopes) limits_main in
       let some = o.rooted.some in
-      let left = left_for (AreTyped p) p budgets_of w (taken p events) accepted_costed high o facts t (Open x timed joiner) alive at typed in
+      let left = left_for (AreTyped p) p budgets_of w (taken p events) accepted_costed high o facts t (Open x timed joiner) alive at (all_typed p accepted) in
       let few = waits-few p w t (take (task_at w t).frame.function budgets_of) (Open x timed joiner) at in
       not_crowded (standing_scopes w) (length w.scopes) (omega (arith, standing, c_scopes)) (omega (arith, left, few, born, some, c_steps))
   has_place_for events w born o facts t (Fork x g h) alive at = λ s mine.
       let standing = has_room (AreTyped p) p budgets_of w (taken p events) accepted_costed high o facts t (Fork x g h) alive at s mine in
       let c_steps : (main_budget p budgets_of).steps ≡ 1000000 = ap (λ (b : Budgets). b.steps) limits_main in
       let c_tasks : (main_budget p budgets_of).tasks ≡ 65536 = ap (λ (b : Budgets). b.tasks) limits_main in
-      let left = left_for (AreTyped p) p budgets_of w (taken p events) accepted_costed high o facts t (Fork x g h) alive at typed in
+      let left = left_for (AreTyped p) p budgets_of w (taken p events) accepted_costed high o facts t (Fork x g h) alive at (all_typed p accepted) in
       let few = waits-fork p w t x g h at in
       let low_t = o.function t (born_alive w t alive) in
       let earlier = (is_checked p (task_at w t).frame.function checked low_t).earlier (task_at w t).frame.pc x g h (same_instr p (task_at w t).frame (Fork x g h) at) in

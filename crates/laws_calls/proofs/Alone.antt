@@ -49,7 +49,7 @@ use Rattle.laws_calls.specs.Covers.{PartFits, SeenFits, HeldFits, FrameFits, Tas
 use Rattle.laws_calls.specs.Covers.{FlagMayBe, IsCovered, Covers, alive_in}
 use Rattle.laws_calls.proofs.Lists.{all_set, Apart, kept_way, no, at_among}
 use Rattle.laws_calls.proofs.Turns.{Facts, FlagsHaveCause, apart_births, free_around, births_has, known_as, parts_as}
-use Rattle.laws_calls.proofs.Moves.{Turned, goes_by, covers_turned, turned_frame, turned_flag, fits_later, subs_same}
+use Rattle.laws_calls.proofs.Moves.{Turned, goes_by, covers_turned, turned_frame, turned_flag, fits_later, turned_subs}
 use Rattle.laws_calls.proofs.Moves.{OwnScope, own_scope, OwnSub, own_sub, held_lent, held_slot, put_seen, put_part}
 use Rattle.laws_calls.proofs.Births.{step_left}
 use Rattle.laws_calls.proofs.Counts.{states_in, tally_states}
@@ -123,7 +123,7 @@ module _ (p : Program) (outside : Outside) (t : Table) (root : Row) (is : IsTabl
       goes_by c.rows v u g own m.next 0 (born_by outside i) (omega arith) (step_left p outside (c.rows u).call own i m.next m.step)
       (is.closed (c.rows u) own m.next i (c.listed u) k.there (instr_of p (task_at w u).frame own i k.fits.frame d.at) m.step)
       (are_possible c.rows w h.right (births_in g.entries) m.next.scopes m.fits.scopes)
-      (fits_later w v h n c.rows g m.next scopes (λ s. subs_same w v s turned.count turned.scope) m.fits))
+      (fits_later w v h n c.rows g m.next scopes (turned_subs turned) m.fits))
 
   -- ---- frames
 

@@ -37,7 +37,7 @@ use Rattle.laws_calls.specs.Covers.{subs, PartFits, ScopeFits, SeenFits, HeldFit
 use Rattle.laws_calls.specs.Covers.{Covers, alive_in}
 use Rattle.laws_calls.proofs.Lists.{all_map, all_mapped, all_tail, all_length, Apart, is_first, get_among, no}
 use Rattle.laws_calls.proofs.Turns.{Facts, FlagsHaveCause, seen_same, held_same, apart_births, listed_inside}
-use Rattle.laws_calls.proofs.Moves.{GoesOn, goes_by, covers_turned, subs_same}
+use Rattle.laws_calls.proofs.Moves.{GoesOn, goes_by, covers_turned, turned_subs}
 use Rattle.laws_calls.proofs.Phases.{Rescoped, rescoped_close, rescoped_frame}
 use Rattle.laws_calls.proofs.Frames.{blank_drop}
 use Rattle.laws_calls.proofs.Early.{order_same}
@@ -76,9 +76,6 @@ module _ (p : Program) (outside : Outside) (t : Table) (root : Row) (is : IsTabl
   owner : (scope_at w s).owner ≡ u
   owner = (h.right.sound.own u x s mine).owner
 
-  born : u < length w.tasks
-  born = born_alive w u d.alive
-
   opened : births_in f.entries ≡ s ∷ rest
   opened = ap births_in (entries_first f.entries s order)
 
@@ -115,7 +112,7 @@ module _ (p : Program) (outside : Outside) (t : Table) (root : Row) (is : IsTabl
   waiting_seen : any_lives (cancel w s) s ≡ true → (rows : ℕ → Row) (y : Seen) → SeenFits rows w s y → SeenFits rows waits s y
   waiting_seen some rows y k =
       subst (λ (z : Scope). ScopeFits rows (alive_in waits) z (subs waits s) y) (sym waiting.here)
-      (subst (λ us. ScopeFits rows (alive_in waits) leaving us y) (sym (subs_same w waits s waiting.turned.count waiting.turned.scope))
+      (subst (λ us. ScopeFits rows (alive_in waits) leaving us y) (sym (turned_subs waiting.turned s))
       (record {
         joiner = k.joiner;
         timed = k.timed;
@@ -139,7 +136,7 @@ module _ (p : Program) (outside : Outside) (t : Table) (root : Row) (is : IsTabl
         fits = record {
           frame = k.fits.frame;
           held = all_map (HeldFits w (births_in f.entries)) (HeldFits waits (births_in f.entries)) f.slots own.held
-              (λ a b at e. held_same w waits h nx (births_in f.entries) (λ r i c at2 e2. subst (λ us. slice_get us i ≡ Some c) (sym (subs_same w waits r waiting.turned.count waiting.turned.scope)) e2) a b e) k.fits.held;
+              (λ a b at e. held_same w waits h nx (births_in f.entries) (λ r i c at2 e2. subst (λ us. slice_get us i ≡ Some c) (sym (turned_subs waiting.turned r)) e2) a b e) k.fits.held;
           scopes = all_map (SeenFits rows w) (SeenFits rows waits) (births_in f.entries) own.scopes (λ r y at e. each r y e (nat_eq r s) refl) k.fits.scopes;
         };
       }
@@ -148,7 +145,7 @@ module _ (p : Program) (outside : Outside) (t : Table) (root : Row) (is : IsTabl
       each r y e true is2 = let same : r ≡ s = grind (arith, nat_tests) in subst (λ i. SeenFits rows waits i y) (sym same) (waiting_seen some rows y (subst (λ i. SeenFits rows w i y) same e))
       each r y e false is2 =
           let other : r ≡ s → ⊥ = grind (arith, nat_tests) in
-          seen_same w waits h nx rows rows r y (waiting.others r other) (subs_same w waits r waiting.turned.count waiting.turned.scope) (λ i less. refl) e
+          seen_same w waits h nx rows rows r y (waiting.others r other) (turned_subs waiting.turned r) (λ i less. refl) e
 
   -- ---- the last step
 
@@ -159,10 +156,7 @@ module _ (p : Program) (outside : Outside) (t : Table) (root : Row) (is : IsTabl
   shut = effects.closed (cancel w s) u f s
 
   shutting : Rescoped w shut u s g (record (scope_at w s) { cancelled = true; phase = Closed })
-  shutting = rescoped_frame w (with_phase (cancel w s) s Closed) u s f g (record (scope_at w s) { cancelled = true; phase = Closed }) born (rescoped_close w u s born_s owner Closed)
-
-  same_subs : (r : ℕ) → subs shut r ≡ subs w r
-  same_subs r = subs_same w shut r shutting.turned.count shutting.turned.scope
+  shutting = rescoped_frame w (with_phase (cancel w s) s Closed) u s f g (record (scope_at w s) { cancelled = true; phase = Closed }) (born_alive w u d.alive) (rescoped_close w u s born_s owner Closed)
 
   both_clear : (a : Slot) (b : Held) (i j : Bool) → i ≡ j → (i ≡ false → HeldFits shut rest a b) → HeldFits shut rest (cond i slots.Empty a) (cond j held.Empty b)
   both_clear a b true true e k = tt
@@ -183,7 +177,7 @@ module _ (p : Program) (outside : Outside) (t : Table) (root : Row) (is : IsTabl
       let inside : (task_at w c).scope ≡ Some r = listed_inside w r c (get_among (subs w r) i c e.1.1) in
       let scope : is_in s (task_at (cancel w s) c).scope ≡ (r == s) = ap (is_in s) (((still-cancel w s).kept.task c).same.scope ∙ inside) in
       both_clear (slots.Sub c) (held.Sub place i) (is_in s (task_at (cancel w s) c).scope) (place == m) (scope ∙ k.same ∙ ap (λ j. place == j) long)
-      (λ other. (r, (k.later (sym scope ∙ other), subst (λ us. slice_get us i ≡ Some c) (sym (same_subs r)) e.1.1)))
+      (λ other. (r, (k.later (sym scope ∙ other), subst (λ us. slice_get us i ≡ Some c) (sym (turned_subs shutting.turned r)) e.1.1)))
   clears m long a b e = absurd e
 
   shuts : Next w shut → (c : Covers p outside t root w) (own : Own) → TaskFits outside c.rows w u own → GoesOn c.rows shut u g own 0
@@ -194,7 +188,7 @@ module _ (p : Program) (outside : Outside) (t : Table) (root : Row) (is : IsTabl
       let m : ℕ = length (drop 1 own.scopes) in
       let scopes_after : AllTwo (SeenFits c.rows shut) rest (drop 1 own.scopes) =
       all_map (SeenFits c.rows w) (SeenFits c.rows shut) rest (drop 1 own.scopes)
-      (λ r y at e. seen_same w shut h nx c.rows c.rows r y (shutting.others r (λ same. apart.0 (subst (λ i. Among rest i) same at))) (same_subs r) (λ i less. refl) e) tail
+      (λ r y at e. seen_same w shut h nx c.rows c.rows r y (shutting.others r (λ same. apart.0 (subst (λ i. Among rest i) same at))) (turned_subs shutting.turned r) (λ i less. refl) e) tail
       in
       goes_by c.rows shut u g own (closed own) 0 0 (omega arith) refl
       (is.closed (c.rows u) own (closed own) (Close x) (c.listed u) k.there (instr_of p f own (Close x) k.fits.frame d.at) close_step)

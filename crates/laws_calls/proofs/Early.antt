@@ -4,6 +4,7 @@ use Rattle.std.proofs.Common.{refl, sym, ◌∙◌, ap, subst, arith, set, cond,
 use Rattle.std.specs.Prelude.{ℤ, ◌==◌, slice_get, find, option_map, count_by}
 use Rattle.std.proofs.lemmas.Bool.Decides.{nat_tests}
 use Rattle.std.proofs.lemmas.List.Sums.{sum_by-cons}
+use Rattle.std.proofs.lemmas.Option.{same_Some}
 use Rattle.sts_model.specs.declared.event.End.{End}
 use Rattle.sts_model.specs.declared.event.End.TheVariants.{Failed}
 use Rattle.sts_model.specs.declared.record.Completion.{Completion}
@@ -44,11 +45,8 @@ first_of (c ∷ cs) once e h = by (is_failure c.end) refl h (λ k. first_of cs (
         by2 true n = let o = once r.0 in let more = counted cs r.0 e r.1.1 in absurd (omega (arith, n, o, more))
         by2 false n = r.1.1
 
-    some_end : Some c.end ≡ Some e → c.end ≡ e
-    some_end k = cc
-
     by : (b : Bool) → is_failure c.end ≡ b → cond b (Some c.end) (find is_failure (ends_of cs)) ≡ Some e → (find is_failure (ends_of cs) ≡ Some e → (d : ℕ) × ((first_failed cs ≡ Some d) × (completion_of cs d ≡ Some e))) → (d : ℕ) × ((first_failed (c ∷ cs) ≡ Some d) × (completion_of (c ∷ cs) d ≡ Some e))
-    by true fails k next = here (some_end k) fails
+    by true fails k next = here (same_Some c.end e k) fails
     by false fine k next = later fine (next k)
 
 -- the task that failed first has a completion

@@ -9,6 +9,7 @@ use Rattle.std.proofs.lemmas.Bool.Decides.{nat_tests}
 use Rattle.std.proofs.lemmas.List.{get_or_append_left}
 use Rattle.std.proofs.lemmas.List.Elements.{filter-append}
 use Rattle.std.proofs.Math.Seq.{get_or-append_seam}
+use Rattle.sts_code.proofs.ListLemmas.{got_last}
 use Rattle.sts_code.specs.Program.{Program, routine}
 use Rattle.sts_code.specs.declared.instr.Instr.TheVariants.{Fork}
 use Rattle.sts_model.specs.declared.event.End.{End}
@@ -38,7 +39,7 @@ use Rattle.laws_calls.specs.Steps.{Row, Table, IsTable, IsRowOf, LeadsBy, Forks,
 use Rattle.laws_calls.specs.Covers.{subs, PartFits, ScopeFits, SeenFits, HeldFits, FrameFits, TaskFits}
 use Rattle.laws_calls.specs.Covers.{IsCovered, Covers, HasState, alive_in, IsRight, IsTimely, sum_to}
 use Rattle.laws_calls.proofs.Lists.{all_map, all_set, all_length, all_append, all_put_place, Apart, filter_agree, range_last}
-use Rattle.laws_calls.proofs.Lists.{range_among, get_front, get_last, no}
+use Rattle.laws_calls.proofs.Lists.{range_among, get_front, no}
 use Rattle.laws_calls.proofs.Turns.{Facts, FlagsHaveCause, alive_later, covered_before, flag_stays, environment_stays}
 use Rattle.laws_calls.proofs.Turns.{part_same, seen_same, held_same, task_same, apart_births, sub_born, owner_covered, covered_or_not, parts_as}
 use Rattle.laws_calls.proofs.Births.{cut, cut_here, cut_other, sum_cut, sum_agrees}
@@ -224,7 +225,7 @@ module _ (p : Program) (w : World) (h : Facts w) (u x g : ℕ) (q : Option ℕ) 
     sub_last : slice_get (subs after s) (length k.scope.seen.parts) ≡ Some n
     sub_last =
         let long : length (subs w s) ≡ length k.scope.seen.parts = all_length (PartFits rows (alive_in w) (scope_at w s)) (subs w s) k.scope.seen.parts k.scope.fits.parts in
-        subst (λ us. slice_get us (length k.scope.seen.parts) ≡ Some n) (sym (subs_here born)) (subst (λ m. slice_get (subs w s ++ n ∷ []) m ≡ Some n) long (get_last (subs w s) n))
+        subst (λ us. slice_get us (length k.scope.seen.parts) ≡ Some n) (sym (subs_here born)) (subst (λ m. slice_get (subs w s ++ n ∷ []) m ≡ Some n) long (got_last (subs w s) n))
 
     slots_after : (y : Option ℕ) → AllTwo (HeldFits after opened) (with_slot f.slots y (slots.Sub n)) (with_handle k.own.held y (held.Sub k.scope.place (length k.scope.seen.parts)))
     slots_after None = slots_before

@@ -10,7 +10,7 @@ use Rattle.laws_calls.specs.Outside.{Outside}
 use Rattle.laws_calls.specs.Steps.{Row, Table}
 use Rattle.laws_calls.specs.Covers.{Covers}
 use Rattle.laws_calls.proofs.Turns.{Facts, FlagsHaveCause}
-use Rattle.laws_calls.proofs.Moves.{covers_turned, turned_flag, subs_same, fits_later}
+use Rattle.laws_calls.proofs.Moves.{covers_turned, turned_flag, turned_subs, fits_later}
 
 pub interrupt_covered : (p : Program) (outside : Outside) (t : Table) (root : Row) (w : World) → Facts w → (u : ℕ) → Covers p outside t root w → Next w (interrupt w u) → FlagsHaveCause outside w (interrupt w u) → Covers p outside t root (interrupt w u)
 interrupt_covered p outside t root w h u c n flags = by (lives (task_at w u)) refl n flags
@@ -23,5 +23,5 @@ interrupt_covered p outside t root w h u c n flags = by (lives (task_at w u)) re
         let v : World = with_task w u (record (task_at w u) { flag = true }) in
         let turned = turned_flag w u (task_at w u).frame true (born_alive w u alive) in
         covers_turned p outside t root w v h n2 flags2 c u (task_at w u).frame 0 0 turned (λ wide. refl) alive
-        (λ owed own k. record { own = own; less = omega arith; there = k.there; fits = fits_later w v h n2 c.rows (task_at w u).frame own (λ s. refl) (λ s. subs_same w v s turned.count turned.scope) k.fits })
+        (λ owed own k. record { own = own; less = omega arith; there = k.there; fits = fits_later w v h n2 c.rows (task_at w u).frame own (λ s. refl) (turned_subs turned) k.fits })
     by false alive n2 flags2 = c

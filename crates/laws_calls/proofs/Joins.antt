@@ -54,7 +54,7 @@ use Rattle.laws_calls.proofs.Early.{first_of, early_place, order_same}
 use Rattle.laws_calls.proofs.Possible.{are_possible, counts_most, enough, few_free, unknown, unheard, undecided}
 use Rattle.laws_calls.proofs.Lists.{all_map, all_at, all_put, all_right, all_length, all_put_place, Apart, among_get, get_among, any_among, no}
 use Rattle.laws_calls.proofs.Turns.{Facts, FlagsHaveCause, refitted, part_same, seen_same, held_same, apart_births, sub_born, sub_listed, listed_inside}
-use Rattle.laws_calls.proofs.Moves.{GoesOn, goes_by, covers_turned, subs_same, OwnScope, own_scope}
+use Rattle.laws_calls.proofs.Moves.{GoesOn, goes_by, covers_turned, turned_subs, OwnScope, own_scope}
 use Rattle.laws_calls.proofs.Phases.{Rescoped, rescoped_phase, rescoped_flag, rescoped_frame}
 use Rattle.laws_calls.proofs.Told.{who, state_among, First, first_end, find_none, none_passes, one_verdict, any_verdict, neither}
 use Rattle.laws_calls.proofs.Alone.{instr_of}
@@ -116,9 +116,6 @@ module _ (p : Program) (outside : Outside) (t : Table) (root : Row) (is : IsTabl
   owner : scope.owner ≡ u
   owner = (h.right.sound.own u x s mine).owner
 
-  born : u < length w.tasks
-  born = born_alive w u d.alive
-
   apart : Apart (births_in f.entries)
   apart = apart_births f.entries (λ r has. (h.entered u r d.alive has).once)
 
@@ -134,13 +131,10 @@ module _ (p : Program) (outside : Outside) (t : Table) (root : Row) (is : IsTabl
 
   -- the scope has become z, and the task has the frame g
   module _ (z : Scope) (g : Frame) (v : World) (nx : Next w v) (re : Rescoped w v u s g z) where
-    same_subs : (r : ℕ) → subs v r ≡ subs w r
-    same_subs r = subs_same w v r re.turned.count re.turned.scope
-
     seen_rescoped : (rows : ℕ → Row) (y : Seen) → ScopeFits rows (alive_in w) z (subs w s) y → SeenFits rows v s y
     seen_rescoped rows y k =
         subst (λ (a : Scope). ScopeFits rows (alive_in v) a (subs v s) y) (sym re.here)
-        (subst (λ us. ScopeFits rows (alive_in v) z us y) (sym (same_subs s))
+        (subst (λ us. ScopeFits rows (alive_in v) z us y) (sym (turned_subs re.turned s))
         (refitted rows rows (alive_in w) (alive_in v) z (subs w s) y k
         (all_map (PartFits rows (alive_in w) z) (PartFits rows (alive_in v) z) (subs w s) y.parts
         (λ i part at e. part_same w v h nx rows rows z i part (sub_born w s i at) refl e) k.parts)))
@@ -152,10 +146,10 @@ module _ (p : Program) (outside : Outside) (t : Table) (root : Row) (is : IsTabl
           frame = e;
           held = subst (λ es. AllTwo (HeldFits v (births_in es)) g.slots own.held) (sym same.entries) (subst (λ (xs : List Slot). AllTwo (HeldFits v (births_in f.entries)) xs own.held) (sym same.slots)
               (all_map (HeldFits w (births_in f.entries)) (HeldFits v (births_in f.entries)) f.slots own.held
-              (λ a b at e2. held_same w v h nx (births_in f.entries) (λ r i c at2 e3. subst (λ us. slice_get us i ≡ Some c) (sym (same_subs r)) e3) a b e2) k.fits.held));
+              (λ a b at e2. held_same w v h nx (births_in f.entries) (λ r i c at2 e3. subst (λ us. slice_get us i ≡ Some c) (sym (turned_subs re.turned r)) e3) a b e2) k.fits.held));
           scopes = subst (λ es. AllTwo (SeenFits rows v) (births_in es) (with_seen own o.place y).scopes) (sym same.entries)
               (all_put_place (SeenFits rows w) (SeenFits rows v) (births_in f.entries) own.scopes o.place s y k.fits.scopes apart o.at (seen_rescoped rows y new)
-              (λ r b at other e2. seen_same w v h nx rows rows r b (re.others r other) (same_subs r) (λ i less. refl) e2));
+              (λ r b at other e2. seen_same w v h nx rows rows r b (re.others r other) (turned_subs re.turned r) (λ i less. refl) e2));
         }
 
   -- the frame after the answer
@@ -488,7 +482,7 @@ module _ (p : Program) (outside : Outside) (t : Table) (root : Row) (is : IsTabl
   covers_attempted : (c : Covers p outside t root w) → scope.expired ≡ false → Next w attempt → FlagsHaveCause outside w attempt → (scope.cancelled || not (any_lives w s)) ≡ false → Covers p outside t root attempt
   covers_attempted c on_time nx flags waits =
       let to : Frame = goes f to_i 0 [] in
-      let re : Rescoped w attempt u s to after_attempt = rescoped_flag w (with_phase w s Attempted) u s f to after_attempt false born (rescoped_phase w u s born_s owner Attempted) in
+      let re : Rescoped w attempt u s to after_attempt = rescoped_flag w (with_phase w s Attempted) u s f to after_attempt false (born_alive w u d.alive) (rescoped_phase w u s born_s owner Attempted) in
       let set : (task_at w u).flag ≡ true = flagged scope.expired scope.cancelled (any_lives w s) (task_at w u).flag can_join_now on_time waits in
       let free = waiting scope.cancelled (any_lives w s) waits in
       covers_turned p outside t root w attempt h nx flags c u to 0 0 re.turned (λ wide. refl) d.alive
@@ -509,7 +503,7 @@ module _ (p : Program) (outside : Outside) (t : Table) (root : Row) (is : IsTabl
 
   covers_outcome : (c : Covers p outside t root w) → scope.expired ≡ false → Next w outcome → FlagsHaveCause outside w outcome → (scope.cancelled || not (any_lives w s)) ≡ true → Covers p outside t root outcome
   covers_outcome c on_time nx flags done =
-      let re : Rescoped w outcome u s g after_join = rescoped_frame w (with_phase w s Joined) u s f g after_join born (rescoped_phase w u s born_s owner Joined) in
+      let re : Rescoped w outcome u s g after_join = rescoped_frame w (with_phase w s Joined) u s f g after_join (born_alive w u d.alive) (rescoped_phase w u s born_s owner Joined) in
       covers_turned p outside t root w outcome h nx flags c u g 0 0 re.turned (λ wide. refl) d.alive
       (λ owed own k.
       let o = own_scope c.rows w f own x s k.fits mine in
@@ -529,7 +523,7 @@ module _ (p : Program) (outside : Outside) (t : Table) (root : Row) (is : IsTabl
   covers_late : (c : Covers p outside t root w) → scope.expired ≡ true → Next w late → FlagsHaveCause outside w late → Covers p outside t root late
   covers_late c expired nx flags =
       let to_pc : ℕ = unwrap_or timeout 0 in
-      let re : Rescoped w late u s (goes f to_pc 0 []) after_join = rescoped_frame w (with_phase w s Joined) u s f (goes f to_pc 0 []) after_join born (rescoped_phase w u s born_s owner Joined) in
+      let re : Rescoped w late u s (goes f to_pc 0 []) after_join = rescoped_frame w (with_phase w s Joined) u s f (goes f to_pc 0 []) after_join (born_alive w u d.alive) (rescoped_phase w u s born_s owner Joined) in
       let gone : scope.cancelled ≡ true = (h.caused s born_s).expired expired in
       covers_turned p outside t root w late h nx flags c u (goes f to_pc 0 []) 0 0 re.turned (λ wide. refl) d.alive
       (λ owed own k.

@@ -224,10 +224,6 @@ get_front [] ys i x e = cc
 get_front (a ∷ xs) ys zero x e = e
 get_front (a ∷ xs) ys (suc i) x e = get_front xs ys i x e
 
-pub get_last : {X : Type 0} (xs : List X) (x : X) → slice_get (xs ++ x ∷ []) (length xs) ≡ Some x
-get_last [] x = refl
-get_last (a ∷ xs) x = get_last xs x
-
 pub among_range : (a n u : ℕ) → a ≤ u → u < a + n → Among (range_with_len a n) u
 among_range a zero u low high = absurd (omega (arith, low, high))
 among_range a (suc n) u low high = by (a == u) refl (λ more. among_range (a + 1) n u more (omega (arith, high)))

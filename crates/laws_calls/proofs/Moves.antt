@@ -48,6 +48,9 @@ subs_same w v s count scope =
     filter_same (λ u. is_subtask s (task_at v u)) (λ u. is_subtask s (task_at w u)) (births v) (λ u. ap (is_in s) (scope u))
     ∙ ap (λ n. filter (λ u. is_subtask s (task_at w u)) (range_with_len 0 n)) count
 
+pub turned_subs : {w v : World} {t : ℕ} {g : Frame} {born : ℕ} → Turned w v t g born → (s : ℕ) → subs v s ≡ subs w s
+turned_subs {w} {v} turned s = subs_same w v s turned.count turned.scope
+
 -- where the task goes on from a state: a state of its row, which fits its new frame; `born` of the
 -- births that were left are taken
 pub record GoesOn (rows : ℕ → Row) (v : World) (t : ℕ) (g : Frame) (old : Own) (born : ℕ) : Type 0 where
@@ -109,7 +112,7 @@ module _ (p : Program) (outside : Outside) (t : Table) (root : Row) (w v : World
       before q e = alive_later (task_at w q) (task_at v q) (n.later.task q (born q e)) e
 
       keeps : (q s : ℕ) (x : Seen) → (q ≡ u → ⊥) → s < length w.scopes → (scope_at w s).owner ≡ q → SeenFits c.rows w s x → SeenFits c.rows v s x
-      keeps q s x other born_s owner f = seen_same w v h n c.rows c.rows s x (turned.scopes s born_s (λ e. other (sym owner ∙ e))) (subs_same w v s turned.count turned.scope) (λ k less. refl) f
+      keeps q s x other born_s owner f = seen_same w v h n c.rows c.rows s x (turned.scopes s born_s (λ e. other (sym owner ∙ e))) (turned_subs turned s) (λ k less. refl) f
 
       each : (q : ℕ) → lives (task_at v q) ≡ true → IsCovered outside v q → (b : Bool) → nat_eq q u ≡ b → HasState outside c.rows (cut c.left u many) v q
       each q e owed true is =
@@ -141,7 +144,7 @@ module _ (p : Program) (outside : Outside) (t : Table) (root : Row) (w v : World
             old.0,
             task_same w v h n outside flags c.rows c.rows q old.0 (before q e) owed (turned.there q other) (λ k less. refl)
                 (λ s x less owner f. keeps q s x other less owner f)
-                (λ s i k less owner is2. subst (λ us. slice_get us i ≡ Some k) (sym (subs_same w v s turned.count turned.scope)) is2)
+                (λ s i k less owner is2. subst (λ us. slice_get us i ≡ Some k) (sym (turned_subs turned s)) is2)
                 old.1,
             omega (arith, most, same),
           )

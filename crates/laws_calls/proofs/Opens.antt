@@ -36,7 +36,7 @@ use Rattle.laws_calls.specs.Covers.{Covers, alive_in}
 use Rattle.laws_calls.proofs.Lists.{all_map, all_set, all_length, at_first}
 use Rattle.laws_calls.proofs.Lists as lists
 use Rattle.laws_calls.proofs.Turns.{Facts, FlagsHaveCause, seen_same, births_has}
-use Rattle.laws_calls.proofs.Moves.{Turned, GoesOn, goes_by, covers_turned, subs_same}
+use Rattle.laws_calls.proofs.Moves.{Turned, GoesOn, goes_by, covers_turned, turned_subs}
 use Rattle.laws_calls.proofs.Possible.{are_possible, no_trigger}
 use Rattle.laws_calls.proofs.Alone.{instr_of, bindings_same}
 
@@ -104,14 +104,11 @@ module _ (p : Program) (outside : Outside) (t : Table) (root : Row) (is : IsTabl
           let less = (h.right.sound.born q n inside).0 in
           absurd (omega (arith, less))
 
-  same_subs : u < length w.tasks → (s : ℕ) → subs after s ≡ subs w s
-  same_subs born s = subs_same w after s (turned born).count (turned born).scope
-
   held_more : u < length w.tasks → (a : Slot) (b : Held) → HeldFits w old a b → HeldFits after (n ∷ old) a b
   held_more born slots.Empty held.Empty e = tt
   held_more born (slots.Own s) (held.Own place) e = lists.at_more n old place s e
   held_more born (slots.Lent s) held.Lent e = tt
-  held_more born (slots.Sub q) (held.Sub place i) e = (e.0, (lists.at_more n old place e.0 e.1.0, subst (λ us. slice_get us i ≡ Some q) (sym (same_subs born e.0)) e.1.1))
+  held_more born (slots.Sub q) (held.Sub place i) e = (e.0, (lists.at_more n old place e.0 e.1.0, subst (λ us. slice_get us i ≡ Some q) (sym (turned_subs (turned born) e.0)) e.1.1))
   held_more born a b e = absurd e
 
   fresh : (rows : ℕ → Row) (own : Own) → u < length w.tasks → TaskFits outside rows w u own → SeenFits rows after n (record { joiner = joiner; timed = timed; environment = bindings (rows u).call own; phase = Opened; knowledge = Unseen; asked = nothing; has_failure = false; parts = [] })
@@ -135,7 +132,7 @@ module _ (p : Program) (outside : Outside) (t : Table) (root : Row) (is : IsTabl
   scopes : (c : Covers p outside t root w) → Next w after → Does p w u (Open x timed joiner) → u < length w.tasks → (own : Own) → TaskFits outside c.rows w u own → AllTwo (SeenFits c.rows after) (n ∷ old) (opened (c.rows u).call own x joiner timed).scopes
   scopes c next d born own k = (
     fresh c.rows own born k,
-    all_map (SeenFits c.rows w) (SeenFits c.rows after) old own.scopes (λ s y at e. seen_same w after h next c.rows c.rows s y (scope_old s (h.entered u s d.alive (births_has f.entries s at)).born) (same_subs born s) (λ q less. refl) e) k.fits.scopes,
+    all_map (SeenFits c.rows w) (SeenFits c.rows after) old own.scopes (λ s y at e. seen_same w after h next c.rows c.rows s y (scope_old s (h.entered u s d.alive (births_has f.entries s at)).born) (turned_subs (turned born) s) (λ q less. refl) e) k.fits.scopes,
   )
 
   goes_on : (c : Covers p outside t root w) → Next w after → Does p w u (Open x timed joiner) → u < length w.tasks → (own : Own) → TaskFits outside c.rows w u own → GoesOn c.rows after u g own (per_birth outside)

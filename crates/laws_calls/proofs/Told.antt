@@ -1,10 +1,11 @@
 -- The ends that the joiner of a scope was told of.
-use Rattle.std.proofs.Common.{◌≡◌, ℕ, ◌+◌, ◌≤◌, inl, inr, List, [], ◌∷◌, Bool, true, false, Option, Some, None}
+use Rattle.std.proofs.Common.{◌≡◌, ℕ, ◌+◌, ◌≤◌, inl, inr, List, [], ◌∷◌, Bool, true, false, Some, None}
 use Rattle.std.proofs.Common.{refl, sym, ◌∙◌, ap, subst, arith, cond, ◌||◌}
-use Rattle.std.specs.Prelude.{◌==◌, find, option_map, count_by, negsuc}
+use Rattle.std.specs.Prelude.{◌==◌, find, count_by, negsuc}
 use Rattle.std.specs.List.{list_any}
 use Rattle.std.proofs.lemmas.Bool.Decides.{nat_tests}
 use Rattle.std.proofs.lemmas.List.Sums.{sum_by-cons}
+use Rattle.std.proofs.lemmas.Option.{same_Some}
 use Rattle.sts_model.specs.declared.event.End.{End}
 use Rattle.sts_model.specs.declared.event.End.TheVariants.{Success, Failed}
 use Rattle.sts_model.specs.declared.event.Verdict.{Verdict}
@@ -12,15 +13,10 @@ use Rattle.sts_model.specs.declared.event.Verdict.TheVariants as verdict
 use Rattle.sts_model.specs.declared.record.Completion.{Completion}
 use Rattle.sts_model.specs.Living.{completion_of, ends_of}
 use Rattle.sts_model.specs.Joining.{is_success, is_failure, verdict_or}
+pub use Rattle.laws_runs.proofs.CompletionLemmas.{Test, EndOf}
 use Rattle.laws_calls.specs.Tasks.{Among}
 
 -- ---- ends of completions
-
-abbrev pub Test : ℕ → Completion → Bool
-Test u c = c.task == u
-
-abbrev pub EndOf : Option Completion → Option End
-EndOf o = option_map (λ (c : Completion). c.end) o
 
 -- a task with a completion is counted
 pub counted : (cs : List Completion) (u : ℕ) (e : End) → completion_of cs u ≡ Some e → 1 ≤ count_by (Test u) cs
@@ -56,11 +52,8 @@ pub state_among : (cs : List Completion) (u : ℕ) (e : End) → completion_of c
 state_among [] u e h = cc
 state_among (c ∷ cs) u e h = by (c.task == u) h (state_among cs u e)
   where
-    some_end : Some c.end ≡ Some e → c.end ≡ e
-    some_end k = cc
-
     by : (b : Bool) → EndOf (cond b (Some c) (find (Test u) cs)) ≡ Some e → (completion_of cs u ≡ Some e → Among (ends_of cs) e) → Among (ends_of (c ∷ cs)) e
-    by true k next = inl (some_end k)
+    by true k next = inl (same_Some c.end e k)
     by false k next = inr (next k)
 
 -- ---- the first end that passes

@@ -9,7 +9,7 @@ use Rattle.std.specs.Option.{option_or}
 use Rattle.std.specs.Prelude.{option_map, find, ◌==◌}
 use Rattle.std.proofs.Math.Bool.{and-false}
 use Rattle.std.proofs.lemmas.Bool.{not-true}
-use Rattle.laws_words.proofs.OptionLemmas.{or_none}
+use Rattle.sts_code.proofs.OptionLemmas.{or_none}
 use Rattle.sts_model.specs.declared.event.End.{End}
 use Rattle.sts_model.specs.declared.event.End.TheVariants.{Success}
 use Rattle.sts_model.specs.declared.record.Frame.{Frame}

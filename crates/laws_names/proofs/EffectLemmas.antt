@@ -169,7 +169,7 @@ alike_join n w v a t f s failed timeout interrupted alive =
     (alike_unflagged n (with_phase w s Attempted) (with_phase v r Attempted) (alike_phase n w v a s Attempted) t (goes f interrupted 0 []) (goes g interrupted 0 []) alive refl)))
 
 -- a close after the cancel
-abbrev closing : ℕ → Frame → ℕ → World → World
+abbrev pub closing : ℕ → Frame → ℕ → World → World
 closing u f s w = cond (any_lives w s) (with_phase w s Closing) (closed w u f s)
 
 alike_closed : (n : Names) (w v : World) → IsAlike n w v → (t : ℕ) (f : Frame) (s : ℕ) → lives (task_at w t) ≡ true → IsAlike n (closed w t f s) (closed v (n.tasks t) (named_frame n f) (n.scopes s))

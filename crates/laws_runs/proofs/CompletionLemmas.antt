@@ -27,10 +27,10 @@ use Rattle.laws_runs.proofs.BirthLemmas.{born_alive, more_tasks, new_scope, open
 
 -- ---- the completion of a task
 
-abbrev Test : ℕ → Completion → Bool
+abbrev pub Test : ℕ → Completion → Bool
 Test u c = c.task == u
 
-abbrev EndOf : Option Completion → Option End
+abbrev pub EndOf : Option Completion → Option End
 EndOf o = option_map (λ (c : Completion). c.end) o
 
 -- the same in a list with more

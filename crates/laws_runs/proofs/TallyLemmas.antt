@@ -2,7 +2,7 @@
 use Rattle.std.proofs.Common.{◌≡◌, ℕ, zero, suc, ◌+◌, ◌<◌, ◌≤◌, List, [], ◌∷◌, Bool, true}
 use Rattle.std.proofs.Common.{false, Option, Some, None, refl, sym, ◌∙◌, ap, length, arith, get_or}
 use Rattle.std.proofs.Common.{cond, ◌&&◌}
-use Rattle.std.specs.Prelude.{◌==◌, find, count_by, option_map, is_some, is_none}
+use Rattle.std.specs.Prelude.{◌==◌, find, count_by, is_some, is_none}
 use Rattle.std.specs.List.{range_with_len}
 use Rattle.std.proofs.lemmas.Bool.Decides.{nat_tests}
 use Rattle.std.proofs.Math.Bool.{and-false}
@@ -21,7 +21,7 @@ use Rattle.sts_model.specs.Misuse.{has_succeeded, has_failed}
 use Rattle.sts_model.specs.Effect.{tally}
 use Rattle.laws_runs.proofs.ListLemmas.{within}
 use Rattle.laws_runs.proofs.EffectLemmas.{is_in-some, some-is_in}
-use Rattle.laws_runs.proofs.CompletionLemmas.{ToldIn}
+use Rattle.laws_runs.proofs.CompletionLemmas.{ToldIn, Test, EndOf}
 use Rattle.laws_runs.proofs.EventLemmas.{ever}
 use Rattle.laws_runs.specs.Tallies.{is_kind, is_in_state, births, number_in, IsTallied}
 use Rattle.laws_runs.specs.Tallies.{TalliesAreCounts}
@@ -101,12 +101,6 @@ count-places test (x ∷ xs) d =
     omega (arith, rest, head, shift, same, q)
 
 -- ---- completions
-
-abbrev Test : ℕ → Completion → Bool
-Test u c = c.task == u
-
-abbrev EndOf : Option Completion → Option End
-EndOf o = option_map (λ (c : Completion). c.end) o
 
 -- what is counted nowhere has no completion
 uncounted : (cs : List Completion) (u : ℕ) → count_by (Test u) cs ≡ 0 → completion_of cs u ≡ None

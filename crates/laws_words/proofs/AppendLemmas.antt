@@ -8,6 +8,10 @@ use Rattle.std.proofs.lemmas.List.{append-nil, at_drop_all, at_drop_more, replic
 pub two_parts : (old a b m n : List ℕ) → m ≡ old ++ a → n ≡ m ++ b → n ≡ old ++ (a ++ b)
 two_parts old a b m n first second = second ∙ ap (λ (xs : List ℕ). xs ++ b) first ∙ append_assoc old a b
 
+-- and three
+pub three_said : (a b d before one two three : List ℕ) → one ≡ before ++ a → two ≡ one ++ b → three ≡ two ++ d → three ≡ before ++ (a ++ (b ++ d))
+three_said a b d before one two three e f g = two_parts before a (b ++ d) one three e (two_parts one b d two three f g)
+
 -- one part of what was left
 pub part_said : (out next part rest left all : List ℕ) → out ++ left ≡ all → left ≡ part ++ rest → next ≡ out ++ part → next ++ rest ≡ all
 part_said out next part rest left all is step more =

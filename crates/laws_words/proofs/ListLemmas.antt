@@ -1,11 +1,11 @@
 -- Elements at their places, and how many pass a test.
 use Rattle.std.proofs.Common.{◌≡◌, ℕ, zero, suc, ◌+◌, ◌<◌, ◌≤◌, ◌||◌, Bool, true, false, cond, List}
 use Rattle.std.proofs.Common.{[], ◌∷◌, ◌++◌, length, get_or, set, drop, Option, Some, None, refl}
-use Rattle.std.proofs.Common.{sym, ap, ◌∙◌, arith, count_by, replicate, slice_index_or}
+use Rattle.std.proofs.Common.{sym, ap, ◌∙◌, arith, count_by, replicate, find, is_some, ◌≢◌}
 use Rattle.std.specs.Prelude.{nat_lt}
 use Rattle.std.specs.List.{list_any}
 use Rattle.std.proofs.lemmas.Bool.{lt-ltb}
-use Rattle.std.proofs.lemmas.List.Sums.{sum_by-cons, sum_by_push}
+use Rattle.std.proofs.lemmas.List.Sums.{sum_by-cons, sum_by_push, sum_by-set}
 
 -- ---- how many pass a test
 
@@ -23,6 +23,15 @@ any_count {X} test (x ∷ xs) = by (test x) (any_count test xs) ∙ ap (λ m. na
     by true h = sym (lt-ltb 0 (1 + count_by test xs) (omega arith))
     by false h = let same : count_by test xs ≡ 0 + count_by test xs = omega arith in h ∙ ap (λ m. nat_lt 0 m) same
 
+-- what is found passes the test
+pub found_passes : {X : Type 0} (test : X → Bool) (xs : List X) (x : X) → find test xs ≡ Some x → test x ≡ true
+found_passes test [] x e = cc
+found_passes test (y ∷ ys) x e = by (test y) refl e (found_passes test ys x)
+  where
+    by : (b : Bool) → test y ≡ b → cond b (Some y) (find test ys) ≡ Some x → (find test ys ≡ Some x → test x ≡ true) → test x ≡ true
+    by true h e next = let same : y ≡ x = cc in rw (← same) h
+    by false h e next = next e
+
 -- ---- at a place
 
 -- a place that has something is inside the list
@@ -30,6 +39,21 @@ pub read_within : {X : Type 0} (xs : List (Option X)) (k : ℕ) (x : X) → get_
 read_within [] k x e = cc
 read_within (y ∷ ys) zero x e = omega arith
 read_within (y ∷ ys) (suc k) x e = let h = read_within ys k x e in omega (arith, h)
+
+-- as many are there, if one is written over
+pub count_kept : {X : Type 0} (xs : List (Option X)) (k : ℕ) (x y : X) → get_or xs k None ≡ Some x → count_by is_some (set xs k (Some y)) ≡ count_by is_some xs
+count_kept {X} xs k x y at =
+    let s = sum_by-set (λ (o : Option X). cond (is_some o) 1 0) xs k (Some y) None (read_within xs k x at) in
+    let one : ℕ = 1 in
+    let t : cond (is_some (get_or xs k None)) one 0 ≡ one = rw at refl in
+    omega (arith, s, t)
+
+-- what was there is there after one more
+pub old_at : {X : Type 0} (xs : List (Option X)) (y : X) (k : ℕ) → k ≢ length xs → get_or (xs ++ Some y ∷ []) k None ≡ get_or xs k None
+old_at [] y zero ne = absurd (ne refl)
+old_at [] y (suc k) ne = refl
+old_at (x ∷ xs) y zero ne = refl
+old_at (x ∷ xs) y (suc k) ne = old_at xs y k (λ q. ne (ap suc q))
 
 pub put_there : {X : Type 0} (xs : List (Option X)) (k : ℕ) (x y : X) → get_or xs k None ≡ Some x → get_or (set xs k (Some y)) k None ≡ Some y
 put_there [] k x y e = cc
@@ -46,11 +70,6 @@ drop_past zero [] h = refl
 drop_past zero (x ∷ xs) h = absurd (omega arith)
 drop_past (suc n) [] h = refl
 drop_past (suc n) (x ∷ xs) h = drop_past n xs (omega arith)
-
--- the only element
-pub sole : {X : Type 0} (x e : X) (k : ℕ) → k < 1 → slice_index_or (x ∷ []) k e ≡ e → e ≡ x
-sole x e zero less i = sym i
-sole x e (suc k) less i = absurd (omega arith)
 
 -- zeros alone, and a zero past the end
 pub zeros : (n k : ℕ) → get_or {A = ℕ} (replicate n 0) k 0 ≡ 0

@@ -1,11 +1,6 @@
 -- Values that may be missing.
 use Rattle.std.proofs.Common.{◌≡◌, ◌≢◌, true, false, Option, Some, None, is_some, option_map}
 use Rattle.std.proofs.Common.{refl}
-use Rattle.std.specs.Option.{option_or}
-
-pub or_none : {A : Type 0} (o : Option A) → option_or o None ≡ o
-or_none None = refl
-or_none (Some x) = refl
 
 pub none_of : {A : Type 0} (o : Option A) → is_some o ≡ false → o ≡ None
 none_of None e = refl

@@ -1,9 +1,9 @@
 -- Walks, and what they show of a call.
-use Rattle.std.proofs.Common.{◌≡◌, ℕ, zero, suc, ℤ, ◌<◌, ◌⊎◌, inl, inr, List, [], ◌∷◌, ◌++◌, Bool, ap, sym, subst, ◌∙◌, arith, append_assoc}
-use Rattle.std.specs.Prelude.{slice_index_or}
+use Rattle.std.proofs.Common.{◌≡◌, ℕ, ℤ, ◌<◌, ◌⊎◌, inl, inr, List, [], ◌∷◌, ◌++◌, Bool, ap, sym, subst, ◌∙◌, arith, append_assoc}
 use Rattle.std.specs.List.{Contains}
 use Rattle.std.proofs.lemmas.List.{append-nil}
 use Rattle.std.proofs.lemmas.List.Elements.{Contains-append_cases}
+use Rattle.sts_code.proofs.ListLemmas.{sole}
 use Rattle.sts_model.specs.declared.event.End.{End}
 use Rattle.sts_model.specs.declared.event.Event.{Event}
 use Rattle.sts_model.specs.Run.{after}
@@ -69,10 +69,6 @@ shows g f last t end heard by on ended = record {
 
 pub no_ends : (g : Setting) → AreCallEnds g []
 no_ends g c there = let less : there.0 < 0 = there.1 in absurd (omega arith)
-
-sole : (x e : CallEnd) (k : ℕ) → k < 1 → slice_index_or (x ∷ []) k e ≡ e → e ≡ x
-sole x e zero less i = sym i
-sole x e (suc k) less i = absurd (omega arith)
 
 pub ends_more : (g : Setting) (found : List CallEnd) (c : CallEnd) → AreCallEnds g found → IsCallEnd g c → AreCallEnds g (found ++ c ∷ [])
 ends_more g found c all here e there = by (Contains-append_cases found (c ∷ []) e there)

@@ -4,7 +4,7 @@ use Rattle.std.specs.Prelude.{◌==◌, count_by, nat_lt}
 use Rattle.std.specs.List.{list_any}
 use Rattle.std.proofs.lemmas.Bool.{cond_both, and_parts}
 use Rattle.std.proofs.lemmas.Bool.Decides.{nat_tests}
-use Rattle.std.proofs.lemmas.List.Sums.{sum_by-cons, sum_by_more}
+use Rattle.std.proofs.lemmas.List.Sums.{sum_by_more}
 use Rattle.sts_code.specs.Program.{Program}
 use Rattle.sts_model.specs.declared.record.Entry.{Entry}
 use Rattle.sts_model.specs.declared.record.Entry.TheVariants as entry
@@ -12,20 +12,16 @@ use Rattle.sts_model.specs.declared.record.Scope.{Scope}
 use Rattle.sts_model.specs.World.{World, task_at, scope_at, no_scope}
 use Rattle.sts_model.specs.Living.{lives, is_closed}
 use Rattle.sts_model.specs.Misuse.{is_entry_of}
-use Rattle.laws_runs.proofs.ListLemmas.{within}
+use Rattle.laws_runs.proofs.ListLemmas.{within, count-cons}
 use Rattle.laws_runs.proofs.EventLemmas.{Also}
 use Rattle.laws_runs.proofs.OrderlyLemmas.{Orderly}
 use Rattle.look_drawing.specs.Place.{is_before, is_open_of}
 use Rattle.look_drawing.specs.Present.{AreHeld}
 
--- one entry more
-count_by-cons : (test : Entry → Bool) (e : Entry) (es : List Entry) → count_by test (e ∷ es) ≡ cond (test e) 1 0 + count_by test es
-count_by-cons test e es = sum_by-cons (λ (x : Entry). cond (test x) 1 0) e es
-
 -- an entry that occurs is counted
 counted : (test : Entry → Bool) (es : List Entry) → list_any test es ≡ true → 1 ≤ count_by test es
 counted test [] h = cc
-counted test (e ∷ es) h = subst (λ n. 1 ≤ n) (sym (count_by-cons test e es)) (by (test e) (list_any test es) (counted test es) h)
+counted test (e ∷ es) h = subst (λ n. 1 ≤ n) (sym (count-cons test e es)) (by (test e) (list_any test es) (counted test es) h)
   where
     by : (a b : Bool) → (b ≡ true → 1 ≤ count_by test es) → (a || b) ≡ true → 1 ≤ cond a 1 0 + count_by test es
     by true b rest h = omega arith
@@ -34,7 +30,7 @@ counted test (e ∷ es) h = subst (λ n. 1 ≤ n) (sym (count_by-cons test e es)
 -- one that doesn't occur isn't
 not_counted : (test : Entry → Bool) (es : List Entry) → list_any test es ≡ false → count_by test es ≡ 0
 not_counted test [] h = refl
-not_counted test (e ∷ es) h = count_by-cons test e es ∙ by (test e) (list_any test es) (not_counted test es) h
+not_counted test (e ∷ es) h = count-cons test e es ∙ by (test e) (list_any test es) (not_counted test es) h
   where
     by : (a b : Bool) → (b ≡ false → count_by test es ≡ 0) → (a || b) ≡ false → cond a 1 0 + count_by test es ≡ 0
     by true b rest h = cc
@@ -111,20 +107,20 @@ count_before-more s [] = refl
 count_before-more s (e ∷ es) =
     let rest = count_before-more s es in
     let one = is_before-more s e in
-    let a = count_by-cons (is_before (s + 1)) e es in
-    let b = count_by-cons (is_before s) e es in
-    let c = count_by-cons (is_entry_of s) e es in
+    let a = count-cons (is_before (s + 1)) e es in
+    let b = count-cons (is_before s) e es in
+    let c = count-cons (is_entry_of s) e es in
     omega (arith, rest, one, a, b, c)
 
 none_before : (es : List Entry) → count_by (is_before 0) es ≡ 0
 none_before [] = refl
 none_before (entry.Binding k v ∷ es) =
-    let here = count_by-cons (is_before 0) (entry.Binding k v) es in
+    let here = count-cons (is_before 0) (entry.Binding k v) es in
     let rest = none_before es in
     omega (arith, here, rest)
 none_before (entry.Scope r ∷ es) =
     let never : nat_lt r 0 ≡ false = grind (arith, nat_tests) in
-    let here = count_by-cons (is_before 0) (entry.Scope r) es in
+    let here = count-cons (is_before 0) (entry.Scope r) es in
     let zero' : ℕ = cond (is_before 0 (entry.Scope r)) 1 0 in
     let none : zero' ≡ 0 = rw never refl in
     let rest = none_before es in

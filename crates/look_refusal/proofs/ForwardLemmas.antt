@@ -1,10 +1,12 @@
 -- The edges of an instruction lead to later places, and a turn goes back to no later one.
-use Rattle.std.proofs.Common.{◌≡◌, ℕ, ◌+◌, ◌-◌, ◌<◌, ◌≤◌, inl, inr, IfSome, List, [], ◌∷◌, ◌++◌, map, reverse, length, get_or, Bool, true, false, ◌||◌, cond, Option, Some, None, Ok, Err, option_map, option_to_list, slice_get, leb, leb-false, find, refl, sym, ap, ◌∙◌, subst, arith}
+use Rattle.std.proofs.Common.{◌≡◌, ℕ, ◌+◌, ◌-◌, ◌<◌, ◌≤◌, inl, inr, IfSome, List, [], ◌∷◌, ◌++◌, map, reverse, length, get_or, Bool, true, false, ◌||◌, Option, Some, None, Ok, Err, option_map, option_to_list, slice_get, leb, leb-false, refl, sym, ap, ◌∙◌, subst, arith}
 use Rattle.std.specs.List.{All, list_any, range_with_len}
 use Rattle.std.proofs.lemmas.List.{get_or-reverse, length-reverse}
 use Rattle.std.proofs.lemmas.List.FromFn.{get_or-range_with_len, length-range_with_len}
 use Rattle.std.proofs.lemmas.List.Elements.{All-filter, All-head}
+use Rattle.sts_code.proofs.CheckedLemmas.{no_test}
 use Rattle.sts_code.specs.Program.{Program, routine, instr_at}
+use Rattle.laws_words.proofs.ListLemmas.{found_passes}
 use Rattle.sts_code.specs.declared.instr.Instr.{Instr}
 use Rattle.sts_code.specs.declared.instr.Instr.TheVariants.{Div, Jmp, Jz, Times, Next, Join, Case, Ret, Fail}
 use Rattle.sts_code.specs.Facts.{targets}
@@ -22,7 +24,7 @@ use Rattle.sts_rules.specs.Edges.{edges, follows, to_optional, moved, or_cause, 
 use Rattle.sts_rules.specs.Flow.{Reaches, Leads}
 use Rattle.sts_rules.specs.TypeState.{TypeState, heads}
 use Rattle.sts_types.proofs.PromisingLemmas.{loops_around}
-use Rattle.sts_types.proofs.CauseLemmas.{none_here, or_cause_ok}
+use Rattle.sts_types.proofs.CauseLemmas.{or_cause_ok}
 
 -- ---- places
 
@@ -74,22 +76,13 @@ follow_later p code pc _ s h = (omega arith, tt)
 
 -- ---- causes
 
--- what is found passes the test
-found : (t : Cause → Bool) (cs : List Cause) (c : Cause) → find t cs ≡ Some c → t c ≡ true
-found t [] c e = absurd (cc)
-found t (x ∷ xs) c e = by (t x) refl e (λ h. found t xs c h)
-  where
-    by : (b : Bool) → t x ≡ b → cond b (Some x) (find t xs) ≡ Some c → (find t xs ≡ Some c → t c ≡ true) → t c ≡ true
-    by true is e more = let same : x ≡ c = cc in subst (λ y. t y ≡ true) same is
-    by false is e more = more e
-
 no_back_jump : (p : Program) (f pc : ℕ) (i : Instr) (s : TypeState) → least_cause p f pc i s ≡ None → jumps_back pc i ≡ false
 no_back_jump p f pc i s e =
     let t = holds p f pc i s in
-    let a = none_here (t cause.StackUnder) cause.StackUnder _ e in
-    let b = none_here (t cause.StackOver) cause.StackOver _ a.1 in
-    let c = none_here (t cause.FallsOff) cause.FallsOff _ b.1 in
-    (none_here (t cause.BackJump) cause.BackJump _ c.1).0
+    let a = no_test (t cause.StackUnder) cause.StackUnder _ e in
+    let b = no_test (t cause.StackOver) cause.StackOver _ a.1 in
+    let c = no_test (t cause.FallsOff) cause.FallsOff _ b.1 in
+    (no_test (t cause.BackJump) cause.BackJump _ c.1).0
 
 -- if no cause holds at an instruction, its edges lead to later places
 pub forward : (p : Program) (f pc : ℕ) (s : TypeState) (out : List (ℕ × TypeState)) (to : ℕ) (x : TypeState) → edges p f pc s ≡ Ok out → Leads out to x → pc < to
@@ -108,7 +101,7 @@ pub never_differs : (p : Program) (f pc : ℕ) (s : TypeState) → edges p f pc 
 never_differs p f pc s e =
     let i : Instr = instr_at (routine p f).code pc in
     let o = differs (least_cause p f pc i s) (follows p (routine p f).code pc i s) cause.StatesDiffer e in
-    let holds_here : holds p f pc i s cause.StatesDiffer ≡ true = found (holds p f pc i s) causes cause.StatesDiffer o in
+    let holds_here : holds p f pc i s cause.StatesDiffer ≡ true = found_passes (holds p f pc i s) causes cause.StatesDiffer o in
     absurd (cc)
 
 -- nor is that a budget is passed
@@ -116,7 +109,7 @@ pub never_budget : (p : Program) (f pc : ℕ) (s : TypeState) (k : Resource) →
 never_budget p f pc s k e =
     let i : Instr = instr_at (routine p f).code pc in
     let o = differs (least_cause p f pc i s) (follows p (routine p f).code pc i s) (cause_of k) e in
-    never k i (found (holds p f pc i s) causes (cause_of k) o)
+    never k i (found_passes (holds p f pc i s) causes (cause_of k) o)
   where
     never : (k : Resource) (i : Instr) → holds p f pc i s (cause_of k) ≡ true → ⊥
     never Steps i h = absurd (cc)

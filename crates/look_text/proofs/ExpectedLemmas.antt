@@ -23,23 +23,20 @@ use Rattle.look_text.proofs.StopLemmas.{StopsFrom, allows, one, one_on, spelled,
 use Rattle.look_text.proofs.OperandLemmas.{named_fits, operands}
 use Rattle.laws_words.proofs.OptionLemmas.{none_of}
 use Rattle.sts_asm.proofs.TableLemmas.{same}
+use Rattle.sts_asm.proofs.TextLemmas.{mapped_err}
 
 -- ---- what is read is put elsewhere
-
-kept : {X Y : Type 0} (f : X → Y) (r : Result X AsmKind) (kind : AsmKind) → (r >>= λ x. Ok (f x)) ≡ Err kind → r ≡ Err kind
-kept f (Ok x) kind e = absurd (cc)
-kept f (Err k) kind e = cc
 
 failed_on : {X Y : Type 0} (f : X → Y) (r : Result X AsmKind) (kind : AsmKind) → r ≡ Err kind → (r >>= λ x. Ok (f x)) ≡ Err kind
 failed_on f r kind e = rw e refl
 
 carried_wrong : {X Y : Type 0} (f : List (List ℕ) → X → Y) (read : List (List ℕ) → Result X AsmKind) (kind : AsmKind) (words before : List (List ℕ)) (word : Option (List ℕ)) → IsWrong read kind words before word → IsWrong (λ ws. read ws >>= λ x. Ok (f ws x)) kind words before word
 carried_wrong f read kind words before word (wrong v rest e l s) =
-    wrong v rest e (l.0, λ q. l.1 (kept (f (before ++ l.0)) (read (before ++ l.0)) kind q)) (λ more. failed_on (f ((before ++ v ∷ []) ++ more)) (read ((before ++ v ∷ []) ++ more)) kind (s more))
-carried_wrong f read kind words before word (missing e l) = missing e (l.0, λ q. l.1 (kept (f (before ++ l.0)) (read (before ++ l.0)) kind q))
+    wrong v rest e (l.0, λ q. l.1 (mapped_err (read (before ++ l.0)) (f (before ++ l.0)) kind q)) (λ more. failed_on (f ((before ++ v ∷ []) ++ more)) (read ((before ++ v ∷ []) ++ more)) kind (s more))
+carried_wrong f read kind words before word (missing e l) = missing e (l.0, λ q. l.1 (mapped_err (read (before ++ l.0)) (f (before ++ l.0)) kind q))
 
 pub carried : {X Y : Type 0} (s : Expected) (f : List (List ℕ) → X → Y) (read : List (List ℕ) → Result X AsmKind) → StopsFrom s read → StopsFrom s (λ ws. read ws >>= λ x. Ok (f ws x))
-carried s f read all kind words e = carried_wrong f read kind words (stop s words).before (stop s words).word (all kind words (kept (f words) (read words) kind e))
+carried s f read all kind words e = carried_wrong f read kind words (stop s words).before (stop s words).word (all kind words (mapped_err (read words) (f words) kind e))
 
 -- ---- `func`
 
@@ -117,7 +114,7 @@ pub all_operands : {X : Type 0} (s : Expected) (read : List (List ℕ) → Resul
 all_operands s read all kind words is e = all kind words e
 
 pub carried_operands : {X Y : Type 0} (s : Expected) (f : List (List ℕ) → X → Y) (read : List (List ℕ) → Result X AsmKind) → OperandsFrom s read → OperandsFrom s (λ ws. read ws >>= λ x. Ok (f ws x))
-carried_operands s f read all kind words is e = carried_wrong f read kind words (stop s words).before (stop s words).word (all kind words is (kept (f words) (read words) kind e))
+carried_operands s f read all kind words is e = carried_wrong f read kind words (stop s words).before (stop s words).word (all kind words is (mapped_err (read words) (f words) kind e))
 
 no_word : (kind : AsmKind) → IsOfOperand kind → UnknownWord ≡ kind → ⊥
 no_word kind (inl e) q = let no : UnknownWord ≡ BadNumber = q ∙ e in absurd (cc)

@@ -16,7 +16,7 @@ use Rattle.sts_asm.specs.Operand.{name_at, number_at, named, finished}
 use Rattle.sts_asm.specs.Outline.{Draft, Outline, empty, profile_at, profiled, needs_at, header_at, with_function, ended, label_of, with_label, with_sentence, inner, inside, said, is_allowed, is_semicolon, line_read, lines_read, outline_of}
 use Rattle.sts_asm.specs.Source.{words_of, words_at}
 use Rattle.look_text.specs.Heads.{is_head, heads_from, head_at, Begins, HeadsBeginFunctions}
-use Rattle.look_text.proofs.PlaceLemmas.{line_says}
+use Rattle.sts_asm.proofs.KeptLemmas.{at_line_ok}
 use Rattle.look_text.proofs.StandLemmas.{after, finished_same, AreFrom, from_first, line_from, next_from}
 
 -- what begins the line of a function
@@ -110,7 +110,7 @@ said_opens at o (word ∷ rest) p h =
 
 line_opens : (at : ℕ) (o : Outline) (line : List ℕ) (p : Outline) → at_line at (line_read at o line) ≡ Ok p → openings p ≡ openings o ++ begun_by (is_head (words_of (Some line))) (words_of (Some line))
 line_opens at o line p e =
-    either_way (list_all is_allowed line) (said at o (words (before_first is_semicolon line))) (Err NotAscii) p (line_says at (line_read at o line) p e) (λ b f. said_opens at o (words (before_first is_semicolon line)) p f) (λ b f. absurd (cc))
+    either_way (list_all is_allowed line) (said at o (words (before_first is_semicolon line))) (Err NotAscii) p (at_line_ok at (line_read at o line) p e) (λ b f. said_opens at o (words (before_first is_semicolon line)) p f) (λ b f. absurd (cc))
 
 -- the first words of the lines of these numbers
 abbrev first_words : List ℕ → List ℕ → List (List (List ℕ))

@@ -19,7 +19,8 @@ use Rattle.sts_asm.specs.Operand.{name_at, number_at, finished}
 use Rattle.sts_asm.specs.Outline.{Sentence, Draft, Outline, empty, profile_at, needs_at, header_at, with_function, begun, ended, label_of, with_label, with_sentence, inner, inside, said, is_allowed, is_semicolon, line_read, lines_read, outline_of}
 use Rattle.sts_asm.specs.Source.{sentences_of}
 use Rattle.look_text.specs.Labels.{is_end, is_named, gives, are_giving, number_of, last_line, names_none, BehindNamesNone}
-use Rattle.look_text.proofs.PlaceLemmas.{line_says}
+use Rattle.sts_asm.proofs.KeptLemmas.{at_line_ok}
+use Rattle.sts_code.proofs.ListLemmas.{got_last}
 use Rattle.look_text.proofs.StandLemmas.{after, finished_same, AreFrom, from_first, line_from, next_from, one_of}
 use Rattle.look_text.proofs.HeadLaw.{either_way}
 
@@ -126,15 +127,11 @@ label_growing text at d word x rest line ends label s = (
 
 -- ---- an instruction
 
-get_last : (xs : List Sentence) (s : Sentence) → slice_get (xs ++ s ∷ []) (length xs) ≡ Some s
-get_last [] s = refl
-get_last (x ∷ xs) s = get_last xs s
-
 last_pushed : (xs : List Sentence) (s : Sentence) → last_line (xs ++ s ∷ []) ≡ s.line
 last_pushed xs s =
     let count : length (xs ++ s ∷ []) ≡ length xs + 1 = length-append xs (s ∷ []) in
     let last : length (xs ++ s ∷ []) - 1 ≡ length xs = omega (arith, count) in
-    ap (λ (n : ℕ). number_of (slice_get (xs ++ s ∷ []) n)) last ∙ ap number_of (get_last xs s)
+    ap (λ (n : ℕ). number_of (slice_get (xs ++ s ∷ []) n)) last ∙ ap number_of (got_last xs s)
 
 instr_growing : (text : List ℕ) (at : ℕ) (d : Draft) (ws : List (List ℕ)) → Growing text at d → Growing text (at + 1) (with_sentence at d ws)
 instr_growing text at d ws s =
@@ -192,7 +189,7 @@ line_settled text at o line p first stands s e =
     ∙ ap (λ (x : List ℕ). x ∷ drop (at - 1 + 1) (lines text)) (get_or_from_slice_get (lines text) (at - 1) line line stands)
     ∙ ap (λ (n : ℕ). line ∷ drop n (lines text)) next in
     let says : Line text at (words (before_first is_semicolon line)) = λ name. ap (λ (ls : List (List ℕ)). are_giving ls name) cut in
-    either_way (list_all is_allowed line) (said at o (words (before_first is_semicolon line))) (Err NotAscii) p (line_says at (line_read at o line) p e) (λ b f. said_settled text at o (words (before_first is_semicolon line)) p says s f) (λ b f. absurd (cc))
+    either_way (list_all is_allowed line) (said at o (words (before_first is_semicolon line))) (Err NotAscii) p (at_line_ok at (line_read at o line) p e) (λ b f. said_settled text at o (words (before_first is_semicolon line)) p says s f) (λ b f. absurd (cc))
 
 lines_settled : (text : List ℕ) (at : ℕ) (o : Outline) (rest : List (List ℕ)) (p : Outline) → 0 < at → AreFrom text at rest → AllSettled text at o → lines_read at o rest ≡ Ok p → All (Settled text) p.done
 unfolding lines_read

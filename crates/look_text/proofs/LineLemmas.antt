@@ -10,11 +10,7 @@ use Rattle.look_text.specs.declared.wanted.Expected.TheVariants.{NewLabel}
 use Rattle.look_text.specs.Wanted.{Stop, stop, behind, fits, after, first_wrong, in_place_of, wrong_place}
 use Rattle.look_text.specs.Wrong.{bracketed, expected_words, wanted_words, stop_words}
 
--- three texts are appended in a row
-pub three_said : (a b d before one two three : List ℕ) → one ≡ before ++ a → two ≡ one ++ b → three ≡ two ++ d → three ≡ before ++ (a ++ (b ++ d))
-three_said a b d before one two three e f g = two_parts before a (b ++ d) one three e (two_parts one b d two three f g)
-
--- and so are five
+-- five texts are appended in a row
 pub five_said : (a b d e f before one two three four five : List ℕ) → one ≡ before ++ a → two ≡ one ++ b → three ≡ two ++ d → four ≡ three ++ e → five ≡ four ++ f → five ≡ before ++ ((((a ++ b) ++ d) ++ e) ++ f)
 five_said a b d e f before one two three four five g h i j k =
     let after_two : two ≡ before ++ (a ++ b) = two_parts before a b one two g h in

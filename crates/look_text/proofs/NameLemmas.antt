@@ -28,6 +28,7 @@ use Rattle.sts_asm.specs.Operand.{kind_at, finished}
 use Rattle.sts_asm.specs.Outline.{Sentence, Draft, Outline, outline_of}
 use Rattle.sts_asm.specs.Source.{sentence_at, names_at}
 use Rattle.sts_asm.specs.Text.{each, instr_at, routine_of, checked, program_of}
+use Rattle.sts_asm.proofs.TextLemmas.{mapped_err}
 use Rattle.look_text.specs.declared.wanted.Expected.{Expected}
 use Rattle.look_text.specs.declared.wanted.Expected.TheVariants as w
 use Rattle.look_text.specs.Wanted.{Stop, behind, first_wrong, after, of_mnemonic}
@@ -350,10 +351,6 @@ in_later names s rest e none l =
     let first = l.first in
     record { pc = suc (l.pc); line = l.line; stop = l.stop; there = l.there; number = l.number; first = rw (none, first) refl; stops = l.stops }
 
-rest_fault : {A B : Type 0} (r : Result A AsmError) (f : A → B) (e : AsmError) → (r >>= λ x. Ok (f x)) ≡ Err e → r ≡ Err e
-rest_fault (Ok x) f e h = absurd (cc)
-rest_fault (Err k) f e h = let same : k ≡ e = cc in ap (λ (x : AsmError). Err x) same
-
 rest_well : {A B : Type 0} (r : Result A AsmError) (f : A → B) (y : B) → (r >>= λ x. Ok (f x)) ≡ Ok y → (x : A) × (r ≡ Ok x)
 rest_well (Ok x) f y h = (x, refl)
 rest_well (Err k) f y h = absurd (cc)
@@ -361,7 +358,7 @@ rest_well (Err k) f y h = absurd (cc)
 in_lines_on : (names : Names) (s : Sentence) (rest : List Sentence) (e : AsmError) (r : Result Instr AsmKind) → e.kind ≡ UnknownLabel → instr_of (Some names) s.words ≡ r
     → (at_line s.line r >>= λ y. each (instr_at names) rest >>= λ ys. Ok (y ∷ ys)) ≡ Err e → (each (instr_at names) rest ≡ Err e → InLines names rest e) → InLines names (s ∷ rest) e
 in_lines_on names s rest e (Err k) is h g later = in_first names s rest e k is h (cc)
-in_lines_on names s rest e (Ok x) is h g later = in_later names s rest e ((line_named names s.words).well x h) (later (rest_fault (each (instr_at names) rest) (λ ys. x ∷ ys) e g))
+in_lines_on names s rest e (Ok x) is h g later = in_later names s rest e ((line_named names s.words).well x h) (later (mapped_err (each (instr_at names) rest) (λ ys. x ∷ ys) e g))
 
 in_lines : (names : Names) (code : List Sentence) (e : AsmError) → e.kind ≡ UnknownLabel → each (instr_at names) code ≡ Err e → InLines names code e
 in_lines names [] e is h = absurd (cc)
@@ -411,7 +408,7 @@ in_functions_on : (functions : List Mark) (d : Draft) (rest : List Draft) (e : A
 in_functions_on functions d rest e (Err k) is h g later = let same : k ≡ e = cc in first_function functions d rest e (in_lines (names_of functions d) d.code e is (h ∙ ap (λ (x : AsmError). Err x) same))
 in_functions_on functions d rest e (Ok code) is h g later =
     later_function functions d rest e (lines_well (names_of functions d) d.code code h)
-    (later (rest_fault (each (routine_of functions) rest) (λ ys. record { name = d.name; args = d.args; needs = d.needs; code = code } ∷ ys) e g))
+    (later (mapped_err (each (routine_of functions) rest) (λ ys. record { name = d.name; args = d.args; needs = d.needs; code = code } ∷ ys) e g))
 
 in_functions : (functions : List Mark) (ds : List Draft) (e : AsmError) → e.kind ≡ UnknownLabel → each (routine_of functions) ds ≡ Err e → InFunctions functions ds e
 in_functions functions [] e is h = absurd (cc)

@@ -6,15 +6,15 @@ use Rattle.sts_code.specs.Program.{Program, Routine, no_routine}
 use Rattle.sts_code.specs.declared.checking.CodeError.{CodeError}
 use Rattle.sts_code.specs.declared.instr.Instr.{Instr}
 use Rattle.sts_code.specs.declared.profile.Profile.{Profile}
-use Rattle.sts_asm.specs.declared.fault.AsmKind.{AsmKind}
 use Rattle.sts_asm.specs.declared.fault.AsmKind.TheVariants.{TextTooLong}
 use Rattle.sts_asm.specs.declared.fault.AsmError.{AsmError}
-use Rattle.sts_asm.specs.Fault.{◌>>=◌, at_line}
+use Rattle.sts_asm.specs.Fault.{◌>>=◌}
 use Rattle.sts_asm.specs.Line.{instr_of}
 use Rattle.sts_asm.specs.Marks.{Mark, Names}
 use Rattle.sts_asm.specs.Outline.{Sentence, Draft, Outline, outline_of}
 use Rattle.sts_asm.specs.Source.{sentences_of, labels_of}
 use Rattle.sts_asm.specs.Text.{each, instr_at, routine_of, checked, program_of}
+use Rattle.sts_asm.proofs.KeptLemmas.{at_line_ok}
 use Rattle.look_text.specs.Places.{LinesSayInstructions, FunctionsSayInstructions}
 
 -- an element of the result was read from the element of the list with the same number
@@ -39,11 +39,6 @@ each_read read (x ∷ xs) ys e = first_read read x xs (read x) ys refl (λ zs q.
 
 -- ---- a function
 
--- a result with the number of its line is a result of reading
-pub line_says : {A : Type 0} (at : ℕ) (r : Result A AsmKind) (x : A) → at_line at r ≡ Ok x → r ≡ Ok x
-line_says at (Ok y) x e = cc
-line_says at (Err k) x e = absurd (cc)
-
 code_read : (functions : List Mark) (d : Draft) (r : Result (List Instr) AsmError) (rt : Routine) → (r >>= λ code. Ok (record { name = d.name; args = d.args; needs = d.needs; code = code })) ≡ Ok rt → r ≡ Ok rt.code
 code_read functions d (Ok code) rt e = let out : record { name = d.name; args = d.args; needs = d.needs; code = code } ≡ rt = cc in let same : code ≡ rt.code = ap (λ (x : Routine). x.code) out in ap (λ (x : List Instr). Ok x) same
 code_read functions d (Err k) rt e = absurd (cc)
@@ -53,7 +48,7 @@ routine_says functions d rt pc i e g =
     let names : Names = record { labels = d.labels; functions = functions } in
     let code = code_read functions d (each (instr_at names) d.code) rt e in
     let at = each_read (instr_at names) d.code rt.code code pc i g in
-    (at.0, (at.1.0, line_says at.0.line (instr_of (Some names) at.0.words) i at.1.1))
+    (at.0, (at.1.0, at_line_ok at.0.line (instr_of (Some names) at.0.words) i at.1.1))
 
 -- ---- a program
 

@@ -14,7 +14,7 @@ use Rattle.sts_asm.specs.Operand.{name_at, number_at, finished}
 use Rattle.sts_asm.specs.Outline.{Sentence, Draft, Outline, empty, profile_at, profiled, needs_at, header_at, with_function, begun, ended, label_of, with_label, with_sentence, inner, inside, said, is_allowed, is_semicolon, line_read, lines_read, outline_of}
 use Rattle.sts_asm.specs.Source.{sentences_of, words_of}
 use Rattle.look_text.specs.Places.{Stands, LinesStandInText}
-use Rattle.look_text.proofs.PlaceLemmas.{line_says}
+use Rattle.sts_asm.proofs.KeptLemmas.{at_line_ok}
 
 -- each line of an instruction of the outline is in the text, for the ended functions and the open
 -- one
@@ -111,7 +111,7 @@ line_stand text at o line p first stands s e =
     let small : at - 1 < length (lines text) = slice_get_within (lines text) (at - 1) line stands in
     let within : at ≤ length (lines text) = omega arith in
     let here : Stands text (record { line = at; words = words (before_first is_semicolon line) }) = (first, within, ap words_of stands) in
-    either (list_all is_allowed line) (said at o (words (before_first is_semicolon line))) (Err NotAscii) p (line_says at (line_read at o line) p e) (λ f. said_stand text at o (words (before_first is_semicolon line)) p here s f) (λ f. absurd (cc))
+    either (list_all is_allowed line) (said at o (words (before_first is_semicolon line))) (Err NotAscii) p (at_line_ok at (line_read at o line) p e) (λ f. said_stand text at o (words (before_first is_semicolon line)) p here s f) (λ f. absurd (cc))
 
 lines_read_stand : (text : List ℕ) (at : ℕ) (o : Outline) (rest : List (List ℕ)) (p : Outline) → 0 < at → AreFrom text at rest → AllStand text o → lines_read at o rest ≡ Ok p → AllStand text p
 unfolding lines_read

@@ -9,6 +9,7 @@ use Rattle.std.specs.Str.{bytes_eq}
 use Rattle.std.proofs.lemmas.List.{length-append}
 use Rattle.std.proofs.lemmas.Bool.Decides.{nat_tests}
 use Rattle.std.proofs.lemmas.Slice.Eq.{bytes_eq-Decides}
+use Rattle.sts_code.proofs.ListLemmas.{got_last}
 use Rattle.sts_asm.specs.Buckets.{bucket_of, first_of, other_of, told_by, told, found_in, AreFound}
 use Rattle.sts_asm.specs.Marks.{Mark, marked}
 use Rattle.sts_asm.proofs.MarkLemmas.{marked_push, marked_again}
@@ -44,10 +45,6 @@ got_before : (ms : List Mark) (new : Mark) (i : ℕ) → i < length ms → slice
 got_before [] new i h = absurd (omega arith)
 got_before (m ∷ ms) new zero h = refl
 got_before (m ∷ ms) new (suc i) h = got_before ms new i (omega arith)
-
-got_last : (ms : List Mark) (new : Mark) → slice_get (ms ++ new ∷ []) (length ms) ≡ Some new
-got_last [] new = refl
-got_last (m ∷ ms) new = got_last ms new
 
 told_before : (ms : List Mark) (new : Mark) (others : BTreeMap (Bor (List ℕ)) ℕ) (first : Option ℕ) (q : List ℕ) → ((place : ℕ) → first ≡ Some place → place < length ms) → told (ms ++ new ∷ []) others first q ≡ told ms others first q
 told_before ms new others None q h = refl

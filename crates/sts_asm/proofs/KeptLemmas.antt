@@ -166,8 +166,9 @@ parts_set [] at y old low is h = absurd (omega arith)
 parts_set (c ∷ code) zero y old low is h = ap (λ (p : Option Instr). p ∷ map without_names code) (h ∙ ap without_names is)
 parts_set (c ∷ code) (suc at) y old low is h = ap (λ (ps : List (Option Instr)). without_names c ∷ ps) (parts_set code at y old (omega arith) is h)
 
-at_line_ok : (at : ℕ) (r : Result Instr AsmKind) (x : Instr) → at_line at r ≡ Ok x → r ≡ Ok x
-at_line_ok at (Ok y) x e = let h : y ≡ x = cc in rw h refl
+-- a result with the number of its line is a result of reading
+pub at_line_ok : {A : Type 0} (at : ℕ) (r : Result A AsmKind) (x : A) → at_line at r ≡ Ok x → r ≡ Ok x
+at_line_ok at (Ok y) x e = cc
 at_line_ok at (Err k) x e = absurd (cc)
 
 -- an instruction that is read again names something, as before

@@ -5,6 +5,7 @@ use Rattle.std.specs.List.{AllByRecursion}
 use Rattle.std.specs.Option.{option_or}
 use Rattle.std.specs.Str.{bytes_eq}
 use Rattle.std.proofs.lemmas.Slice.Eq.{bytes_eq-Decides}
+use Rattle.std.proofs.lemmas.Option.{cond_some}
 use Rattle.sts_code.specs.Name.{is_name}
 use Rattle.sts_code.specs.declared.instr.Instr.{Instr}
 use Rattle.sts_code.specs.Shape.{Operand, shape}
@@ -130,15 +131,11 @@ slot_found : (words : List (List ℕ)) (p : ℕ × List (List ℕ)) → slot_at 
 slot_found [] p e = cc
 slot_found (w ∷ rest) p e = let h = wanted_ok BadOperands (slot w) rest p e in (w, ap (λ (r : List (List ℕ)). w ∷ r) h.1, h.0)
 
-named_ok : (b : Bool) (w name : List ℕ) → cond b (Some w) None ≡ Some name → (b ≡ true) × (w ≡ name)
-named_ok true w name e = (refl, cc)
-named_ok false w name e = cc
-
 name_found : (words : List (List ℕ)) (p : List ℕ × List (List ℕ)) → name_at words ≡ Ok p → (words ≡ p.0 ∷ p.1) × (is_name p.0 ≡ true)
 name_found [] p e = cc
 name_found (w ∷ rest) p e =
     let h = wanted_ok BadOperands (named w) rest p e in
-    let n = named_ok (is_name w) w p.0 h.0 in
+    let n = cond_some (is_name w) w p.0 h.0 in
     (rw (← n.1, ← h.1) refl, rw (← n.1) n.0)
 
 -- the name was looked up

@@ -37,6 +37,11 @@ pub ruleset reads = (line_step, line_last)
 pub err_bind : {A B E : Type 0} (r : Result A E) (f : A → Result B E) (e : E) → r ≡ Err e → (r >>= f) ≡ Err e
 err_bind r f e h = rw h refl
 
+-- what failed, failed before it was put elsewhere
+pub mapped_err : {X Y E : Type 0} (r : Result X E) (f : X → Y) (e : E) → (r >>= λ x. Ok (f x)) ≡ Err e → r ≡ Err e
+mapped_err (Ok x) f e h = absurd (cc)
+mapped_err {E = E} (Err k) f e h = let same : k ≡ e = cc in ap (λ (z : E). Err z) same
+
 pub ok_bind : {A B E : Type 0} (r : Result A E) (f : A → Result B E) (x : A) → r ≡ Ok x → (r >>= f) ≡ f x
 ok_bind r f x h = rw h refl
 

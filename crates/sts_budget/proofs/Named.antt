@@ -2,7 +2,7 @@
 -- that was opened before it.
 use Rattle.std.proofs.Common.{◌≡◌, ℕ, suc, ◌+◌, ◌<◌, ◌≤◌, ◌⊎◌, inl, inr, List, [], ◌∷◌, ◌++◌}
 use Rattle.std.proofs.Common.{length, drop, map, Bool, true, false, cond, not, ◌||◌, ◌==◌}
-use Rattle.std.proofs.Common.{Option, Some, None, refl, sym, ap, ◌∙◌, subst, arith, option_map}
+use Rattle.std.proofs.Common.{Some, refl, sym, ap, ◌∙◌, subst, arith, option_map}
 use Rattle.std.proofs.Common.{option_to_list, slice_get, nat_le}
 use Rattle.std.specs.List.{list_any}
 use Rattle.std.proofs.lemmas.Bool.{cases_lt, leb-false, eqb-true, not-false, or_parts}
@@ -36,17 +36,13 @@ use Rattle.sts_budget.proofs.TypedLemmas.{times_at, next_at, goes_at, within_cod
 use Rattle.sts_budget.proofs.TypedLemmas.{none_past}
 use Rattle.sts_budget.specs.Known.{KnowsNames, NamesRight}
 use Rattle.sts_budget.specs.Structured.{Led, from_go, from_head, from_end}
-use Rattle.sts_budget.specs.TypedNames.{names}
+use Rattle.sts_budget.specs.TypedNames.{name_of, names}
 
 -- ---- one instruction
 
 some_entry : (t : TypedEntry → Bool) (es : List TypedEntry) → innermost t es ≡ true → 0 < length (names es)
 some_entry t [] e = absurd (cc)
-some_entry t (x ∷ es) e = omega (arith, length-map es name)
-  where
-    name : TypedEntry → Option ℕ
-    name (Scope r) = Some r.slot
-    name (Binding k) = None
+some_entry t (x ∷ es) e = omega (arith, length-map es name_of)
 
 has_scope : (es : List TypedEntry) (x : ℕ) → passes is_opened (scope_in es x) ≡ true → HasScope x (names es)
 has_scope [] x e = absurd (cc)

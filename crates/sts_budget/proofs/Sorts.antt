@@ -95,7 +95,7 @@ straight Ret pc e = absurd (cc)
 straight Fail pc e = absurd (cc)
 straight _ pc e = refl
 
-slot_loops : (h : Option ℕ) (k : SlotKind) (s : TypeState) → (with_slot h k s).loops ≡ s.loops
+pub slot_loops : (h : Option ℕ) (k : SlotKind) (s : TypeState) → (with_slot h k s).loops ≡ s.loops
 slot_loops None k s = refl
 slot_loops (Some x) k s = refl
 

@@ -5,17 +5,18 @@ use Rattle.std.proofs.Common.{length, drop, map, reverse, Bool, true, false, con
 use Rattle.std.proofs.Common.{Some, None, Ok, refl, sym, ap, ◌∙◌, subst, arith, is_none, option_map}
 use Rattle.std.proofs.Common.{option_to_list, unwrap_or}
 use Rattle.std.specs.List.{filter, range_with_len}
-use Rattle.std.proofs.lemmas.Bool.{and_parts, cases_eq, cases_lt, leb-true, le-leb, eqb-true}
+use Rattle.std.proofs.lemmas.Bool.{and_parts, cases_eq, cases_lt, leb-true, le-leb}
 use Rattle.std.proofs.lemmas.List.{get_or_past, reverse-append}
 use Rattle.std.proofs.lemmas.Bool.{not-false}
 use Rattle.sts_types.proofs.AmongLemmas.{among_left, among_right}
 use Rattle.sts_types.proofs.PromisingLemmas.{heads_dropped}
+use Rattle.sts_code.proofs.LoopLemmas.{at_match}
 use Rattle.sts_code.specs.Program.{Program, routine, instr_at}
 use Rattle.sts_code.specs.declared.instr.Instr.{Instr}
 use Rattle.sts_code.specs.declared.instr.Instr.TheVariants.{Times, Next, Ret}
 use Rattle.sts_rules.specs.declared.typing.TypedLoop.{TypedLoop}
 use Rattle.sts_rules.specs.Flow.{Leads, Reaches, first, then, IsClear}
-use Rattle.sts_code.specs.Loops.{match_of, is_times, is_at}
+use Rattle.sts_code.specs.Loops.{match_of, is_times}
 use Rattle.sts_rules.specs.TypeState.{TypeState, heads}
 use Rattle.sts_rules.specs.Around.{next_place, skipped_to, around, is_inside, reaches_to}
 use Rattle.sts_code.specs.Facts.{targets, falls_through}
@@ -26,6 +27,7 @@ use Rattle.sts_rules.specs.ControlPaths.{GoesTo, Repeats, EndsTurn, EndsPath, Sk
 use Rattle.sts_rules.specs.declared.budget.Budgets.{Budgets}
 use Rattle.sts_rules.specs.Budget.{skeleton, shape_of}
 use Rattle.sts_budget.specs.Layout.{names_after}
+pub use Rattle.sts_budget.proofs.Sorts.{slot_loops}
 use Rattle.sts_budget.proofs.Sorts.{Sort, is_times as times_sort, is_next as next_sort}
 use Rattle.sts_budget.proofs.Sorts.{is_end as end_sort, goes_on, GoesOn, sort, among_of}
 use Rattle.sts_budget.proofs.Allowed.{Allowed, allowed}
@@ -131,10 +133,6 @@ none_past code pc (p ∷ ps) e ge =
     let m = match_is_next code p n.0 r.1.0 (within_times code p r.0) n.1 r.1.1.0 in
     absurd (omega (arith, m.2, r.1.1.1))
 
-closed : (pc : ℕ) (o : Option ℕ) → is_at o pc ≡ true → o ≡ Some pc
-closed pc None e = absurd (cc)
-closed pc (Some q) e = ap (λ (k : ℕ). Some k) (eqb-true q pc e)
-
 shape_times : (code : List Instr) (p : ℕ) → is_times (instr_at code p) ≡ true → (n : ℕ) × (shape_of p (instr_at code p) ≡ Repeats n)
 shape_times code p t = let n = times_is (instr_at code p) t in (n.0, ap (shape_of p) n.1)
 
@@ -165,7 +163,7 @@ some_match (Some q) e = (q, refl)
 -- the innermost loop ends here
 closing : (code : List Instr) (pc : ℕ) (ls : List TypedLoop) → closes_loop code pc ls ≡ true → (l : TypedLoop) × ((rest : List TypedLoop) × ((ls ≡ l ∷ rest) × (match_of code l.at ≡ Some pc)))
 closing code pc [] e = absurd (cc)
-closing code pc (l ∷ rest) e = (l, (rest, (refl, closed pc (match_of code l.at) e)))
+closing code pc (l ∷ rest) e = (l, (rest, (refl, at_match (match_of code l.at) pc e)))
 
 -- ---- the function
 

@@ -2,4 +2,6 @@ pub mod CheckedLemmas
 pub mod EqualLemmas
 pub mod InstrLemmas
 pub mod LimitLemmas
+pub mod ListLemmas
 pub mod LoopLemmas
+pub mod OptionLemmas

@@ -1,13 +1,14 @@
 -- The ends of loops, and how one pass finds them.
 use Rattle.std.proofs.Common.{◌≡◌, ℕ, suc, zero, ◌+◌, ◌-◌, ◌<◌, ◌≤◌, List, length, drop}
-use Rattle.std.proofs.Common.{count_by, cond, ap, sym, ◌∙◌, Bool, true, false, Some}
+use Rattle.std.proofs.Common.{count_by, cond, ap, sym, ◌∙◌, Bool, true, false, Option, Some, None}
 use Rattle.std.proofs.Common.{find, arith, refl, slice_range, slice_index_or}
 use mir.Val.{bool_byte}
 use Rattle.std.specs.List.{range_with_len}
+use Rattle.std.proofs.lemmas.Bool.Decides.{nat_tests}
 use Rattle.std.proofs.lemmas.List.{get_or-drop, length-drop}
 use Rattle.std.proofs.lemmas.List.Sums.{sum_by_more}
 use Rattle.sts_code.specs.declared.instr.Instr.{Instr}
-use Rattle.sts_code.specs.Loops.{match_of, is_balanced}
+use Rattle.sts_code.specs.Loops.{match_of, is_at, is_balanced}
 
 -- if something is found in a range of numbers, the range is not empty
 find_some : (test : ℕ → Bool) (a n m : ℕ) → find test (range_with_len a n) ≡ Some m → 0 < n
@@ -17,6 +18,11 @@ find_some test a (suc n) m e = omega arith
 pub match_of_bound : (code : List Instr) (at m : ℕ) → match_of code at ≡ Some m → at + 1 < length code
 match_of_bound code at m e =
     let h = find_some (λ q. is_balanced (slice_range code at (q + 1))) (at + 1) (length code - (at + 1)) m e in omega arith
+
+-- a match at a place is that place
+pub at_match : (o : Option ℕ) (q : ℕ) → is_at o q ≡ true → o ≡ Some q
+at_match None q e = cc
+at_match (Some m) q e = let same : m ≡ q = grind (arith, nat_tests) in ap Some same
 
 pub as_count : (b : Bool) → bool_byte b ≡ cond b 1 0
 as_count true = refl

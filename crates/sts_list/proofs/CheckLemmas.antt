@@ -1,20 +1,19 @@
 use Rattle.std.proofs.Common.{◌≡◌, ℕ, suc, zero, ◌+◌, ◌<◌, ◌≤◌, Bool, true, false, cond, List, []}
 use Rattle.std.proofs.Common.{◌∷◌, ◌++◌, length, get_or, refl, ◌∙◌, ap, ◌⊎◌, inl, inr, arith}
 use Rattle.std.proofs.Common.{append_assoc, append-nil, length-append}
-use Rattle.std.specs.Prelude.{◌==◌, ◌||◌, not, nat_le, nat_lt, Option, Some, None, ⊤}
+use Rattle.std.specs.Prelude.{◌==◌, ◌||◌, not, nat_le, nat_lt, Some, None, ⊤}
 use Rattle.std.specs.List.{AllByRecursion, list_any}
 use Rattle.std.specs.Option.{option_or}
 use Rattle.std.specs.Str.{bytes_eq}
 use Rattle.std.proofs.lemmas.Slice.Eq.{bytes_eq-Decides}
 use Rattle.std.proofs.lemmas.Bool.Decides.{nat_tests}
 use Rattle.std.proofs.lemmas.Bool.{not-false}
-use Rattle.sts_code.proofs.CheckedLemmas.{neither, no_test}
+use Rattle.sts_code.proofs.CheckedLemmas.{neither, no_cause, no_test}
 use Rattle.sts_code.specs.Name.{is_name}
 use Rattle.sts_code.specs.Program.{Routine, no_routine}
 use Rattle.sts_code.specs.Checks.{has_bad_target, forks_later, has_bad_range, instr_cause, fault_at}
 use Rattle.sts_code.specs.Checks.{code_fault, is_named, routine_cause, routine_fault}
 use Rattle.sts_code.specs.Checks.{routines_fault, ends_with_main, program_fault}
-use Rattle.sts_code.specs.declared.checking.CodeCause.{CodeCause}
 use Rattle.sts_code.specs.declared.checking.CodeCause.TheVariants.{TooManyFunctions, TooLong}
 use Rattle.sts_code.specs.declared.checking.CodeCause.TheVariants.{BadTarget, LaterFunction, NoMain}
 use Rattle.sts_code.specs.declared.checking.CodeCause.TheVariants.{BadRange, DuplicateName}
@@ -27,10 +26,6 @@ use Rattle.sts_list.proofs.SpellingLemmas.{either}
 use Rattle.sts_list.proofs.FunctionLemmas.{names_from}
 
 -- ---- what it says that no check fails
-
-no_fault_at : (at pc : ℕ) (cause : Option CodeCause) → fault_at at pc cause ≡ None → cause ≡ None
-no_fault_at at pc None e = refl
-no_fault_at at pc (Some c) e = cc
 
 -- an instruction that passed, in the function at this index, which has n instructions
 pub record IsChecked (at n : ℕ) (instr : Instr) : Type 0 where
@@ -49,7 +44,7 @@ code_checked : (at n pc : ℕ) (code : List Instr) → code_fault at n pc code �
 code_checked at n pc [] e = tt
 code_checked at n pc (instr ∷ rest) e =
     let h = neither (fault_at at pc (instr_cause at n instr)) (code_fault at n (pc + 1) rest) e in
-    (instr_checked at n instr (no_fault_at at pc (instr_cause at n instr) h.0), code_checked at n (pc + 1) rest h.1)
+    (instr_checked at n instr (no_cause at pc (instr_cause at n instr) h.0), code_checked at n (pc + 1) rest h.1)
 
 -- a function that passed, after these
 pub record IsCheckedRoutine (earlier : List Routine) (r : Routine) : Type 0 where
@@ -64,7 +59,7 @@ routine_checked earlier r e =
     let h = neither (fault_at (length earlier) 0 (routine_cause earlier r)) (code_fault (length earlier) (length r.code) 0 r.code) e in
     let bad = not (is_name r.name) || nat_lt 8 r.args || length r.code == 0 in
     let taken = cond (list_any (is_named r.name) earlier) (Some DuplicateName) None in
-    let a = no_test (nat_lt 4096 (length r.code)) TooLong (cond bad (Some BadRange) taken) (no_fault_at (length earlier) 0 (routine_cause earlier r) h.0) in
+    let a = no_test (nat_lt 4096 (length r.code)) TooLong (cond bad (Some BadRange) taken) (no_cause (length earlier) 0 (routine_cause earlier r) h.0) in
     let b = no_test bad BadRange taken a.1 in
     let c = no_test (list_any (is_named r.name) earlier) DuplicateName None b.1 in
     let d = either (not (is_name r.name) || nat_lt 8 r.args) (length r.code == 0) b.0 in

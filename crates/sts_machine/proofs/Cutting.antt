@@ -1,6 +1,6 @@
 -- Where a task is that lives in a reached view, its local instructions are safe, and so are those
 -- after them. They keep the invariant of a slice.
-use Rattle.std.proofs.Common.{◌≡◌, ℕ, zero, suc, ◌+◌, ◌<◌, ◌≤◌, List, [], ◌∷◌, ◌++◌, Bool, true, false, Option, Some, None, refl, sym, ◌∙◌, ap, subst, length, arith, slice_get, cond}
+use Rattle.std.proofs.Common.{◌≡◌, ℕ, zero, suc, ◌+◌, ◌<◌, ◌≤◌, List, ◌++◌, Bool, true, false, Option, Some, None, refl, sym, ◌∙◌, ap, subst, length, arith, slice_get, cond}
 use Rattle.sts_code.specs.Program.{Program, routine}
 use Rattle.sts_code.specs.declared.instr.Instr.{Instr}
 use Rattle.sts_model.specs.declared.event.Stand.TheVariants.{Free}
@@ -8,7 +8,7 @@ use Rattle.sts_model.specs.declared.record.Frame.{Frame}
 use Rattle.sts_model.specs.World.{code, instr_at}
 use Rattle.sts_model.specs.Local.{is_local}
 use Rattle.sts_frames.specs.Locals.{if_local, local_at, and_local, locals, AreSafe, IsSafe}
-use Rattle.std.proofs.lemmas.Option.{same_Some}
+use Rattle.std.proofs.lemmas.Option.{same_Some, slice_get_within}
 use Rattle.laws_live.specs.Fine.{IsLiveFine}
 use Rattle.laws_live.specs.Reading.{alive_at, with_live_frame}
 use Rattle.laws_live.specs.Waiting.{live_can_step, live_stand_at, live_stand_at_instr}
@@ -31,11 +31,6 @@ next is f i e = by (slice_get is f.pc) refl e
     by None at e = absurd (cc)
     by (Some j) at e = so j (is_local j) at refl e
 
-within : (is : List Instr) (n : ℕ) (i : Instr) → slice_get is n ≡ Some i → n < length is
-within [] n i e = absurd (cc)
-within (x ∷ is) zero i e = omega arith
-within (x ∷ is) (suc n) i e = let h = within is n i e in omega (arith, h)
-
 -- ---- a frame at which a task lives
 
 module _ (p : Program) (t : ℕ) (law : IsLawful p) where
@@ -51,7 +46,7 @@ module _ (p : Program) (t : ℕ) (law : IsLawful p) where
   inside f r = by (instr_at p f) refl
     where
       by : (o : Option Instr) → instr_at p f ≡ o → f.pc < length (code p f)
-      by (Some i) at = within (code p f) f.pc i at
+      by (Some i) at = slice_get_within (code p f) f.pc i at
       by None at =
           let here : instr_at p (alive_at r.view t).frame ≡ None = ap (instr_at p) r.frame ∙ at in
           let stand : live_stand_at p r.view t ≡ Free = ap (live_stand_at_instr r.view t) here in

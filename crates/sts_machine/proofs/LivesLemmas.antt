@@ -3,6 +3,7 @@ use Rattle.std.proofs.Common.{◌≡◌, ℕ, Option, Some, None, is_some, refl}
 use Rattle.std.specs.Prelude.{option_map, unwrap_or}
 use Rattle.sts_model.specs.Live.{Live, LiveTask, Alive}
 use Rattle.sts_model.specs.declared.record.Frame.{Frame}
+use Rattle.laws_words.proofs.OptionLemmas.{some_mapped}
 use Rattle.laws_runs.proofs.ListLemmas.{at_set}
 use Rattle.laws_live.specs.Reading.{task_in, no_live_task, lives_in, with_alive, with_live_frame}
 
@@ -13,13 +14,9 @@ lives_changed v t change i = at_set (λ o. is_some (unwrap_or o no_live_task).al
     over : LiveTask → LiveTask
     over task = record task { alive = option_map change task.alive }
 
-    held : (o : Option Alive) → is_some (option_map change o) ≡ is_some o
-    held None = refl
-    held (Some a) = refl
-
     by : (o : Option LiveTask) → is_some (unwrap_or (option_map over o) no_live_task).alive ≡ is_some (unwrap_or o no_live_task).alive
     by None = refl
-    by (Some task) = held task.alive
+    by (Some task) = some_mapped change task.alive
 
 -- and at another frame
 pub lives_written : (v : Live) (t : ℕ) (f : Frame) (i : ℕ) → lives_in (with_live_frame v t f) i ≡ lives_in v i

@@ -1,7 +1,8 @@
 -- Effects that don't change the numbers of tasks, scopes and bindings.
-use Rattle.std.proofs.Common.{◌≡◌, ℕ, [], ◌∷◌, length, Bool, true, false, ◌||◌, not, Option, Some, None, refl, ◌∙◌, ap, set, cond, is_some}
+use Rattle.std.proofs.Common.{◌≡◌, ℕ, [], length, Bool, true, false, ◌||◌, not, Option, Some, None, refl, ◌∙◌, ap, set, cond, is_some}
 use Rattle.std.proofs.lemmas.List.{length-set, length-map}
 use Rattle.std.specs.Prelude.{option_map, unwrap_or, count_by}
+use Rattle.laws_words.proofs.OptionLemmas.{some_mapped}
 use Rattle.sts_code.specs.Program.{Program}
 use Rattle.sts_code.specs.declared.instr.Instr.{Instr}
 use Rattle.sts_code.specs.declared.instr.Instr.TheVariants.{Div, Times, Next, Open, Fork, Join, Close, Bind, Unbind, Interrupted, Ret, Fail}
@@ -111,12 +112,8 @@ quiet-scope v s change =
       born = refl;
       tasks = λ u. alike-refl (task_in v u);
       opened = length-set v.scopes s (option_map change (scope_in v s));
-      scopes = λ r. at_set (λ (o : Option LiveScope). is_some o ≡ is_some (scope_in v r)) v.scopes s r (option_map change (scope_in v s)) None (λ e. rw e (by (scope_in v s))) refl;
+      scopes = λ r. at_set (λ (o : Option LiveScope). is_some o ≡ is_some (scope_in v r)) v.scopes s r (option_map change (scope_in v s)) None (λ e. rw e (some_mapped change (scope_in v s))) refl;
     }
-  where
-    by : (o : Option LiveScope) → is_some (option_map change o) ≡ is_some o
-    by None = refl
-    by (Some c) = refl
 
 quiet-raised : (v : Live) (s : ℕ) → IsQuiet v (live_raised s v)
 quiet-raised v s =

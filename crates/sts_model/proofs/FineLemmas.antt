@@ -1,25 +1,20 @@
 -- No fault applies: each test of a fault says no.
-use Rattle.std.proofs.Common.{◌≡◌, ℕ, Bool, true, false, Option, Some, None, cond, refl}
+use Rattle.std.proofs.Common.{◌≡◌, ℕ, Some, None, refl}
 use Rattle.std.proofs.lemmas.Bool.{or_parts}
+use Rattle.sts_code.proofs.CheckedLemmas.{no_test}
 use Rattle.sts_code.specs.Program.{Program}
 use Rattle.sts_code.specs.declared.instr.Instr.{Instr}
-use Rattle.sts_model.specs.declared.event.Fault.{Fault}
 use Rattle.sts_model.specs.declared.record.Frame.{Frame}
 use Rattle.sts_model.specs.World.{World, task_at, instr_at}
 use Rattle.sts_model.specs.Misuse.{IsFine, misuse, fault_of, misuses_operand, lacks_operands, overflows, breaks_loop, has_wrong_slot, misjoins, has_no_room, is_strangers, is_illegal, breaks_structure, is_unbound}
 
--- or_parts the test nor the rest finds a fault
-no_fault : (b : Bool) (k : Fault) (rest : Option Fault) → cond b (Some k) rest ≡ None → (b ≡ false) × (rest ≡ None)
-no_fault true k rest e = cc
-no_fault false k rest e = (refl, e)
-
 pub IsFine-from_fault : (p : Program) (w : World) (t : ℕ) (f : Frame) (i : Instr) → fault_of p w t f i ≡ None → IsFine p w t f i
 IsFine-from_fault p w t f i e =
-    let one = no_fault (misuses_operand p w f i) _ _ e in
-    let two = no_fault (is_strangers f i) _ _ one.1 in
-    let three = no_fault (is_illegal p w f i) _ _ two.1 in
-    let four = no_fault (breaks_structure w f i) _ _ three.1 in
-    let five = no_fault (is_unbound w t i) _ _ four.1 in
+    let one = no_test (misuses_operand p w f i) _ _ e in
+    let two = no_test (is_strangers f i) _ _ one.1 in
+    let three = no_test (is_illegal p w f i) _ _ two.1 in
+    let four = no_test (breaks_structure w f i) _ _ three.1 in
+    let five = no_test (is_unbound w t i) _ _ four.1 in
     let rows = one.0 in
     let a = or_parts _ (has_no_room w f i) rows in
     let b = or_parts _ (misjoins w f i) a.0 in

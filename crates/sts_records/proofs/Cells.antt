@@ -4,23 +4,11 @@ use Rattle.std.proofs.Common.{Option, Some, None, refl, sym, ◌∙◌, ap, arit
 use Rattle.std.proofs.Common.{Bool, true, false, get_or-set_same, get_or-set_other, length-set, vec_capacity}
 use Rattle.std.proofs.Common.{cond, count_by, is_some}
 use Rattle.std.proofs.lemmas.Bool.Decides.{nat_tests}
-use Rattle.std.proofs.lemmas.List.Sums.{sum_by-cons, sum_by-set}
+use Rattle.std.proofs.lemmas.List.Sums.{sum_by-cons}
 use Rattle.std.proofs.lemmas.Option.{same_Some}
+use Rattle.laws_words.proofs.OptionLemmas.{not_none}
 use Rattle.sts_records.specs.Pages.{Comes, Extends, Goes, HasPage, IsKept, KeepsKeys, cell_of, page_of, start_of}
 use Rattle.sts_records.specs.declared.pages.Pages.{Pages}
-
-none_some : {X : Type 0} → (o : Option X) (x : X) → o ≡ None → o ≡ Some x → ⊥
-none_some o x e f = cc
-
--- ---- lists
-
--- as many entries, if one is written over
-pub as_many : {X : Type 0} → (xs : List (Option X)) (k : ℕ) (x y : X) → get_or xs k None ≡ Some x → k < length xs → count_by is_some (set xs k (Some y)) ≡ count_by is_some xs
-as_many {X = X} xs k x y is inside =
-    let s = sum_by-set (λ (o : Option X). cond (is_some o) 1 0) xs k (Some y) None inside in
-    let one : ℕ = 1 in
-    let t : cond (is_some (get_or xs k None)) one 0 ≡ one = rw is refl in
-    omega (arith, s, t)
 
 -- ---- records
 
@@ -39,7 +27,7 @@ came {A = A} at after key birth k b c is same other = by (nat_eq k key) refl
 -- the record at a key, after one went
 pub stayed : (at after : ℕ → Option ℕ) (key birth k b : ℕ) → Goes at after key birth → after k ≡ Some b → at k ≡ Some b
 stayed at after key birth k b g is =
-    let other : k ≢ key = λ s. none_some (after k) b (ap after s ∙ g.gone) is in
+    let other : k ≢ key = λ s. not_none (after k) b is (ap after s ∙ g.gone) in
     sym (g.others k other) ∙ is
 
 -- ---- pages
@@ -307,7 +295,7 @@ no_hits (suc n) =
     sum
 
 hit : {X : Type 0} → (f : Option X → Option ℕ) (xs : List (Option X)) (p k : ℕ) → f None ≡ None → f (get_or xs k None) ≡ Some p → 1 ≤ hits f xs p
-hit f [] p k none is = absurd (none_some (f None) p none is)
+hit f [] p k none is = absurd (not_none (f None) p is none)
 hit f (x ∷ xs) p zero none is =
     let t : nat_eq p p ≡ true = grind (arith, nat_tests) in
     let one : one_if (f x) p ≡ 1 = ap (λ (o : Option ℕ). one_if o p) is ∙ (rw t refl) in

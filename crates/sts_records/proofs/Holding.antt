@@ -7,7 +7,7 @@ use Rattle.sts_records.specs.Places.{HasRoomFor, Places, Updates, filled, get}
 use Rattle.sts_records.specs.Slots.{AreGiven, birth_of, births, slots}
 use Rattle.sts_records.specs.declared.held.Held.TheInside.{Inside}
 use Rattle.sts_records.specs.declared.pages.Pages.{Pages}
-use Rattle.sts_records.proofs.Cells.{as_many}
+use Rattle.laws_words.proofs.ListLemmas.{count_kept}
 use Rattle.sts_records.proofs.Slots.{Stands, at_key, birth_is, born, comes, emptied, given_less, given_more, given_pushed, has_pages, is_at_key}
 use Rattle.sts_records.proofs.Slots.{length-slots, lent_given, lent_kept, less_kept, no_entries, same_latest, stands}
 
@@ -49,7 +49,7 @@ module _ {T : Type 0} (h : Inside T) (i : Keeps h.pages h.places h.given.keys h.
       let entries = h.places.slots in
       let k : ℕ = get_or h.given.keys birth 0 in
       let inside : k < length entries = read_within entries k s.entry s.is in
-      let many = as_many entries k s.entry (record { birth = s.entry.birth; body = w }) s.is inside in
+      let many = count_kept entries k s.entry (record { birth = s.entry.birth; body = w }) s.is in
       rw many (
         i.0,
         i.1,

@@ -76,18 +76,15 @@ left_frame f = record (steps f 0 []) { entries = drop 1 f.entries }
 -- ---- what a task has is written
 
 module _ (m : Parts) (is : IsStore m) (t : ℕ) (r q : Running) (d : Records) (at : get_or m.frames.slots t None ≡ Some r) where
-  held : get_or (holders m) t None ≡ Some (holder_of r)
-  held = map_at holder_of m.frames.slots t ∙ ap (option_map holder_of) at
-
   written : set (holders m) t (Some (holder_of q)) ≡ holders (with_running m t q d)
   written = sym (map-set (option_map holder_of) m.frames.slots t (Some q))
 
-  -- the part of another task or a scope in the sharing
+  -- the part of a task in the sharing
   held_of : (u : ℕ) (l : Running) → get_or m.frames.slots u None ≡ Some l → get_or (holders m) u None ≡ Some (holder_of l)
   held_of u l e = map_at holder_of m.frames.slots u ∙ ap (option_map holder_of) e
 
   pub whole_here : IsWhole m.chains r.env
-  whole_here = is.shared.shares.whole t (holder_of r) held
+  whole_here = is.shared.shares.whole t (holder_of r) (held_of t r at)
 
   -- ---- one more binding
 
@@ -102,7 +99,7 @@ module _ (m : Parts) (is : IsStore m) (t : ℕ) (r q : Running) (d : Records) (a
   bound_store key value whole puts others entries =
       let more : count_by is_binding q.frame.entries ≡ suc (count_by is_binding r.frame.entries) = ap (λ l. count_by is_binding l) entries ∙ one_bound key value r.frame.entries in
       let outer : (s : ℕ) → behind s q.frame.entries ≡ behind s r.frame.entries = λ s. ap (behind s) entries in
-      let after = bind_shares is.shared.shares t puts.key (holder_of r) (holder_of q) held puts.vacant whole puts.keys others more outer in
+      let after = bind_shares is.shared.shares t puts.key (holder_of r) (holder_of q) (held_of t r at) puts.vacant whole puts.keys others more outer in
       kept_running m t r q d is at (subst (λ l. AreShared d l (keepers m) (homes m)) written (record { own = instead is.shared.own t (puts.key ∷ is.shared.own t); outside = is.shared.outside; shares = after }))
 
   pub bound_live : (now : Parts) → Hand m now t r → (key : ℕ) → q.frame ≡ bound_frame r.frame key → list_of d q.env ≡ bound_here r.frame key ∷ list_of m.chains r.env → ((other : Env) → IsWhole m.chains other → Stays m.chains d other) → live_of (with_running m t q d) ≡ live_bind (live_of now) t (frame_of now t) key
@@ -125,11 +122,11 @@ module _ (m : Parts) (is : IsStore m) (t : ℕ) (r q : Running) (d : Records) (a
 
   pub innermost_of : BoundFirst r.frame.entries → Innermost
   innermost_of first =
-      let p = first_own (is.shared.own t) (count_by is_binding (drop 1 r.frame.entries)) (is.shared.shares.count t (holder_of r) held ∙ first.more) in
+      let p = first_own (is.shared.own t) (count_by is_binding (drop 1 r.frame.entries)) (is.shared.shares.count t (holder_of r) (held_of t r at) ∙ first.more) in
       record { key = p.0; rest = p.1.0; own = p.1.1 }
 
   keys_here : (i : Innermost) → keys_of m.chains r.env ≡ i.key ∷ (i.rest ++ inherited m.chains (keepers m) (home_at (homes m) t))
-  keys_here i = is.shared.shares.tasks t (holder_of r) held ∙ ap (λ l. l ++ inherited m.chains (keepers m) (home_at (homes m) t)) i.own
+  keys_here i = is.shared.shares.tasks t (holder_of r) (held_of t r at) ∙ ap (λ l. l ++ inherited m.chains (keepers m) (home_at (homes m) t)) i.own
 
   pub is_bound : Innermost → list_of m.chains r.env ≢ []
   is_bound i = some_bound m.chains r.env i.key (i.rest ++ inherited m.chains (keepers m) (home_at (homes m) t)) whole_here (keys_here i)
@@ -151,7 +148,7 @@ module _ (m : Parts) (is : IsStore m) (t : ℕ) (r q : Running) (d : Records) (a
     size : length i.rest ≡ count_by is_binding (drop 1 r.frame.entries)
     size =
         let own = ap (λ (l : List ℕ). length l) i.own in
-        let count = is.shared.shares.count t (holder_of r) held in
+        let count = is.shared.shares.count t (holder_of r) (held_of t r at) in
         let more = u.first.more in
         omega (arith, own, count, more)
 
@@ -163,7 +160,7 @@ module _ (m : Parts) (is : IsStore m) (t : ℕ) (r q : Running) (d : Records) (a
         omega (arith, less, outer, same)
 
     alone : IsUnshared m.chains (sharing_of (holders m) (keepers m) (homes m) is.shared.own is.shared.outside) t i.key
-    alone = unshared m.chains (holders m) (keepers m) (homes m) is.shared.own is.shared.outside is.shared.shares (housed m is u.order) front_is_unshared t i.key i.rest (holder_of r) held i.own few
+    alone = unshared m.chains (holders m) (keepers m) (homes m) is.shared.own is.shared.outside is.shared.shares (housed m is u.order) front_is_unshared t i.key i.rest (holder_of r) (held_of t r at) i.own few
 
     same_key : i.key ≡ u.takes.key
     same_key = by i.key u.takes.key _ _ (sym (keys_here i) ∙ u.takes.keys)
@@ -208,5 +205,5 @@ module _ (m : Parts) (is : IsStore m) (t : ℕ) (r q : Running) (d : Records) (a
         let less : count_by is_binding r.frame.entries ≡ suc (count_by is_binding q.frame.entries) = u.first.more ∙ ap (λ l. suc (count_by is_binding l)) (sym u.entries) in
         let outer : (s : ℕ) → behind s q.frame.entries ≡ behind s r.frame.entries = λ s. ap (behind s) u.entries ∙ u.first.outer s in
         let keys : keys_of m.chains r.env ≡ i.key ∷ keys_of d q.env = u.takes.keys ∙ ap (λ k. k ∷ keys_of d q.env) (sym same_key) in
-        let after = unbind_shares is.shared.shares t i.key (holder_of r) (holder_of q) i.rest held i.own u.whole keys tasks_stay scopes_stay less outer (λ s. fewer_behind q.frame.entries s) in
+        let after = unbind_shares is.shared.shares t i.key (holder_of r) (holder_of q) i.rest (held_of t r at) i.own u.whole keys tasks_stay scopes_stay less outer (λ s. fewer_behind q.frame.entries s) in
         kept_running m t r q d is at (subst (λ l. AreShared d l (keepers m) (homes m)) written (record { own = instead is.shared.own t i.rest; outside = is.shared.outside; shares = after }))

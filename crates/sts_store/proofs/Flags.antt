@@ -11,9 +11,8 @@ use Rattle.sts_tree.specs.Steps.{seen, with_task}
 use Rattle.sts_store.proofs.ViewingLemmas.{words}
 use Rattle.sts_store.specs.declared.running.Running.{Running}
 use Rattle.sts_store.specs.Parts.{Parts, live_of, beside, unseen_of}
-use Rattle.sts_store.specs.Stored.{IsStore}
 use Rattle.sts_store.proofs.Views.{Lived, changed, alive_of, with_running, frame_seen}
-use Rattle.sts_store.proofs.Keeping.{kept_task, live_seen, store_seen, rest_seen, same_stand}
+use Rattle.sts_store.proofs.Keeping.{live_seen, rest_seen, same_stand}
 
 -- two changes of one living task are one
 pub twice : (v : Live) (t : ℕ) (task : LiveTask) (first then both : Alive → Alive) → task_in v t ≡ Some task → changed then (changed first task) ≡ changed both task → with_alive (with_alive v t first) t then ≡ with_alive v t both
@@ -29,12 +28,7 @@ twice v t task first then both at same =
 abbrev pub flagged : Bool → Alive → Alive
 flagged flag alive = record alive { flag = flag }
 
-module _ (m : Parts) (is : IsStore m) (t : ℕ) (l : Lived m t) (flag : Bool) (f : Forest Env) (same : seen f ≡ seen (with_task m.tree t (record l.task { flag = flag }))) where
-  pub flag_kept : IsStore (record m { tree = f })
-  flag_kept =
-      store_seen m f (with_task m.tree t (record l.task { flag = flag })) same
-      (kept_task m t l.task (record l.task { flag = flag }) is l.stands refl refl)
-
+module _ (m : Parts) (t : ℕ) (l : Lived m t) (flag : Bool) (f : Forest Env) (same : seen f ≡ seen (with_task m.tree t (record l.task { flag = flag }))) where
   pub flag_seen : live_of (record m { tree = f }) ≡ with_alive (live_of m) t (flagged flag)
   flag_seen = live_seen m f (with_task m.tree t (record l.task { flag = flag })) same ∙ words.flag (beside m) m.tree t l.task flag l.stands
 

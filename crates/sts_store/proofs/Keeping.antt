@@ -14,7 +14,7 @@ use Rattle.sts_store.specs.Parts.{Parts, live_of, beside, stand_of, unseen_of}
 use Rattle.sts_store.specs.Sharing.{AreShared, holder_of, home_of, holders, keepers, homes}
 use Rattle.sts_store.specs.Stored.{IsStore}
 use Rattle.sts_store.specs.declared.running.Running.{Running}
-use Rattle.sts_store.proofs.Views.{with_running, lives_of}
+use Rattle.sts_store.proofs.Views.{Lived, with_running, lives_of}
 
 -- a record written over one that is there
 pub still_some : {X : Type 0} (xs : List (Option X)) (t u : ℕ) (x y : X) → get_or xs t None ≡ Some x → is_some (get_or (set xs t (Some y)) u None) ≡ is_some (get_or xs u None)
@@ -94,21 +94,24 @@ rest_seen m f g e =
 
 -- ---- a task's record in the tree
 
--- a task's record is written, with the same scope, and it lives or not as before
-pub kept_task : (m : Parts) (t : ℕ) (x y : TaskNode) → IsStore m → get_or m.tree.tasks t None ≡ Some x → y.scope ≡ x.scope → y.lives ≡ x.lives → IsStore (record m { tree = with_task m.tree t y })
-kept_task m t x y is at home lives =
-    record {
-      born = is.born ∙ sym (length-set m.tree.tasks t (Some y));
-      alive = λ u. is.alive u ∙ sym (still m.tree.tasks t u at);
-      shared = rw (unseen home_of m.tree.tasks t x y at home) is.shared;
-    }
+-- a living task's record is written, with the same scope, and it lives or not as before
+pub kept_task : {m : Parts} {t : ℕ} → IsStore m → (l : Lived m t) (y : TaskNode) (f : Forest Env) → seen f ≡ seen (with_task m.tree t y) → y.scope ≡ l.task.scope → y.lives ≡ l.task.lives → IsStore (record m { tree = f })
+kept_task {m} {t} is l y f same home lives = store_seen m f (with_task m.tree t y) same written
   where
-    still : (xs : List (Option TaskNode)) (k u : ℕ) → get_or xs k None ≡ Some x → lives_of (get_or (set xs k (Some y)) u None) ≡ lives_of (get_or xs u None)
+    still : (xs : List (Option TaskNode)) (k u : ℕ) → get_or xs k None ≡ Some l.task → lives_of (get_or (set xs k (Some y)) u None) ≡ lives_of (get_or xs u None)
     still [] k u e = refl
     still (o ∷ xs) zero zero e = lives ∙ sym (ap lives_of e)
     still (o ∷ xs) zero (suc u) e = refl
     still (o ∷ xs) (suc k) zero e = refl
     still (o ∷ xs) (suc k) (suc u) e = still xs k u e
+
+    written : IsStore (record m { tree = with_task m.tree t y })
+    written =
+        record {
+          born = is.born ∙ sym (length-set m.tree.tasks t (Some y));
+          alive = λ u. is.alive u ∙ sym (still m.tree.tasks t u l.stands);
+          shared = rw (unseen home_of m.tree.tasks t l.task y l.stands home) is.shared;
+        }
 
 -- the same scope is recorded for it
 pub same_stand : (m : Parts) (t : ℕ) (x y : TaskNode) → get_or m.tree.tasks t None ≡ Some x → y.stand ≡ x.stand → unseen_of (record m { tree = with_task m.tree t y }) ≡ unseen_of m

@@ -5,6 +5,7 @@ use Rattle.std.specs.Prelude.{count_by}
 use Rattle.std.proofs.lemmas.Option.{same_Some}
 use Rattle.sts_env.specs.Environments.{Records, IsWhole, keys_of}
 use Rattle.laws_words.specs.Keys.{NotIn}
+use Rattle.laws_words.proofs.ListLemmas.{old_at}
 use Rattle.sts_model.specs.Misuse.{is_binding}
 use Rattle.sts_store.specs.Sharing.{Shares, Holder, Keeper, keys_kept, inherited, home_at, behind}
 use Rattle.sts_store.proofs.Shared.{by_place, there, instead, instead_here, instead_there}
@@ -19,12 +20,6 @@ by_new Q [] y one others zero z e = subst (Q zero) (same_Some y z e) one
 by_new Q [] y one others (suc r) z e = cc
 by_new Q (x ∷ xs) y one others zero z e = others zero z (λ q. cc) e
 by_new Q (x ∷ xs) y one others (suc r) z e = by_new (λ i. Q (suc i)) xs y one (λ i w ne. others (suc i) w (λ q. ne (less i (length xs) q))) r z e
-
-old_at : {X : Type 0} (xs : List (Option X)) (y : X) (r : ℕ) → r ≢ length xs → get_or (xs ++ Some y ∷ []) r None ≡ get_or xs r None
-old_at [] y zero ne = absurd (ne refl)
-old_at [] y (suc r) ne = refl
-old_at (x ∷ xs) y zero ne = refl
-old_at (x ∷ xs) y (suc r) ne = old_at xs y r (λ q. ne (ap suc q))
 
 -- a task that lives now lived before
 was : (hs : List (Option Holder)) (t : ℕ) (h g : Holder) → get_or hs t None ≡ Some h → (u : ℕ) (l : Holder) → get_or (set hs t (Some g)) u None ≡ Some l → (k : Holder) × (get_or hs u None ≡ Some k)

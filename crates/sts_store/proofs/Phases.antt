@@ -13,20 +13,11 @@ use Rattle.sts_model.specs.Live.{Live}
 use Rattle.laws_live.specs.Effect.{live_join, live_joined, live_verdict}
 use Rattle.laws_live.specs.Reading.{with_live_phase, with_alive, live_scope_at, live_any_lives, live_count}
 use Rattle.sts_store.proofs.ViewingLemmas.{words}
-use Rattle.sts_store.specs.Parts.{Parts, live_of, beside, unseen_of}
-use Rattle.sts_store.specs.Stored.{IsStore}
-use Rattle.sts_store.proofs.Keeping.{live_seen, store_seen, rest_seen}
-use Rattle.sts_store.proofs.Scoping.{kept_scope}
+use Rattle.sts_store.specs.Parts.{Parts, live_of, beside}
+use Rattle.sts_store.proofs.Keeping.{live_seen}
 
-module _ (m : Parts) (s : ℕ) (c : ScopeNode Env) (at : get_or m.tree.scopes s None ≡ Some c) (phase : Phase) (f : Forest Env) (same : seen f ≡ seen (with_scope m.tree s (record c { phase = phase }))) where
-  pub phase_live : live_of (record m { tree = f }) ≡ with_live_phase (live_of m) s phase
-  phase_live = live_seen m f (with_scope m.tree s (record c { phase = phase })) same ∙ words.phase (beside m) m.tree s c phase at
-
-  pub phase_unseen : unseen_of (record m { tree = f }) ≡ unseen_of m
-  phase_unseen = rest_seen m f (with_scope m.tree s (record c { phase = phase })) same
-
-  pub phase_kept : IsStore m → IsStore (record m { tree = f })
-  phase_kept is = store_seen m f (with_scope m.tree s (record c { phase = phase })) same (kept_scope m s c (record c { phase = phase }) is at refl)
+pub phase_live : (m : Parts) (s : ℕ) (c : ScopeNode Env) → get_or m.tree.scopes s None ≡ Some c → (phase : Phase) (f : Forest Env) → seen f ≡ seen (with_scope m.tree s (record c { phase = phase })) → live_of (record m { tree = f }) ≡ with_live_phase (live_of m) s phase
+phase_live m s c at phase f same = live_seen m f (with_scope m.tree s (record c { phase = phase })) same ∙ words.phase (beside m) m.tree s c phase at
 
 -- ---- a `join`, by its outcome
 

@@ -90,15 +90,8 @@ rest_cancel m s c = by c.cancelled
     by false = rest_raised (record m { tree = with_scope m.tree s (record c { cancelled = true }) }) s
 
 -- a scope, once the tree has cancelled it
-module _ (m : Parts) (s : ℕ) (c : ScopeNode Env) (at : get_or m.tree.scopes s None ≡ Some c) (f : Forest Env) (same : seen f ≡ seen (cancel m.tree s c)) where
-  pub cancel_live : live_of (record m { tree = f }) ≡ live_cancel (live_of m) s
-  cancel_live = live_seen m f (cancel m.tree s c) same ∙ cancelled_is (beside m) m.tree s c at
-
-  pub cancel_unseen : unseen_of (record m { tree = f }) ≡ unseen_of m
-  cancel_unseen = rest_seen m f (cancel m.tree s c) same ∙ rest_cancel m s c
-
-  pub cancel_store : IsStore m → IsStore (record m { tree = f })
-  cancel_store is = store_seen m f (cancel m.tree s c) same (kept_cancel m s c is at)
+pub cancel_live : (m : Parts) (s : ℕ) (c : ScopeNode Env) → get_or m.tree.scopes s None ≡ Some c → (f : Forest Env) → seen f ≡ seen (cancel m.tree s c) → live_of (record m { tree = f }) ≡ live_cancel (live_of m) s
+cancel_live m s c at f same = live_seen m f (cancel m.tree s c) same ∙ cancelled_is (beside m) m.tree s c at
 
 -- the scope as it is once it is marked
 pub written : (m : Parts) (s : ℕ) (c d : ScopeNode Env) → get_or m.tree.scopes s None ≡ Some c → get_or (with_scope m.tree s d).scopes s None ≡ Some d

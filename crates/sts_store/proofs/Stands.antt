@@ -17,17 +17,11 @@ use Rattle.laws_live.specs.Stands.{is_stand_at}
 use Rattle.laws_live.proofs.RestingLemmas.{rests-cancel}
 use Rattle.sts_store.proofs.ViewingLemmas.{words, scope_there}
 use Rattle.sts_store.specs.Parts.{Parts, live_of, beside, stand_of, unseen_of, stood_unseen}
-use Rattle.sts_store.specs.Stored.{IsStore}
 use Rattle.sts_store.proofs.Views.{Lived}
-use Rattle.sts_store.proofs.Keeping.{kept_task, live_seen, store_seen, rest_seen}
+use Rattle.sts_store.proofs.Keeping.{live_seen, rest_seen}
 use Rattle.sts_store.proofs.Seeing.{scope_stands}
 
-module _ (m : Parts) (is : IsStore m) (t : ℕ) (l : Lived m t) (stand : Stand) (f : Forest Env) (same : seen f ≡ seen (with_task m.tree t (record l.task { stand = stand }))) where
-  pub stand_kept : IsStore (record m { tree = f })
-  stand_kept =
-      store_seen m f (with_task m.tree t (record l.task { stand = stand })) same
-      (kept_task m t l.task (record l.task { stand = stand }) is l.stands refl refl)
-
+module _ (m : Parts) (t : ℕ) (l : Lived m t) (stand : Stand) (f : Forest Env) (same : seen f ≡ seen (with_task m.tree t (record l.task { stand = stand }))) where
   pub stand_seen : live_of (record m { tree = f }) ≡ live_of m
   stand_seen = live_seen m f (with_task m.tree t (record l.task { stand = stand })) same ∙ words.stand (beside m) m.tree t l.task stand l.stands
 

@@ -1,6 +1,7 @@
 use Rattle.std.proofs.Common.{zero, suc, ◌-◌, ◌≡◌, ℕ, ◌<◌, ◌≤◌, ◌^◌, Bool, true, false, cond, List}
 use Rattle.std.proofs.Common.{[], ◌∷◌, length, get_or, arith, refl, drop, sym, ◌∙◌, ap, rules}
 use Rattle.std.proofs.lemmas.Bool.{and_parts}
+use Rattle.std.proofs.lemmas.Option.{cond_some}
 use Rattle.std.specs.Prelude.{◌↔◌, Option, Some, None, Result, Ok, Err, nat_le, ◌==◌, ◌&&◌, not, ℤ}
 use Rattle.std.specs.Prelude.{pos, neg_ℤ}
 use Rattle.std.specs.Result.{result_ok}
@@ -50,10 +51,6 @@ minus_ascii (b ∷ bs) m h = IsAscii-cons b bs (omega arith) h
 pub minus_utf8 : (bs : List ℕ) → get_or bs 0 0 ≡ 45 → is_digits (drop 1 bs) ≡ true → IsUtf8 bs
 minus_utf8 bs m e = IsUtf8-from_ascii bs (minus_ascii bs m (ascii_digits (drop 1 bs) (and_parts (not (length (drop 1 bs) == 0)) (list_all is_ascii_digit (drop 1 bs)) e).1))
 
-some_if : (b : Bool) (x y : ℕ) → cond b (Some x) None ≡ Some y → (b ≡ true) × (x ≡ y)
-some_if true x y e = (refl, cc)
-some_if false x y e = cc
-
 none_or : (b : Bool) (r : Option ℕ) (y : ℕ) → cond b None r ≡ Some y → (b ≡ false) × (r ≡ Some y)
 none_or true r y e = cc
 none_or false r y e = (refl, e)
@@ -64,7 +61,7 @@ alone ds e h z = grind (arith, nat_tests)
 spells : (word : List ℕ) (n : ℕ) → numeral word ≡ Some n → (n < 2 ^ 32) × (word ≡ decimal n)
 spells word n e =
     let p = none_or (has_leading_zero word) (digits_up_to (2 ^ 32 - 1) word) n e in
-    let q = some_if (is_digits word && nat_le (digits_value 10 word) (2 ^ 32 - 1)) (digits_value 10 word) n p.1 in
+    let q = cond_some (is_digits word && nat_le (digits_value 10 word) (2 ^ 32 - 1)) (digits_value 10 word) n p.1 in
     let r = and_parts (is_digits word) (nat_le (digits_value 10 word) (2 ^ 32 - 1)) q.0 in
     let s = and_parts (not (length word == 0)) (list_all is_ascii_digit word) r.0 in
     let small : digits_value 10 word < 2 ^ 32 = grind (arith, nat_tests, r.1) in

@@ -71,7 +71,7 @@ module _ {T : Type 0} where
           rw e (omega (arith, r, s, t))
 
   -- one by one is all at once
-  one_more : (ys : List (Option T)) (o : Option T) → length (ys ++ o ∷ []) ≡ suc (length ys)
+  pub one_more : (ys : List (Option T)) (o : Option T) → length (ys ++ o ∷ []) ≡ suc (length ys)
   one_more ys o = let l = length-append ys (o ∷ []) in omega (arith, l)
 
   shifted : (q : T → Bool) (ys xs zs : List (Option T)) (o : Option T) → remove_each (births q (length (ys ++ o ∷ [])) xs) ((ys ++ o ∷ []) ++ xs) ≡ (ys ++ o ∷ []) ++ zs → remove_each (births q (suc (length ys)) xs) (ys ++ o ∷ xs) ≡ ys ++ o ∷ zs

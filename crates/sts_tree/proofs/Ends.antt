@@ -9,7 +9,7 @@ use Rattle.sts_tree.specs.Births.{births, has}
 use Rattle.sts_tree.specs.Forest.{is_of, lives_in, Family, IsForest}
 use Rattle.sts_tree.specs.declared.record.TaskNode.{TaskNode}
 use Rattle.sts_tree.proofs.BirthLemmas.{OneLess, births_less, births_kept}
-use Rattle.sts_tree.proofs.Counts.{count_kept}
+use Rattle.laws_words.proofs.ListLemmas.{count_kept}
 use Rattle.sts_tree.proofs.ForkLemmas.{own_scope, one_scope, not_lives_of, living_apart, stays_some}
 use Rattle.sts_tree.proofs.StepLemmas.{at_set}
 

@@ -1,5 +1,5 @@
 -- After one change, which tasks can step, and which own which scopes.
-use Rattle.std.proofs.Common.{◌≡◌, ◌≢◌, ℕ, zero, suc, ◌<◌, List, [], ◌∷◌, ◌++◌, Bool, true, false, ◌&&◌, ◌||◌, not, Option, Some, None, refl, sym, ◌∙◌, ap, arith, get_or, set, get_or-set_same, get_or-set_other, is_some, nat_eq, nat_lt, length}
+use Rattle.std.proofs.Common.{◌≡◌, ◌≢◌, ℕ, zero, suc, List, [], ◌∷◌, ◌++◌, Bool, true, false, ◌&&◌, ◌||◌, not, Option, Some, None, refl, sym, ◌∙◌, ap, arith, get_or, set, get_or-set_same, get_or-set_other, is_some, nat_eq, length}
 use Rattle.std.proofs.lemmas.Bool.Decides.{nat_tests}
 use Rattle.std.proofs.lemmas.List.{get_or_append_left, get_or_past, set-get_or}
 use Rattle.std.specs.Prelude.{option_map}
@@ -7,6 +7,7 @@ use Rattle.std.proofs.lemmas.Option.{same_Some}
 use Rattle.sts_model.specs.declared.event.Stand.{Stand}
 use Rattle.sts_model.specs.declared.event.Stand.TheVariants.{Free, AtJoin, AtClose}
 use Rattle.sts_links.specs.Lists.{first_or}
+use Rattle.laws_words.proofs.ListLemmas.{old_at, read_within}
 use Rattle.sts_tree.specs.Births.{births, has}
 use Rattle.sts_tree.specs.Forest.{Forest, any_lives, lives_in, is_of, root, subtask}
 use Rattle.sts_tree.specs.declared.record.TaskNode.{TaskNode}
@@ -14,8 +15,9 @@ use Rattle.sts_tree.specs.declared.record.ScopeNode.{ScopeNode}
 use Rattle.sts_tree.proofs.BirthLemmas.{births_kept}
 use Rattle.sts_tree.proofs.HoldingLemmas.{map_at, inside_of}
 use Rattle.sts_tree.proofs.KeyLemmas.{not_has}
+use Rattle.sts_tree.proofs.SeeingLemmas.{step_of}
 use Rattle.sts_tree.proofs.ForkLemmas.{own_scope, one_scope, not_lives_of}
-use Rattle.sts_tree.proofs.StepLemmas.{same_living, at_set, at_more, one_of, no_more, past_none}
+use Rattle.sts_tree.proofs.StepLemmas.{same_living, at_set, at_more, one_of, no_more}
 use Rattle.sts_tree.specs.Steps.{is_over, can_go, can_step, unmarked, seen, stands_at, Owned, IsTree, with_task, with_scope}
 
 lives_same : (tasks : List (Option TaskNode)) (t s : ℕ) (x y : TaskNode) → get_or tasks t None ≡ Some x → y.scope ≡ x.scope → y.lives ≡ x.lives → any_lives (set tasks t (Some y)) s ≡ any_lives tasks s
@@ -29,23 +31,11 @@ lives_more tasks r s y scope ne =
     let own : is_of s y ≡ true = rw scope (own_scope s) in
     ap (λ l. is_some (first_or l None)) (one_of (lives_in r) tasks y ∙ no_more (births (lives_in r) 0 tasks) (lives_in r y) (length tasks) (not_lives_of r y (one_scope r s y ne own)))
 
-read_more : (tasks : List (Option TaskNode)) (y : TaskNode) (u : ℕ) → u ≢ length tasks → get_or (tasks ++ Some y ∷ []) u None ≡ get_or tasks u None
-read_more tasks y u ne = by (nat_lt u (length tasks)) refl
-  where
-    by : (b : Bool) → nat_lt u (length tasks) ≡ b → get_or (tasks ++ Some y ∷ []) u None ≡ get_or tasks u None
-    by true q = get_or_append_left tasks (Some y ∷ []) None u (grind (arith, nat_tests))
-    by false q =
-        let past : length tasks < u = grind (arith, nat_tests, ne) in
-        past_none tasks (Some y) u None past ∙ sym (get_or_past tasks u None (omega arith))
-
 last_is : (tasks : List (Option TaskNode)) (y : TaskNode) → get_or (tasks ++ Some y ∷ []) (length tasks) None ≡ Some y
 last_is [] y = refl
 last_is (x ∷ tasks) y = last_is tasks y
 
 module _ {E : Type 0} where
-  abbrev pub step_of : (f : Forest E) → Option TaskNode → Bool
-  step_of f o = elim o [ None ↦ false | Some x ↦ x.lives && can_go f x.flag x.stand ]
-
   -- a task is written that keeps its scope and whether it lives
   go_task : (f : Forest E) (t : ℕ) (x y : TaskNode) (flag : Bool) (stand : Stand) → get_or f.tasks t None ≡ Some x → y.scope ≡ x.scope → y.lives ≡ x.lives → can_go (with_task f t y) flag stand ≡ can_go f flag stand
   go_task f t x y flag Free is scope lives = refl
@@ -76,6 +66,10 @@ module _ {E : Type 0} where
       at_set f.tasks t x y (λ v w. w.lives ≡ true → stands_at s w.stand ≡ true → (c : ScopeNode E) × (get_or f.scopes s None ≡ Some c) × (c.owner ≡ v)) is
       (λ l st. here s l st) (λ v w ne q l st. owned v s w q l st) u z at lives stands
 
+  -- a task that stands at a scope owns it
+  not_owner : (f : Forest E) (s u : ℕ) (c : ScopeNode E) → Owned f → get_or f.scopes s None ≡ Some c → u ≢ c.owner → (z : TaskNode) → get_or f.tasks u None ≡ Some z → z.lives ≡ true → stands_at s z.stand ≡ true → ⊥
+  not_owner f s u c owned is ne z at lives st = let o = owned u s z at lives st in let e = o.1 in let q : o.0 ≡ c = cc in ne (rw (← q) (sym o.2))
+
   -- a scope is written that keeps its owner
   go_scope : (f : Forest E) (s : ℕ) (d : ScopeNode E) (flag : Bool) (stand : Stand) → stands_at s stand ≡ false → can_go (with_scope f s d) flag stand ≡ can_go f flag stand
   go_scope f s d flag Free away = refl
@@ -87,13 +81,10 @@ module _ {E : Type 0} where
   pub steps_scope : (f : Forest E) (s u : ℕ) (c d : ScopeNode E) → Owned f → get_or f.scopes s None ≡ Some c → u ≢ c.owner → can_step (with_scope f s d) u ≡ can_step f u
   steps_scope f s u c d owned is ne = by (get_or f.tasks u None) refl
     where
-      own : (z : TaskNode) → get_or f.tasks u None ≡ Some z → z.lives ≡ true → stands_at s z.stand ≡ true → ⊥
-      own z at lives st = let o = owned u s z at lives st in let e = o.1 in let q : o.0 ≡ c = cc in ne (rw (← q) (sym o.2))
-
       by3 : (z : TaskNode) → get_or f.tasks u None ≡ Some z → (a b : Bool) → z.lives ≡ a → stands_at s z.stand ≡ b → step_of (with_scope f s d) (Some z) ≡ step_of f (Some z)
       by3 z at false b p q = rw p refl
       by3 z at true false p q = ap (λ b. z.lives && b) (go_scope f s d z.flag z.stand q)
-      by3 z at true true p q = absurd (own z at p q)
+      by3 z at true true p q = absurd (not_owner f s u c owned is ne z at p q)
 
       by : (o : Option TaskNode) → get_or f.tasks u None ≡ o → step_of (with_scope f s d) o ≡ step_of f o
       by None at = refl
@@ -102,15 +93,12 @@ module _ {E : Type 0} where
   pub owned_scope : (f : Forest E) (s : ℕ) (c d : ScopeNode E) → Owned f → get_or f.scopes s None ≡ Some c → d.owner ≡ c.owner → Owned (with_scope f s d)
   owned_scope f s c d owned is same u r z at lives stands = by (nat_eq r s) refl (owned u r z at lives stands)
     where
-      inside : s < Rattle.std.proofs.Common.length f.scopes
-      inside = inside_of f.scopes s (λ n. let q : Some c ≡ None = sym is ∙ n in cc)
-
       by : (b : Bool) → nat_eq r s ≡ b → (e : ScopeNode E) × (get_or f.scopes r None ≡ Some e) × (e.owner ≡ u) → (e : ScopeNode E) × (get_or (set f.scopes s (Some d)) r None ≡ Some e) × (e.owner ≡ u)
       by true q o =
           let k : r ≡ s = grind (arith, nat_tests) in
           let at_s : get_or f.scopes s None ≡ Some o.0 = rw (← k) o.1 in
           let e : c ≡ o.0 = same_Some c o.0 (sym is ∙ at_s) in
-          (d, rw k (get_or-set_same f.scopes s (Some d) None inside), same ∙ ap (λ (v : ScopeNode E). v.owner) e ∙ o.2)
+          (d, rw k (get_or-set_same f.scopes s (Some d) None (read_within f.scopes s c is)), same ∙ ap (λ (v : ScopeNode E). v.owner) e ∙ o.2)
       by false q o = (o.0, get_or-set_other f.scopes s r (Some d) None (grind (arith, nat_tests)) ∙ o.1, o.2)
 
   -- a scope is written with the same marks of its end: no task's step depends on the rest of it
@@ -120,16 +108,13 @@ module _ {E : Type 0} where
   over_same : (f : Forest E) (s r : ℕ) (c d : ScopeNode E) → get_or f.scopes s None ≡ Some c → d.expired ≡ c.expired → d.cancelled ≡ c.cancelled → over_of (get_or (set f.scopes s (Some d)) r None) ≡ over_of (get_or f.scopes r None)
   over_same f s r c d is expired cancelled = by (nat_eq r s) refl
     where
-      inside : s < Rattle.std.proofs.Common.length f.scopes
-      inside = inside_of f.scopes s (λ n. let q : Some c ≡ None = sym is ∙ n in cc)
-
       over : over_of (Some d) ≡ over_of (Some c)
       over = rw (expired, cancelled) refl
 
       by : (b : Bool) → nat_eq r s ≡ b → over_of (get_or (set f.scopes s (Some d)) r None) ≡ over_of (get_or f.scopes r None)
       by true q =
           let k : r ≡ s = grind (arith, nat_tests) in
-          rw k (ap over_of (get_or-set_same f.scopes s (Some d) None inside) ∙ over ∙ ap over_of (sym is))
+          rw k (ap over_of (get_or-set_same f.scopes s (Some d) None (read_within f.scopes s c is)) ∙ over ∙ ap over_of (sym is))
       by false q = ap over_of (get_or-set_other f.scopes s r (Some d) None (grind (arith, nat_tests)))
 
   pub steps_marks : (f : Forest E) (s u : ℕ) (c d : ScopeNode E) → get_or f.scopes s None ≡ Some c → d.expired ≡ c.expired → d.cancelled ≡ c.cancelled → can_step (with_scope f s d) u ≡ can_step f u
@@ -209,9 +194,6 @@ module _ {E : Type 0} where
             (o.0, get_or_append_left f.scopes (Some c ∷ []) None s l ∙ o.1, o.2);
       }
     where
-      more : Forest E
-      more = record f { scopes = f.scopes ++ Some c ∷ []; scope_keys = keys; scope_room = r }
-
       by2 : (u : ℕ) (z : TaskNode) → get_or f.tasks u None ≡ Some z → (a : Bool) (st : Stand) → z.lives ≡ a → z.stand ≡ st → step_of (record f { scopes = f.scopes ++ Some c ∷ []; scope_keys = keys; scope_room = r }) (Some z) ≡ step_of f (Some z)
       by2 u z at false st p q = rw p refl
       by2 u z at true Free p q = rw q refl
@@ -254,15 +236,12 @@ module _ {E : Type 0} where
   go_more f keys s room y flag (AtClose r) scope away = rw (lives_more f.tasks r s y scope (grind (arith, nat_tests))) refl
 
   steps_more : (f : Forest E) (keys : List ℕ) (s room u : ℕ) (c : ScopeNode E) (y : TaskNode) → Owned f → get_or f.scopes s None ≡ Some c → y.scope ≡ Some s → u ≢ length f.tasks → u ≢ c.owner → can_step (with_more f y keys room) u ≡ can_step f u
-  steps_more f keys s room u c y owned is scope new ne = ap (step_of (with_more f y keys room)) (read_more f.tasks y u new) ∙ by (get_or f.tasks u None) refl
+  steps_more f keys s room u c y owned is scope new ne = ap (step_of (with_more f y keys room)) (old_at f.tasks y u new) ∙ by (get_or f.tasks u None) refl
     where
-      own : (z : TaskNode) → get_or f.tasks u None ≡ Some z → z.lives ≡ true → stands_at s z.stand ≡ true → ⊥
-      own z at lives st = let o = owned u s z at lives st in let e = o.1 in let q : o.0 ≡ c = cc in ne (rw (← q) (sym o.2))
-
       by3 : (z : TaskNode) → get_or f.tasks u None ≡ Some z → (a b : Bool) → z.lives ≡ a → stands_at s z.stand ≡ b → step_of (with_more f y keys room) (Some z) ≡ step_of f (Some z)
       by3 z at false b p q = rw p refl
       by3 z at true false p q = ap (λ b. z.lives && b) (go_more f keys s room y z.flag z.stand scope q)
-      by3 z at true true p q = absurd (own z at p q)
+      by3 z at true true p q = absurd (not_owner f s u c owned is ne z at p q)
 
       by : (o : Option TaskNode) → get_or f.tasks u None ≡ o → step_of (with_more f y keys room) o ≡ step_of f o
       by None at = refl
@@ -310,7 +289,7 @@ module _ {E : Type 0} where
 
       same : owner ≢ n → can_step more owner ≡ can_step f owner
       same ne =
-          let r = read_more f.tasks y owner (λ q. ne (q ∙ sym size)) in
+          let r = old_at f.tasks y owner (λ q. ne (q ∙ sym size)) in
           ap (step_of more) r ∙ by (get_or f.tasks owner None) (ap (option_map unmarked) (sym r) ∙ there)
 
   -- a new subtask can step if it lives

@@ -12,7 +12,7 @@ use Rattle.sts_tree.specs.declared.record.TaskNode.{TaskNode}
 use Rattle.sts_tree.specs.declared.record.TaskRecord.{TaskRecord}
 use Rattle.sts_tree.specs.declared.record.ScopeRecord.{ScopeRecord}
 use Rattle.sts_tree.proofs.BirthLemmas.{OneLess, births_few}
-use Rattle.sts_tree.proofs.Counts.{count_kept}
+use Rattle.laws_words.proofs.ListLemmas.{count_kept}
 use Rattle.sts_tree.proofs.Ends.{ended, leaves, spare}
 use Rattle.sts_tree.proofs.HoldingLemmas.{map_at}
 use Rattle.sts_tree.proofs.StepLemmas.{moved, changed}

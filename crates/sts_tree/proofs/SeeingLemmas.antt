@@ -35,7 +35,7 @@ module _ {E : Type 0} where
   go_seen f flag (AtClose s) = rw (any_unmarked s f.tasks) refl
 
   -- by what is read of the task
-  abbrev step_of : (f : Forest E) → Option TaskNode → Bool
+  abbrev pub step_of : (f : Forest E) → Option TaskNode → Bool
   step_of f o = elim o [ None ↦ false | Some x ↦ x.lives && can_go f x.flag x.stand ]
 
   pub step_seen : (f : Forest E) (t : ℕ) → can_step (seen f) t ≡ can_step f t

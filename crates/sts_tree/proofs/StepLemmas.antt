@@ -12,7 +12,7 @@ use Rattle.sts_tree.specs.Births.{births, has, without}
 use Rattle.sts_tree.specs.Forest.{is_of, lives_in, Family, IsForest, no_family}
 use Rattle.sts_tree.specs.declared.record.TaskNode.{TaskNode}
 use Rattle.sts_tree.proofs.BirthLemmas.{births_kept, births_none, births_more}
-use Rattle.sts_tree.proofs.Counts.{count_kept}
+use Rattle.laws_words.proofs.ListLemmas.{count_kept}
 use Rattle.sts_tree.proofs.HoldingLemmas.{inside_of}
 use Rattle.sts_tree.proofs.KeyLemmas.{has_new, has_old, without_other, without_own}
 

@@ -148,30 +148,23 @@ module _ {p : Program} {f : ℕ} {code : List Instr} {table : List (Arrival Type
     pub no_turn_here : back_of i s ≡ None → TurnKeeps (typing p f) k s
     no_turn_here e = no_turn (typing p f) (size p f) (laws p f) table k here h.at s h.one (back_there None e)
 
-    module _ (q : ℕ) (back : back_of i s ≡ Some q) (b : Bool) (tests : IsTrue b ↔ (get_or table q Nothing ≡ One s)) where
-      turn_at : b ≡ false → IsTypeRefusal p f k StatesDiffer
-      turn_at differs =
-          let other : get_or table q Nothing ≢ One s = λ e. (let t = tests.1 e in cc) in
-          let d' = turn_differs (typing p f) (size p f) (laws p f) table k here h.at s h.one _ q fine (back_there (Some q) back) other in
-          (here, has_turn_cause (typing p f) (size p f) (laws p f) table k here h.at s h.one _ fine d', h.at.clear)
-
-      keeps_at : b ≡ true → TurnKeeps (typing p f) k s
-      keeps_at kept = turn_same (typing p f) (size p f) (laws p f) table k here h.at s h.one _ q fine (back_there (Some q) back) (tests.0 kept)
-
     module _ (b : Bool) (tests : IsTrue b ↔ IfSome (back_of i s) (λ q. get_or table q Nothing ≡ One s)) where
       pub turn_here : b ≡ false → IsTypeRefusal p f k StatesDiffer
       turn_here differs = by (back_of i s) refl tests
         where
           by : (o : Option ℕ) → back_of i s ≡ o → (IsTrue b ↔ IfSome o (λ q. get_or table q Nothing ≡ One s)) → IsTypeRefusal p f k StatesDiffer
           by None e t = let u = t.1 tt in cc
-          by (Some q) e t = turn_at q e b t differs
+          by (Some q) e t =
+              let other : get_or table q Nothing ≢ One s = λ same. (let yes : b ≡ true = t.1 same in cc) in
+              let d' = turn_differs (typing p f) (size p f) (laws p f) table k here h.at s h.one _ q fine (back_there (Some q) e) other in
+              (here, has_turn_cause (typing p f) (size p f) (laws p f) table k here h.at s h.one _ fine d', h.at.clear)
 
       pub keeps_here : b ≡ true → TurnKeeps (typing p f) k s
       keeps_here kept = by (back_of i s) refl tests
         where
           by : (o : Option ℕ) → back_of i s ≡ o → (IsTrue b ↔ IfSome o (λ q. get_or table q Nothing ≡ One s)) → TurnKeeps (typing p f) k s
           by None e t = no_turn_here e
-          by (Some q) e t = keeps_at q e b t kept
+          by (Some q) e t = turn_same (typing p f) (size p f) (laws p f) table k here h.at s h.one _ q fine (back_there (Some q) e) (t.0 kept)
 
     pub goes_on_here : (loops : List Instr) (after : List (Arrival TypeState)) → loops ≡ code → TurnKeeps (typing p f) k s → Arrive table (follows p loops k i s) after → Passed (typing p f) (size p f) after (k + 1)
     goes_on_here loops after same keeps arrives = goes_on (typing p f) (size p f) (laws p f) table k here h.at s h.one _ after fine keeps (subst (λ c. Arrive table (follows p c k i s) after) (same ∙ h.is) arrives)

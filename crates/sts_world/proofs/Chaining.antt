@@ -7,6 +7,7 @@ use Rattle.std.proofs.Math.Seq.{get_or-append_seam}
 use Rattle.std.proofs.lemmas.Bool.{eqb-true, eqb-false, eq-eqb, ne_eqb, ltb-true, lt-ltb}
 use Rattle.std.proofs.Common.{append_assoc}
 use Rattle.std.proofs.lemmas.List.{get_or_append_left, get_or_default, length-append}
+use Rattle.sts_code.proofs.OptionLemmas.{is_nothing}
 use Rattle.sts_model.specs.declared.record.Bound.{Bound}
 use Rattle.sts_model.specs.Environment.{read}
 use Rattle.sts_world.specs.declared.chains.BindingLink.{BindingLink}
@@ -116,10 +117,6 @@ pub same_front : (here there : List BindingLink) (n m i j : ℕ) (front front_th
     → chain here i l.behind ≡ chain there j k.behind → chain here n front ≡ chain there m front_there
 same_front here there n m i j front front_there l k e f lessi lessj isl isk bound rest =
     chain_at here n i front l e lessi isl ∙ (let step : l.bound ∷ chain here i l.behind ≡ k.bound ∷ chain there j k.behind = cc in step) ∙ sym (chain_at there m j front_there k f lessj isk)
-
-is_nothing : (front : Option ℕ) → is_none front ≡ true → front ≡ None
-is_nothing None e = refl
-is_nothing (Some i) e = cc
 
 pub both_none : (here there : List BindingLink) (n m : ℕ) (front front_there : Option ℕ) → front ≡ None → is_none front_there ≡ true → chain here n front ≡ chain there m front_there
 both_none here there n m front front_there e f = rw (e, is_nothing front_there f) (chain_none here n ∙ sym (chain_none there m))

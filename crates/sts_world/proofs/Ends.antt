@@ -8,6 +8,7 @@ use Rattle.std.proofs.lemmas.Bool.{eqb-true, eqb-false, eq-eqb, ne_eqb}
 use Rattle.std.proofs.lemmas.List.{get_or-set_same, get_or-set_other, length-append, length-set}
 use Rattle.std.proofs.lemmas.List.{length-map}
 use Rattle.std.proofs.Math.Bool.{and-false}
+use Rattle.sts_code.proofs.OptionLemmas.{or_none}
 use Rattle.sts_code.specs.Program.{Program}
 use Rattle.sts_code.specs.declared.instr.Joiner.{Joiner}
 use Rattle.sts_model.specs.declared.event.End.{End}
@@ -138,10 +139,6 @@ completion_more (x ∷ cs) c u = by_test (x.task == u) refl (completion_more cs 
     by_test : (b : Bool) → (x.task == u) ≡ b → completion_of (cs ++ c ∷ []) u ≡ option_or (completion_of cs u) (cond (c.task == u) (Some c.end) None) → completion_of ((x ∷ cs) ++ c ∷ []) u ≡ option_or (completion_of (x ∷ cs) u) (cond (c.task == u) (Some c.end) None)
     by_test true h next = rw h refl
     by_test false h next = rw h next
-
-or_none : (o : Option End) → option_or o None ≡ o
-or_none None = refl
-or_none (Some end) = refl
 
 completion_new : (cs : List Completion) (t : ℕ) (end : End) → completion_of cs t ≡ None → completion_of (cs ++ record { task = t; end = end } ∷ []) t ≡ Some end
 completion_new cs t end e = completion_more cs (record { task = t; end = end }) t ∙ rw (e, eq-eqb t t refl) refl

@@ -1,27 +1,16 @@
-use Rattle.std.proofs.Common.{◌≡◌, ℕ, ◌-◌, List, ◌++◌, Result, Ok, Err, codes, refl, sym, ap, ◌∙◌, append_assoc}
+use Rattle.std.proofs.Common.{◌≡◌, ℕ, ◌-◌, List, ◌++◌, codes, refl, sym, ap, ◌∙◌, append_assoc}
+use Rattle.std.proofs.lemmas.Result.{on_ok_weaker}
 use Rattle.std.specs.Fmt.{decimal}
 use Rattle.std.specs.Prelude.{slice_get}
-use Rattle.std.specs.Result.{OnOk}
 use Rattle.sts_text.specs.Words.{lines}
 use Rattle.sts_trace.specs.declared.error.TraceError.{TraceError}
+use Rattle.look_text.proofs.LineLemmas.{five_said}
 use Rattle.look_run.specs.Lines.{line_number, shown_line, trace_number}
 use Rattle.look_run.specs.Sentences.{trace_sentence}
 use Rattle.look_run.proofs.traces.say_fault.Goals as goal
 
-on_ok : {A E : Type 0} (r : Result A E) (P Q : Type 0) → (P → Q) → OnOk r P → OnOk r Q
-on_ok (Ok x) P Q f h = f h
-on_ok (Err e) P Q f h = h
-
 regroup : (a b c d e : List ℕ) → (((a ++ b) ++ c) ++ d) ++ e ≡ a ++ (b ++ (c ++ (d ++ e)))
 regroup a b c d e = simp append_assoc
-
--- five texts, one after the other
-joined : (out one two three four new a b c d e : List ℕ) → one ≡ out ++ a → two ≡ one ++ b → three ≡ two ++ c → four ≡ three ++ d → new ≡ four ++ e → new ≡ out ++ ((((a ++ b) ++ c) ++ d) ++ e)
-joined out one two three four new a b c d e f g h i j =
-    let first : two ≡ out ++ (a ++ b) = g ∙ ap (λ (l : List ℕ). l ++ b) f ∙ append_assoc out a b in
-    let second : three ≡ out ++ ((a ++ b) ++ c) = h ∙ ap (λ (l : List ℕ). l ++ c) first ∙ append_assoc out (a ++ b) c in
-    let third : four ≡ out ++ (((a ++ b) ++ c) ++ d) = i ∙ ap (λ (l : List ℕ). l ++ d) second ∙ append_assoc out ((a ++ b) ++ c) d in
-    j ∙ ap (λ (l : List ℕ). l ++ e) third ∙ append_assoc out (((a ++ b) ++ c) ++ d) e
 
 -- `error T1, line 2: "`
 abbrev head_words : List ℕ → TraceError → List ℕ
@@ -37,9 +26,9 @@ returns c =
     let head = grouped c.as_str.result.now text error
     (rw (c.as_str.ensures.value, c.in_ok-head.ensures.ok, c.trace_number-number.ensures, c.line_number-line.ensures) refl) in
     let line = ap shown_line c.line_at.ensures ∙ ap (λ (n : ℕ). shown_line (slice_get (lines text) (n - 1))) c.line_number-line.ensures in
-    on_ok c.say-4.result _ _
-    (joined c.args.out.now.items c.say.new.out.items c.say_line.new.out.items c.say-2.new.out.items c.say-3.new.out.items c.say-4.new.out.items
-    (head_words text error) (shown_line (slice_get (lines text) (line_number text error - 1))) (codes "\"\n") (trace_sentence error) (codes "\n")
+    on_ok_weaker c.say-4.result
+    (five_said (head_words text error) (shown_line (slice_get (lines text) (line_number text error - 1))) (codes "\"\n") (trace_sentence error) (codes "\n")
+    c.args.out.now.items c.say.new.out.items c.say_line.new.out.items c.say-2.new.out.items c.say-3.new.out.items c.say-4.new.out.items
     (c.in_ok-say.ensures ∙ ap (λ (l : List ℕ). c.args.out.now.items ++ l) head)
     (c.in_ok-say_line.ensures ∙ ap (λ (l : List ℕ). c.say.new.out.items ++ l) line) c.in_ok-say-2.ensures
     (c.in_ok-say-3.ensures ∙ ap (λ (l : List ℕ). c.say-2.new.out.items ++ l) c.trace_sentence.ensures)) c.say-4.ensures

@@ -1,5 +1,5 @@
 use Rattle.std.proofs.lemmas.Result.{on_ok_weaker}
-use Rattle.look_text.proofs.LineLemmas.{three_said}
+use Rattle.laws_words.proofs.AppendLemmas.{three_said}
 use Rattle.look_text.proofs.lines.say_between.Goals as goal
 
 pub returns : goal.returns

@@ -2,7 +2,7 @@ use Rattle.std.proofs.Common.{ℕ, List, ◌++◌, ◌∙◌, ap}
 use Rattle.std.specs.Prelude.{codes}
 use Rattle.std.proofs.lemmas.Result.{on_ok_weaker}
 use Rattle.look_text.specs.Sentences.{wanted_sentence}
-use Rattle.look_text.proofs.LineLemmas.{three_said}
+use Rattle.laws_words.proofs.AppendLemmas.{three_said}
 use Rattle.look_text.proofs.wrong.say_wanted.Goals as goal
 
 pub returns : goal.returns

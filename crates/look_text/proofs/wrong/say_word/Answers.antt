@@ -1,7 +1,7 @@
 use Rattle.std.proofs.Common.{ℕ, List, Some}
 use Rattle.std.proofs.lemmas.Result.{on_ok_weaker}
 use Rattle.look_text.specs.Wrong.{bracketed, expected_words, meant_words}
-use Rattle.look_text.proofs.LineLemmas.{three_said}
+use Rattle.laws_words.proofs.AppendLemmas.{three_said}
 use Rattle.look_text.proofs.wrong.say_word.Goals as goal
 
 pub returns : goal.returns

@@ -1,7 +1,8 @@
 use Rattle.std.proofs.lemmas.Option.{get_or_from_slice_get}
 use Rattle.std.proofs.Common.{◌≡◌, sym, true, get_or, ◌≤◌, length, arith}
 use Rattle.ends_table.specs.Led.{DecidedLeads, decides}
-use Rattle.ends_table.proofs.PlaceLemmas.{get_less, parts_more}
+use Rattle.std.proofs.lemmas.Option.{slice_get_within}
+use Rattle.ends_table.proofs.PlaceLemmas.{parts_more}
 use Rattle.ends_table.proofs.MissingLemmas.{by_ok, on_ok}
 use Rattle.ends_table.proofs.around.Around.by_each.Goals as goal
 
@@ -19,5 +20,5 @@ pub returns : goal.returns
 returns c =
     let all : length c.args.seen.now.parts ≤ c.loop-i.i = omega arith in
     on_ok c.none.result c.none.ensures (λ none. λ i part e may.
-    let less = get_less c.args.seen.now.parts i part may.known in
+    let less = slice_get_within c.args.seen.now.parts i part may.known in
     c.loop-i.invariant none i part e (omega (arith, less, all)) may)

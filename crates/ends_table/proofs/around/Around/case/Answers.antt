@@ -1,10 +1,10 @@
 use Rattle.ends_table.proofs.MissingLemmas.{on_ok}
-use Rattle.ends_table.proofs.PlaceLemmas.{get_less}
+use Rattle.std.proofs.lemmas.Option.{slice_get_within}
 use Rattle.ends_table.proofs.StepLemmas.{cases_lead}
 use Rattle.ends_table.proofs.around.Around.case.Goals as goal
 
 pub cases-requires : goal.cases-requires
-cases-requires c = get_less _ _ _ c.in_ok-subtask.ensures.known
+cases-requires c = slice_get_within _ _ _ c.in_ok-subtask.ensures.known
 
 pub returns : goal.returns
 returns c =

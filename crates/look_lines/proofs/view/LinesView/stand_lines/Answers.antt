@@ -1,15 +1,11 @@
-use Rattle.std.proofs.Common.{◌≡◌, ℕ, List, ◌++◌, ◌∙◌, ap, ap₂}
+use Rattle.std.proofs.Common.{◌++◌, ◌∙◌, ap, ap₂}
 use Rattle.std.proofs.lemmas.Result.{on_ok_weaker}
 use Rattle.std.specs.String.{string_bytes}
 use Rattle.sts_code.specs.Program.{Program}
 use Rattle.sts_model.specs.World.{World}
-use Rattle.laws_words.proofs.AppendLemmas.{two_parts}
+use Rattle.laws_words.proofs.AppendLemmas.{three_said}
 use Rattle.look_lines.specs.Lines as lines_def
 use Rattle.look_lines.proofs.view.LinesView.stand_lines.Goals as goal
-
--- three parts, one after the other
-three_parts : (old a b c one two new : List ℕ) → one ≡ old ++ a → two ≡ one ++ b → new ≡ two ++ c → new ≡ old ++ (a ++ (b ++ c))
-three_parts old a b c one two new first second third = two_parts old a (b ++ c) one new first (two_parts one b c two new second third)
 
 pub returns : goal.returns
 returns g c =
@@ -21,5 +17,5 @@ returns g c =
     let first = c.in_ok-task_lines.ensures ∙ ap₂ (λ p v. string_bytes c.args.out.now ++ tasks p v) c.program.ensures c.world-world.ensures in
     let second = c.in_ok-scope_lines.ensures ∙ ap (λ v. string_bytes c.task_lines.new.out ++ scopes v) records in
     on_ok_weaker c.others.result
-    (λ h. three_parts (string_bytes c.args.out.now) (tasks m.program m.last) (scopes m.last) (lines_def.others wanted m.last) _ _ _ first second
+    (λ h. three_said (tasks m.program m.last) (scopes m.last) (lines_def.others wanted m.last) (string_bytes c.args.out.now) _ _ _ first second
     (h ∙ ap (λ v. string_bytes c.scope_lines.new.out ++ lines_def.others wanted v) records)) c.others.ensures

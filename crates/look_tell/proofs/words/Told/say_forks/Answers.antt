@@ -1,7 +1,7 @@
 use Rattle.std.proofs.Common.{◌++◌, ◌∙◌, [], ap, codes, if◌then◌else◌, not}
 use Rattle.std.proofs.lemmas.Result.{on_ok_weaker}
 use Rattle.sts_model.specs.World.{World, task_at}
-use Rattle.look_text.proofs.LineLemmas.{three_said}
+use Rattle.laws_words.proofs.AppendLemmas.{three_said}
 use Rattle.look_tell.proofs.words.Told.say_forks.Goals as goal
 
 pub returns : goal.returns

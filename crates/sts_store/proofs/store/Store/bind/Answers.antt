@@ -7,15 +7,11 @@ use Rattle.sts_model.specs.declared.record.Frame.{Frame}
 use Rattle.sts_store.specs.contracts.store.Store.{the_view}
 use Rattle.sts_store.specs.declared.running.Running.{Running}
 use Rattle.sts_store.proofs.BindingLemmas.{whole_here, bound_store, bound_live}
-use Rattle.sts_store.proofs.Writing.{Hand, hand_of, living, has_frame, at_hand}
-use Rattle.sts_store.proofs.store.Store.bind.Goals.{After-at-running}
+use Rattle.sts_store.proofs.Writing.{hand_of, living, has_frame, at_hand}
 use Rattle.sts_store.proofs.store.Store.bind.Goals as goal
 
 pub at-running-requires : goal.at-running-requires
 at-running-requires c = has_frame (living (the_view c.self.inside) c.args.self.now c.self.invariant c.self.view_is c.args.t c.requires.lives)
-
-hand : (c : After-at-running) → Hand (the_view c.self.inside) c.args.self.now c.args.t c.at-running.result.now
-hand c = hand_of c.self.invariant c.self.view_is c.args.t c.requires.lives c.at-running.ensures.value
 
 pub bind-running-requires-clause-whole : goal.bind-running-requires-clause-whole
 bind-running-requires-clause-whole c =
@@ -23,11 +19,14 @@ bind-running-requires-clause-whole c =
     c.at-running.ensures.value
 
 pub enter_binding-requires-clause-more : goal.enter_binding-requires-clause-more
-enter_binding-requires-clause-more c = at_hand (hand (goal.at.enter_binding-requires-clause-more c).After-at-running) (λ f. f.pc + 1 < 2 ^ 32) c.requires.more
+enter_binding-requires-clause-more c =
+    let h = hand_of c.self.invariant c.self.view_is c.args.t c.requires.lives c.at-running.ensures.value in
+    at_hand h (λ f. f.pc + 1 < 2 ^ 32) c.requires.more
 
 pub enter_binding-requires-clause-room : goal.enter_binding-requires-clause-room
 enter_binding-requires-clause-room c =
-    at_hand (hand (goal.at.enter_binding-requires-clause-room c).After-at-running) (λ f. length f.entries < 16) c.requires.entries
+    let h = hand_of c.self.invariant c.self.view_is c.args.t c.requires.lives c.at-running.ensures.value in
+    at_hand h (λ f. length f.entries < 16) c.requires.entries
 
 pub invariant_of-self : goal.invariant_of-self
 invariant_of-self c =
@@ -39,11 +38,12 @@ invariant_of-self c =
 
 pub returns-clause-live : goal.returns-clause-live
 returns-clause-live c =
+    let h = hand_of c.self.invariant c.self.view_is c.args.t c.requires.lives c.at-running.ensures.value in
     let q : Running = record { frame = c.enter_binding.new.frame; env = c.bind-running.result } in
     let fits : SFits w64 c.operand-value.result = search rules in
     let value = to_z-of_z w64 c.operand-value.result fits ∙ c.operand-value.ensures in
     bound_live (the_view c.self.inside) c.self.invariant c.args.t c.at-running.result.now q c.bind-running.new.self c.at-running.ensures.value
-    c.args.self.now (hand (goal.at.returns-clause-live c).After-at-running) c.args.key c.enter_binding.ensures
+    c.args.self.now h c.args.key c.enter_binding.ensures
     (c.bind-running.ensures.list
     ∙ ap (λ v. record { key = c.args.key; value = v } ∷ list_of c.self.inside.chains c.at-running.result.now.env) value)
     c.bind-running.ensures.others

@@ -6,26 +6,28 @@ use Rattle.sts_store.specs.Parts.{live_of, frame_of}
 use Rattle.sts_store.specs.Stored.{IsStore}
 use Rattle.sts_store.proofs.Views.{Lived}
 use Rattle.sts_store.proofs.Entering.{with_run, entered, open_live, open_kept, as_opened}
-use Rattle.sts_store.proofs.Writing.{Hand, hand_of, living, has_frame, at_hand}
+use Rattle.sts_store.proofs.Writing.{hand_of, living, has_frame, at_hand}
 use Rattle.sts_store.proofs.store.Store.open.Goals.{After-at-running}
 use Rattle.sts_store.proofs.store.Store.open.Goals as goal
 
 pub at-running-requires : goal.at-running-requires
 at-running-requires c = has_frame (living (the_view c.self.inside) c.args.self.now c.self.invariant c.self.view_is c.args.t c.requires.lives)
 
-hand : (c : After-at-running) → Hand (the_view c.self.inside) c.args.self.now c.args.t c.at-running.result.now
-hand c = hand_of c.self.invariant c.self.view_is c.args.t c.requires.lives c.at-running.ensures.value
-
 pub enter_scope-requires-clause-more : goal.enter_scope-requires-clause-more
-enter_scope-requires-clause-more c = at_hand (hand (goal.at.enter_scope-requires-clause-more c).After-at-running) (λ f. f.pc + 1 < 2 ^ 32) c.requires.more
+enter_scope-requires-clause-more c =
+    let h = hand_of c.self.invariant c.self.view_is c.args.t c.requires.lives c.at-running.ensures.value in
+    at_hand h (λ f. f.pc + 1 < 2 ^ 32) c.requires.more
 
 pub enter_scope-requires-clause-room : goal.enter_scope-requires-clause-room
 enter_scope-requires-clause-room c =
-    at_hand (hand (goal.at.enter_scope-requires-clause-room c).After-at-running) (λ f. length f.entries < 16) c.requires.entries
+    let h = hand_of c.self.invariant c.self.view_is c.args.t c.requires.lives c.at-running.ensures.value in
+    at_hand h (λ f. length f.entries < 16) c.requires.entries
 
 -- the task, by the record at hand
 abbrev opener : (c : After-at-running) → Lived (the_view c.self.inside) c.args.t
-opener c = with_run (the_view c.self.inside) c.args.t c.at-running.result.now (hand c).lived c.at-running.ensures.value
+opener c =
+    let l = living (the_view c.self.inside) c.args.self.now c.self.invariant c.self.view_is c.args.t c.requires.lives in
+    with_run (the_view c.self.inside) c.args.t c.at-running.result.now l c.at-running.ensures.value
 
 pub invariant_of-self : goal.invariant_of-self
 invariant_of-self c =

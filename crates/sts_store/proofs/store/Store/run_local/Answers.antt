@@ -5,23 +5,22 @@ use Rattle.sts_store.specs.Parts.{live_of, frame_of}
 use Rattle.sts_store.specs.contracts.store.Store.{the_view}
 use Rattle.sts_store.proofs.InARow.{frame_now, locals_entries}
 use Rattle.sts_store.proofs.Views.{with_running}
-use Rattle.sts_store.proofs.Writing.{Hand, hand_of, living, has_frame, at_hand, frame_is, frame_done, frame_kept}
-use Rattle.sts_store.proofs.store.Store.run_local.Goals.{After-at, After-run_local}
+use Rattle.sts_store.proofs.Writing.{hand_of, living, has_frame, at_hand, frame_is, frame_done, frame_kept}
+use Rattle.sts_store.proofs.store.Store.run_local.Goals.{After-run_local}
 use Rattle.sts_store.proofs.store.Store.run_local.Goals as goal
 
 pub at-requires : goal.at-requires
 at-requires c = has_frame (living (the_view c.self.inside) c.args.self.now c.self.invariant c.self.view_is c.args.t c.requires.lives)
 
-hand : (c : After-at) → Hand (the_view c.self.inside) c.args.self.now c.args.t c.at.result.now
-hand c = hand_of c.self.invariant c.self.view_is c.args.t c.requires.lives c.at.ensures.value
-
 pub run_local-requires-clause-safe : goal.run_local-requires-clause-safe
 run_local-requires-clause-safe c =
-    at_hand (hand (goal.at.run_local-requires-clause-safe c).After-at) (AreSafe c.args.program.now c.args.code.now) c.requires.safe
+    let h = hand_of c.self.invariant c.self.view_is c.args.t c.requires.lives c.at.ensures.value in
+    at_hand h (AreSafe c.args.program.now c.args.code.now) c.requires.safe
 
 pub invariant_of-self : goal.invariant_of-self
 invariant_of-self c =
-    frame_kept (hand (goal.at.invariant_of-self c).After-at) c.run_local.new.frame
+    let h = hand_of c.self.invariant c.self.view_is c.args.t c.requires.lives c.at.ensures.value in
+    frame_kept h c.run_local.new.frame
     (locals_entries c.args.code.now c.at.result.now.frame c.run_local.result c.run_local.new.frame c.run_local.ensures.local)
 
 -- the frame that was written is the one that contracts see afterwards
@@ -35,13 +34,15 @@ after c =
 
 pub returns-clause-live : goal.returns-clause-live
 returns-clause-live c =
+    let h = hand_of c.self.invariant c.self.view_is c.args.t c.requires.lives c.at.ensures.value in
     let f = c.run_local.new.frame in
-    frame_done (hand (goal.at.returns-clause-live c).After-at) f (λ g. f) refl
+    frame_done h f (λ g. f) refl
     ∙ ap (with_live_frame (live_of c.args.self.now) c.args.t) (sym (after (goal.at.returns-clause-live c).After-run_local))
 
 pub returns-clause-local : goal.returns-clause-local
 returns-clause-local c =
-    ap (λ g. locals c.args.code.now g c.run_local.result) (frame_is (hand (goal.at.returns-clause-local c).After-at))
+    let h = hand_of c.self.invariant c.self.view_is c.args.t c.requires.lives c.at.ensures.value in
+    ap (λ g. locals c.args.code.now g c.run_local.result) (frame_is h)
     ∙ c.run_local.ensures.local
     ∙ ap Some (sym (after (goal.at.returns-clause-local c).After-run_local))
 

@@ -6,18 +6,17 @@ use Rattle.sts_store.specs.contracts.store.Store.{the_view}
 use Rattle.sts_store.specs.declared.running.Running.{Running}
 use Rattle.sts_store.specs.Parts.{live_of}
 use Rattle.sts_store.proofs.BindingLemmas.{BoundFirst, Unbound, bound_first, innermost_of, is_bound, whole_here, unbound_store, unbound_live}
-use Rattle.sts_store.proofs.Writing.{Hand, hand_of, living, has_frame, at_hand}
+use Rattle.sts_store.proofs.Writing.{hand_of, living, has_frame, at_hand}
 use Rattle.sts_store.proofs.store.Store.unbind.Goals.{After-at-running, After-leave_entry}
 use Rattle.sts_store.proofs.store.Store.unbind.Goals as goal
 
 pub at-running-requires : goal.at-running-requires
 at-running-requires c = has_frame (living (the_view c.self.inside) c.args.self.now c.self.invariant c.self.view_is c.args.t c.requires.lives)
 
-hand : (c : After-at-running) → Hand (the_view c.self.inside) c.args.self.now c.args.t c.at-running.result.now
-hand c = hand_of c.self.invariant c.self.view_is c.args.t c.requires.lives c.at-running.ensures.value
-
 first : (c : After-at-running) → BoundFirst c.at-running.result.now.frame.entries
-first c = bound_first c.at-running.result.now.frame.entries (at_hand (hand c) (λ f. innermost is_binding f.entries ≡ true) c.requires.bound)
+first c =
+    let h = hand_of c.self.invariant c.self.view_is c.args.t c.requires.lives c.at-running.ensures.value in
+    bound_first c.at-running.result.now.frame.entries (at_hand h (λ f. innermost is_binding f.entries ≡ true) c.requires.bound)
 
 pub unbind-running-requires-clause-some : goal.unbind-running-requires-clause-some
 unbind-running-requires-clause-some c =
@@ -32,7 +31,9 @@ unbind-running-requires-clause-whole c =
     c.at-running.ensures.value
 
 pub leave_entry-requires : goal.leave_entry-requires
-leave_entry-requires c = at_hand (hand (goal.at.leave_entry-requires c).After-at-running) (λ f. f.pc + 1 < 2 ^ 32) c.requires.more
+leave_entry-requires c =
+    let h = hand_of c.self.invariant c.self.view_is c.args.t c.requires.lives c.at-running.ensures.value in
+    at_hand h (λ f. f.pc + 1 < 2 ^ 32) c.requires.more
 
 -- what the task has afterwards
 abbrev after : After-leave_entry → Running
@@ -58,7 +59,7 @@ invariant_of-self c =
 pub returns-clause-live : goal.returns-clause-live
 returns-clause-live c =
     let here = (goal.at.returns-clause-live c).After-leave_entry in
-    let running = (goal.at.returns-clause-live c).After-at-running in
+    let h = hand_of c.self.invariant c.self.view_is c.args.t c.requires.lives c.at-running.ensures.value in
     unbound_live (the_view c.self.inside) c.self.invariant c.args.t c.at-running.result.now (after here) c.unbind-running.new.self
-    c.at-running.ensures.value (unbound here (first running)) c.args.self.now (hand running) c.leave_entry.ensures
+    c.at-running.ensures.value (unbound here (first (goal.at.returns-clause-live c).After-at-running)) c.args.self.now h c.leave_entry.ensures
     (ap (drop 1) c.unbind-running.ensures.list.1)
