@@ -128,8 +128,7 @@ pub enum Question {
 }
 
 impl Question {
-    /// Which counts a sum has to keep: those that the owner was told before, and the one that it asks
-    /// for now.
+    /// Which counts a sum has to keep: those that the owner knows, and the one that it asks for now.
     fn needs(self, asked: Asked) -> Needs {
         Needs::asked(self.noted(asked, 0))
     }

@@ -396,7 +396,7 @@ fn only_way(joiner: Joiner, part: Part, ways: &[Way]) -> Option<(u32, Way)> {
     Some((allowed.place, *way))
 }
 
-/// What a part adds that is unavailable if it may be, and else comes to its only way, if it has one.
+/// The choice of a part that is unavailable if it may be. Another part has one if it has only one way.
 fn idle_choice(table: &Table, facts: &Facts, needs: Needs, part: Part) -> Option<Sum> {
     if part.is_open {
         return Some(idle(facts, needs));
@@ -419,9 +419,9 @@ fn with_choices(sum: Sum, choice: &Sum, count: u32) -> Sum {
     }
 }
 
-/// The sum of the pick in which each part that may be unavailable is, and each other one comes to its
-/// only way, if there is such a pick and it fits. No other pick that fits takes fewer interrupts, and
-/// none with as many has a lower count.
+/// The sum of the idle pick, if there is one and it fits. In it each part that may be unavailable is, and
+/// each other one comes to its only way. No other pick that fits takes fewer interrupts, and none with
+/// as many has a lower count.
 fn idle_sum(table: &Table, scope: &Seen, left: u32) -> Option<Sum> {
     let needs = Needs::asked(scope.facts.asked);
     let mut sum = NO_PARTS;
@@ -609,7 +609,7 @@ fn push_way(ways: &mut Vec<Option<u32>>, way: Option<u32>, count: u32) -> Result
     Ok(())
 }
 
-/// The ways of the pick in which each part that may be unavailable is, if it fits.
+/// The ways of the idle pick, if it fits.
 fn idle_pick(
     alloc: Global,
     table: &Table,

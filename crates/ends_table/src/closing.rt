@@ -309,7 +309,14 @@ impl Closing {
         let Some(own) = top.states.get(top.done) else {
             return Look::Done;
         };
-        match top.look(alloc, program, self.outside, self.rows.as_slice(), &self.places, own) {
+        match top.look(
+            alloc,
+            program,
+            self.outside,
+            self.rows.as_slice(),
+            &self.places,
+            own,
+        ) {
             Ok(born) => Look::Passed(born),
             Err(stop) => Look::Lacks(stop),
         }

@@ -63,8 +63,8 @@ abbrev pub depth_of : Resource → EntryNames → ℕ
 depth_of Steps ns = 0
 depth_of _ ns = length ns
 
--- the terms of a budget: the function's own part, outside the sums, which is the last step of a
--- path or the task itself; the limit; and the cause if the budget is over it
+-- The terms of a budget: the function's own part, outside the sums; the limit; and the cause if the
+-- budget is over it. The own part is the last step of a path, or the task itself.
 pub record Terms : Type 0 where
   pub own : ℕ
   pub limit : ℕ

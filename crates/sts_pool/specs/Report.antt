@@ -27,9 +27,9 @@ pub record IsReport (p : Program) (journal : List Event) (end : End) : Type 0 wh
   pub steps : taken p journal ≡ count_by is_step journal
   pub bounded : (b : Budgets) → IsBudgetOf p (main_of p) b → IsBounded p journal b
 
--- some journal leads to the reported end of the root without a fault, with the reported number of
--- steps; its interrupts and expiries are those that came from outside; the report has this journal
--- if it is written, and else an empty one
+-- Some journal leads to the reported end of the root without a fault, with the reported number of
+-- steps. Its interrupts and expiries are those that came from outside. The report has this journal
+-- if it is written, and else an empty one.
 pub record IsReportOf (is_written : Bool) (p : Program) (Came : List Event → Type 0) (r : Report)
     : Type 0 where
   pub journal : List Event

@@ -66,7 +66,7 @@ module _ {E : Type 0} where
       at_set f.tasks t x y (λ v w. w.lives ≡ true → stands_at s w.stand ≡ true → (c : ScopeNode E) × (get_or f.scopes s None ≡ Some c) × (c.owner ≡ v)) is
       (λ l st. here s l st) (λ v w ne q l st. owned v s w q l st) u z at lives stands
 
-  -- a task that stands at a scope owns it
+  -- a task that waits at a scope owns it
   not_owner : (f : Forest E) (s u : ℕ) (c : ScopeNode E) → Owned f → get_or f.scopes s None ≡ Some c → u ≢ c.owner → (z : TaskNode) → get_or f.tasks u None ≡ Some z → z.lives ≡ true → stands_at s z.stand ≡ true → ⊥
   not_owner f s u c owned is ne z at lives st = let o = owned u s z at lives st in let e = o.1 in let q : o.0 ≡ c = cc in ne (rw (← q) (sym o.2))
 

@@ -1,4 +1,4 @@
--- The lists of a scope's subtasks: of all of them, and of the living ones (this project's own).
+-- The lists of subtasks that a scope has: of all, and of the living ones (this project's own).
 use Rattle.std.specs.Prelude.{ℕ, Bool}
 use Rattle.sts_links.specs.declared.links.Ends.{Ends}
 use Rattle.sts_tree.specs.Forest.{is_of, lives_in}
