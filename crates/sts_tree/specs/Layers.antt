@@ -1,4 +1,4 @@
--- The lists of subtasks that a scope has: of all, and of the living ones (this project's own).
+-- Two lists of subtasks: all that a scope has, and those that live (this project's own).
 use Rattle.std.specs.Prelude.{ℕ, Bool}
 use Rattle.sts_links.specs.declared.links.Ends.{Ends}
 use Rattle.sts_tree.specs.Forest.{is_of, lives_in}
