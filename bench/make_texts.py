@@ -384,6 +384,14 @@ def levels(counts):
     return lines(text)
 
 
+def dropped(count, subtasks):
+    """Groups under `awaitall timed`, each with another argument. Main drops their results, so more groups have no more ends."""
+    forked = f"push {count} / times {count} / load 5 / push 1 / add / store 5 / load 5 / fork s1 group1 _ / next"
+    group = forks("group1 1", "load 0 / push 100 / mul / store 5 / ", "all", True, subtasks, "flaky")
+    return lines(f"{FLAKY} / {group} / func main 0 / open s1 awaitall timed / {forked} / join s1 - late intr / close s1 / push 1 / ret / "
+                 "late: / close s1 / push 70 / fail / intr: / close s1 / push 80 / fail / end")
+
+
 # It succeeds with its argument, or it fails, if its scope expires or an interrupt comes.
 FLAKY = (
     "func work 1 / load 0 / ret / end / func flaky 1 / open s1 all timed / load 0 / fork s1 work _ / join s1 bad late intr / pop / "
@@ -397,6 +405,7 @@ RACING = (
 )
 JOINERS = ("all", "awaitok", "any", "awaitall", "until failed 3", "until success 3", "until atleast 40")
 EQUAL = (1000, 2000, 3000)
+GROUPS = ((25, 8), (50, 8), (100, 8), (200, 8), (10, 50), (20, 50), (40, 50))
 
 
 def equal(text, called, timed, count):
@@ -435,6 +444,8 @@ ENDS = {
     **{f"{count} equal flaky subtasks, all timed": (equal(FLAKY, "flaky", True, count), 1) for count in EQUAL},
     "8 groups of 8 of 8, all timed": (levels((8, 8, 8)), 2),
     "50 groups of 50, all timed": (levels((50, 50)), 2),
+    **{f"{count} groups of {of}, results dropped": (dropped(count, of), 2) for count, of in GROUPS},
+    **{f"{count} groups of {of}, results read": (levels((count, of)), 2) for count, of in GROUPS},
     # the greatest of which all ends are known, and one more
     **{f"total of {count} powers": (powers(count), 0) for count in (13, 14)},
     **{f"{count} of 50 read one by one, until failed 3": (handles(count, 50), 0) for count in (8, 9)},
