@@ -12,7 +12,7 @@ use crate::entries::{binds_after, ends_with_binding, is_full, is_innermost};
 use crate::picks::always;
 use crate::scopes::{is_readable, joins_wrongly, may_close};
 use ends_table::bindings::{bindings, value_of};
-use ends_table::places::{PlacedPart, Owned, held_at, known, owned};
+use ends_table::places::{PlacedPart, PlacedScope, held_at, known, owned};
 use ends_table::stop::Stop;
 use laws_calls::table::{Call, Held, Own};
 use std::alloc::{AllocError, Global};
@@ -86,7 +86,7 @@ impl<'a> Around<'a> {
     fn fork(&self, slot: u8, function: u32, handle: Option<u8>) -> Result<(), Stop>
         ensures { OnOk result (Allows self.now (instrs.Fork slot function handle)) }
     {
-        let Owned { place, seen } = owned(self.own, slot)?;
+        let PlacedScope { place, seen } = owned(self.own, slot)?;
         needs(seen.phase.is_opened())?;
         needs(!binds_after(&self.own.frame, place))?;
         needs(is_free(self.own, handle))?;
@@ -102,7 +102,7 @@ impl<'a> Around<'a> {
     ) -> Result<(), Stop>
         ensures { OnOk result (Allows self.now (instrs.Join slot failed timeout interrupted)) }
     {
-        let Owned { seen, .. } = owned(self.own, slot)?;
+        let PlacedScope { seen, .. } = owned(self.own, slot)?;
         needs(seen.phase.can_join())?;
         needs(!joins_wrongly(&self.own.frame, failed, timeout, seen))?;
         Ok(())
@@ -111,7 +111,7 @@ impl<'a> Around<'a> {
     fn close(&self, slot: u8) -> Result<(), Stop>
         ensures { OnOk result (Allows self.now (instrs.Close slot)) }
     {
-        let Owned { place, seen } = owned(self.own, slot)?;
+        let PlacedScope { place, seen } = owned(self.own, slot)?;
         needs(may_close(seen))?;
         needs(is_innermost(&self.own.frame, place))?;
         Ok(())
@@ -161,7 +161,7 @@ impl<'a> Around<'a> {
     fn tally(&self, slot: u8, kind: Kind) -> Result<(), Stop>
         ensures { OnOk result (Allows self.now (instrs.Tally slot kind)) }
     {
-        let Owned { seen, .. } = owned(self.own, slot)?;
+        let PlacedScope { seen, .. } = owned(self.own, slot)?;
         needs(is_readable(self.program.profile(), seen))?;
         Ok(())
     }
@@ -169,7 +169,7 @@ impl<'a> Around<'a> {
     fn total(&self, slot: u8) -> Result<(), Stop>
         ensures { OnOk result (Allows self.now (instrs.Total slot)) }
     {
-        let Owned { seen, .. } = owned(self.own, slot)?;
+        let PlacedScope { seen, .. } = owned(self.own, slot)?;
         needs(is_readable(self.program.profile(), seen))?;
         Ok(())
     }

@@ -1,5 +1,5 @@
 -- Elements of lists.
-use Rattle.std.proofs.Common.{◌≡◌, ℕ, zero, suc, ◌<◌, ◌≤◌, List, [], ◌∷◌, ◌++◌, Option}
+use Rattle.std.proofs.Common.{◌≡◌, ℕ, zero, suc, ◌<◌, ◌≤◌, List, [], ◌∷◌, ◌++◌, Option, Some, None}
 use Rattle.std.proofs.Common.{refl, sym, subst, arith, length, get_or, inl, inr}
 use Rattle.std.specs.Prelude.{All}
 use Rattle.std.specs.List.{AllWithin}
@@ -58,6 +58,10 @@ pub each_way : (P : End → Type 0) (items ways : List Way) (i : ℕ) → items 
 each_way P items ways i same done all e way =
     let whole = All-from_all_within (λ (w : Way). P w.end) items (AllWithin-upto (λ (w : Way). P w.end) items 0 i (length items) done all) in
     all_ways P items e whole (subst (λ ws. HasWay ws e) (sym same) way)
+
+pub by_state : {X : Type 0} (P : Option X → Type 0) → P None → ((x : X) → P (Some x)) → (q : Option X) → P q
+by_state P none some None = none
+by_state P none some (Some x) = some x
 
 pub way_in : (ways : List Way) (i : ℕ) (d : Way) (e : End) → i < length ways → (get_or ways i d).end ≡ e → HasWay ways e
 way_in [] i d e less same = absurd (omega (arith, less))

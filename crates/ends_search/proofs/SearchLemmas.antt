@@ -83,8 +83,6 @@ closed_more {S} next can alike old new n within closed grows leads k less e come
     by (inl h) = closed_on next can alike old new n (omega arith) closed grows k h e comes d
     by (inr h) = rw (h, same_older old new grows n within d) (leads e (λ c. rw (h, same_older old new grows n within c) at (comes c)) d)
 
-}
-
 -- ---- ways back
 
 -- one event more in front

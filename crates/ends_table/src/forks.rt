@@ -9,7 +9,7 @@ ghost use Rattle.sts_code.specs.declared.instr.Instr.TheVariants as instrs;
 
 use crate::around::Around;
 use crate::frames::stepped;
-use crate::places::{Owned, number, owned, set_held, with_parts, with_scope};
+use crate::places::{PlacedScope, number, owned, set_held, with_parts, with_scope};
 use crate::reached::leads_after;
 use crate::rows::row_for;
 use crate::stop::Stop;
@@ -24,7 +24,7 @@ use sts_same::copied::copy_items;
 /// A `fork` in a scope: the new task's function, and the slot of its handle.
 #[derive(Clone, Copy)]
 struct Forking<'a> {
-    scope: Owned<'a>,
+    scope: PlacedScope<'a>,
     function: u32,
     handle: Option<u8>,
 }

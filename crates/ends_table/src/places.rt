@@ -15,7 +15,7 @@ use sts_same::copied::copy_items;
 
 /// The open scope at a place.
 #[derive(Clone, Copy)]
-pub struct Owned<'a> {
+pub struct PlacedScope<'a> {
     pub place: u32,
     pub seen: &'a Seen,
 }
@@ -77,13 +77,13 @@ pub fn scope_at(own: &Own, place: u32) -> Result<&Seen, Stop>
 }
 
 /// The open scope that a slot holds.
-pub fn owned(own: &Own, slot: u8) -> Result<Owned<'_>, Stop>
+pub fn owned(own: &Own, slot: u8) -> Result<PlacedScope<'_>, Stop>
     ensures { IfOk result (λ o. def.Owns own.now slot o.place o.seen.now) }
 {
     match held_at(own, slot) {
         Held::Own(place) => {
             let seen = scope_at(own, place)?;
-            Ok(Owned { place, seen })
+            Ok(PlacedScope { place, seen })
         }
         _ => Err(Stop::Unknown),
     }

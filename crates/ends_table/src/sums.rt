@@ -8,7 +8,7 @@ ghost use Rattle.laws_calls.specs.Tasks.{Among};
 
 use crate::around::Around;
 use crate::missing::Missing;
-use crate::places::Owned;
+use crate::places::PlacedScope;
 use crate::stop::Stop;
 use ends_picks::fitting::fitting;
 use ends_picks::outcomes::Outcome;
@@ -27,7 +27,7 @@ fn told(alloc: Global, seen: &Seen, outcome: Outcome) -> Result<Seen, AllocError
 
 impl<'a> Around<'a> {
     /// The state after a `total` gave the sum of this outcome.
-    fn summed(&self, alloc: Global, scope: Owned<'_>, outcome: Outcome) -> Result<(), Stop>
+    fn summed(&self, alloc: Global, scope: PlacedScope<'_>, outcome: Outcome) -> Result<(), Stop>
         ensures { OnOk result (led.SumLeads self.now.states.now self.now.own.now
             scope.entry.place scope.entry.seen.now outcome.total) }
     {
@@ -36,7 +36,12 @@ impl<'a> Around<'a> {
     }
 
     /// The states after a `total` gave the sum of one of these outcomes.
-    fn each_sum(&self, alloc: Global, scope: Owned<'_>, outcomes: &[Outcome]) -> Result<(), Stop>
+    fn each_sum(
+        &self,
+        alloc: Global,
+        scope: PlacedScope<'_>,
+        outcomes: &[Outcome],
+    ) -> Result<(), Stop>
         ensures { OnOk result ((o : Outcome) → Among outcomes.now o
             → led.SumLeads self.now.states.now self.now.own.now scope.entry.place
             scope.entry.seen.now o.total) }
@@ -50,7 +55,7 @@ impl<'a> Around<'a> {
     }
 
     /// The states after a `total`.
-    pub fn totals(&self, alloc: Global, scope: Owned<'_>) -> Result<(), Stop>
+    pub fn totals(&self, alloc: Global, scope: PlacedScope<'_>) -> Result<(), Stop>
         ensures { OnOk result (led.TotalsLead self.now.states.now self.now.own.now
             scope.entry.place scope.entry.seen.now) }
     {

@@ -7,7 +7,7 @@ ghost use Rattle.laws_calls.specs.Steps as def;
 
 use crate::around::Around;
 use crate::missing::Missing;
-use crate::places::{Owned, number};
+use crate::places::{PlacedScope, number};
 use crate::stop::Stop;
 use ends_picks::ranges::Range;
 use ends_picks::tallies::tally_range;
@@ -42,7 +42,7 @@ fn behind(range: Range) -> Result<u32, Stop>
 
 impl<'a> Around<'a> {
     /// The state after a `tally` gave this number.
-    fn tallied(&self, alloc: Global, scope: Owned<'_>, kind: Kind, n: u32) -> Result<(), Stop>
+    fn tallied(&self, alloc: Global, scope: PlacedScope<'_>, kind: Kind, n: u32) -> Result<(), Stop>
         ensures { OnOk result (led.CountLeads self.now.states.now self.now.own.now
             scope.entry.place scope.entry.seen.now kind n) }
     {
@@ -51,7 +51,7 @@ impl<'a> Around<'a> {
     }
 
     /// The states after a `tally`, which gives a number of a range.
-    pub fn tallies(&self, alloc: Global, scope: Owned<'_>, kind: Kind) -> Result<(), Stop>
+    pub fn tallies(&self, alloc: Global, scope: PlacedScope<'_>, kind: Kind) -> Result<(), Stop>
         ensures { OnOk result (led.TalliesLead self.now.states.now self.now.own.now
             scope.entry.place scope.entry.seen.now kind) }
     {

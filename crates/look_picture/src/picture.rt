@@ -392,7 +392,8 @@ pub fn draw<W: io::Write>(
     trace: &[u8],
     out: &mut W,
 ) -> Status
-    ensures { IfOk result (λ s. (o : cli.Output) × def.IsPictureOf options files.entry text.now trace.now o
+    ensures { IfOk result (λ s. (o : cli.Output)
+        × def.IsPictureOf options files.entry text.now trace.now o
         × cli.Writes (W.contents out.old) (W.contents out.new) s o) }
 {
     let picture = Picture {

@@ -1,4 +1,3 @@
-pub mod ColonLemmas
 pub mod ExpectedLemmas
 pub mod FailLemmas
 pub mod HeadLaw

@@ -1,4 +1,4 @@
-use Rattle.std.proofs.Common.{◌≡◌, ℕ, suc, List, ◌∷◌, ◌++◌}
+use Rattle.std.proofs.Common.{◌≡◌, List, ◌∷◌, ◌++◌}
 use Rattle.std.proofs.Common.{[], ◌∙◌}
 use Rattle.std.specs.Prelude.{Result, Ok, Err}
 use Rattle.sts_asm.specs.declared.fault.AsmError.{AsmError}

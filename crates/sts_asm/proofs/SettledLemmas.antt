@@ -11,11 +11,11 @@ use Rattle.sts_asm.specs.Kept.{Kept, IsShortened, IsKept, are_naming, without_na
 use Rattle.sts_asm.proofs.KeptLemmas.{settled_known, settled_unknown}
 
 -- they were all known
-pub settled_then : {X : Type 0} (r : Result X AsmError) (functions : List Mark) (d : Draft) (k new : Kept) (labels : List Mark) (again : List Sentence) → is_ok r ≡ true → labels ≡ [] → again ≡ [] → new ≡ record k { code = new.code } → StepsAt r new.code (filled (instr_at (record { labels = k.labels; functions = functions })) k.again k.code) → IsShortened d k → IsKept functions d (record new { labels = labels; again = again })
-settled_then (Ok x) functions d k new labels again b bare none same h s =
-    let kept : IsKept functions d (record k { labels = []; again = []; code = new.code }) = settled_known functions d k new.code s h in
-    rw (none, bare) (subst (λ (x : Kept). IsKept functions d (record x { labels = []; again = [] })) (sym same) kept)
-settled_then (Err e) functions d k new labels again b bare none same h s = absurd (cc)
+pub settled_then : {X : Type 0} (r : Result X AsmError) (functions : List Mark) (d : Draft) (k new : Kept) (labels : List Mark) (again : List Sentence) → is_ok r ≡ true → again ≡ [] → new ≡ record k { code = new.code } → StepsAt r new.code (filled (instr_at (record { labels = k.labels; functions = functions })) k.again k.code) → IsShortened d k → IsKept functions d (record new { labels = labels; again = again })
+settled_then (Ok x) functions d k new labels again b none same h s =
+    let kept : IsKept functions d (record k { labels = labels; again = []; code = new.code }) = settled_known functions d k new.code s h in
+    rw none (subst (λ (x : Kept). IsKept functions d (record x { labels = labels; again = [] })) (sym same) kept)
+settled_then (Err e) functions d k new labels again b none same h s = absurd (cc)
 
 -- one of them wasn't
 pub settled_else : {X : Type 0} (r : Result X AsmError) (functions : List Mark) (d : Draft) (k new : Kept) → is_ok r ≡ false → new ≡ record k { code = new.code } → OnErr r (are_naming k.again ≡ true → map without_names new.code ≡ map without_names k.code) → IsShortened d k → IsKept functions d new

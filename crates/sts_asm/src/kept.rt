@@ -130,9 +130,11 @@ fn settled<'a>(alloc: Global, functions: &Marks<'a>, kept: Kept<'a>) -> Kept<'a>
     if kept.look_up(functions).is_err() {
         return kept;
     }
-    kept.labels = Marks::new(alloc);
-    kept.again = Vec::new(alloc);
-    kept
+    Kept {
+        labels: Marks::new(alloc),
+        again: Vec::new(alloc),
+        ..kept
+    }
 }
 
 /// Takes the first function that was not taken yet out of the outline, and keeps what is needed.

@@ -1,6 +1,6 @@
 -- A book keeps its facts, whether its journal is written or only counted.
 use Rattle.std.proofs.Common.{◌≡◌, ℕ, ◌+◌, ◌≤◌, ◌<◌, ◌^◌, List, [], ◌∷◌, ◌++◌, length, Bool, true, false, not, ◌&&◌, Option, Some, None, refl, sym, ap, ◌∙◌, subst, cond, vec_len, vec_capacity, count_by, rules, arith, append-nil}
-use Rattle.std.proofs.lemmas.Bool.{cond-true}
+use Rattle.std.proofs.lemmas.Bool.{both_ways, cond-true}
 use Rattle.std.proofs.lemmas.List.Folds.{sum_by-replicate}
 use Rattle.std.specs.Prelude.{IfSome, option_map}
 use Rattle.sts_code.specs.Program.{Program}
@@ -24,7 +24,8 @@ use Rattle.sts_pool.specs.Outside.{outside_entries}
 use Rattle.sts_pool.specs.Report.{IsReport}
 use Rattle.sts_pool.specs.declared.journal.Journal.{Journal}
 use Rattle.sts_pool.specs.declared.journal.Journal.TheVariants.{Written, Counted}
-use Rattle.sts_pool.proofs.Books.{back_book, entries_few, entries_fit, free_parts, lives, opening_book, out_book, out_fits, ran_book, released_book, reports, room_kept, stepped_book, steps_counted, still_entries, still_entries_one}
+use Rattle.sts_pool.proofs.OutsideLemmas.{entries_more, one_outside}
+use Rattle.sts_pool.proofs.Books.{back_book, entries_few, entries_fit, free_parts, lives, opening_book, out_book, out_fits, outside_book, ran_book, released_book, reports, room_kept, stepped_book, steps_counted, still_entries, still_entries_one}
 use Rattle.sts_pool.proofs.Outs.{among, without}
 
 -- ---- a journal of either kind
@@ -79,6 +80,14 @@ most_entries m j n out k b view is =
     let entries : outside_entries is.events ≡ n = is.entries in
     let same : n ≡ b.outside = ap (λ (x : BookSeen). x.outside) view in
     omega (arith, most, entries, same)
+
+-- one more may come to a book that isn't full
+pub few_more : (m : Seen) (j : Journal) (n : ℕ) (out : List ℕ) (k : ℕ) (b : BookSeen) (full : Bool) → book_of m (written j) n out ≡ b → IsKept m j n out k → (b.outside ≡ 4096 → full ≡ true) → full ≡ false → n + 1 ≤ 4096
+few_more m j n out k b full view is filled free =
+    let most = is.book.most in
+    let entries : outside_entries is.events ≡ n = is.entries in
+    let other : n ≡ 4096 → ⊥ = λ e. both_ways full free (filled (sym (ap (λ (x : BookSeen). x.outside) view) ∙ e)) in
+    omega (arith, most, entries, other)
 
 -- the entries that are written may be the journal's
 pub shown : (m : Seen) (j : Journal) (n : ℕ) (out : List ℕ) (k : ℕ) → IsKept m j n out k → IfSome (written j) (MayBe (book_of m (written j) n out))
@@ -190,6 +199,16 @@ pub step_grows : (m x : Seen) (j : Journal) (n : ℕ) (out : List ℕ) (k t : �
 step_grows m x j n out k t is same stands live steps can absent =
     grows m x j n n out out k (event.Step t ∷ []) is same (still_entries_one is.events t ∙ is.entries)
     (stepped_book m x is.events out t is.book is.room.stay stands live steps can absent)
+
+-- by an event from outside
+pub event_grows : (m x : Seen) (j : Journal) (n : ℕ) (out : List ℕ) (k : ℕ) (e : Event) → IsKept m j n out k → n + 1 ≤ 4096 → is_step e ≡ false → x.program ≡ m.program → ((events : List Event) → Stands m events → Stands x (events ++ e ∷ [])) → x.live ≡ live_apply m.program m.live e
+    → x.steps ≡ m.steps + live_steps_in m.program m.live e → Grows j (e ∷ []) x (n + 1) out k
+event_grows m x j n out k e is few outer same stands live steps =
+    let more = entries_more is.events (e ∷ []) in
+    let one = one_outside e n outer in
+    let entries : outside_entries is.events ≡ n = is.entries in
+    grows m x j n (n + 1) out out k (e ∷ []) is same (omega (arith, more, one, entries))
+    (outside_book m x is.events out e is.book is.room.stay stands live steps outer (omega (arith, entries, few)))
 
 -- by the steps of a task, after which these tasks are out
 steps_grow : (m x : Seen) (j : Journal) (n : ℕ) (out left : List ℕ) (k c t : ℕ) (is : IsKept m j n out k) → x.program ≡ m.program → IsBook x (is.events ++ steps_of c t) left → Grows j (steps_of c t) x n left k
