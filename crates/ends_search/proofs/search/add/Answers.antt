@@ -15,6 +15,7 @@ returns-then-branch-clause-there g c _ =
     follows next (g.S.StateMachine.alike c.args.setting.now) states states c.args.place s.first c.args.event within
     (subst (λ x. IsAmong (g.S.StateMachine.alike c.args.setting.now) states x) c.requires.comes known)
 
+-- The record has a field for each fact of FoundMore, and the first of them names all parts of a space.
 pub returns-clause-more : goal.returns-clause-more
 returns-clause-more g c =
     let s = c.args.space.now in
