@@ -10,7 +10,7 @@ returns-then-is_among_with c =
     let row = c.in_ok-row.row.now in
     let at = c.in_ok-row.ensures.lookup in
     let begins = subst (λ (o : Own). Among c.as_slice.result.now (record o { left = row.births })) c.requires
-          (c.is_among_with.ensures c.if-is_among_with.true) in
+    (c.is_among_with.ensures c.if-is_among_with.true) in
     record {
       there = among_at c.args.table.now c.args.place row at.3.0 at.1;
       call = c.same.ensures c.if-same.true;
