@@ -245,7 +245,7 @@ fn after_close(alloc: Global, own: &Own, place: u32, cost: u32) -> Result<Own, A
     next.frame.goes(to, 0);
     next.frame.entries.drop_top(1);
     next.scopes.truncate(place as usize);
-    next.forget_scope(place);
+    next.empty_slots_of(place);
     next.used = next.used.saturating_add(cost);
     Ok(next)
 }
@@ -259,8 +259,8 @@ pub fn closed(at: At<'_>, steps: &mut Steps<'_>) -> Result<(), AllocError> {
     Ok(())
 }
 
-/// The state after a `forget`.
-fn after_forget(alloc: Global, own: &Own, slot: u8) -> Result<Own, AllocError> {
+/// The state after a slot was emptied.
+fn after_emptied(alloc: Global, own: &Own, slot: u8) -> Result<Own, AllocError> {
     let mut next = own.copied(alloc)?;
     let to = next_place(&next.frame);
     next.frame.goes(to, 0);
@@ -268,8 +268,8 @@ fn after_forget(alloc: Global, own: &Own, slot: u8) -> Result<Own, AllocError> {
     Ok(next)
 }
 
-/// Adds the state after a `forget`.
-pub fn forgotten(slot: u8, steps: &mut Steps<'_>) {
-    let next = after_forget(steps.alloc, steps.own, slot);
+/// Adds the state after a slot was emptied.
+pub fn emptied(slot: u8, steps: &mut Steps<'_>) {
+    let next = after_emptied(steps.alloc, steps.own, slot);
     steps.add(next, Label::Plain);
 }

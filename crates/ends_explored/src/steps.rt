@@ -3,7 +3,7 @@
 use crate::frames::{arguments, environment, next_place, run_frame};
 use crate::joins::{Targets, joined};
 use crate::next::{Around, At, Outcome, Steps, looked_at};
-use crate::scopes::{Question, asked, cancelled_at, closed, forgotten, interrupted, opened};
+use crate::scopes::{Question, asked, cancelled_at, closed, emptied, interrupted, opened};
 use crate::subtasks::{came, cased};
 use ends_known::own::Own;
 use ends_known::part::{Filter, Part, count_parts, push_parts};
@@ -12,7 +12,7 @@ use ends_known::table::Label;
 use laws_calls::table::{Call, Held, Knowledge};
 use std::alloc::{AllocError, Global};
 use sts_code::{Instr, args};
-use sts_frames::instr_at;
+use sts_frames::{emptied_slot, instr_at};
 use sts_model::End;
 
 /// A `fork`: the place of the scope among the open ones, and how many operands are the arguments. Then
@@ -181,7 +181,6 @@ fn stepped(instr: Instr, steps: &mut Steps<'_>) -> Result<(), AllocError> {
             timed,
         } => opened(slot, joiner, timed, steps),
         Instr::Interrupted => interrupted(steps),
-        Instr::Forget(slot) => forgotten(slot, steps),
         Instr::Cancelled(slot) => return cancelled_at(slot, steps),
         Instr::Join { slot, .. }
         | Instr::Close(slot)
@@ -190,7 +189,10 @@ fn stepped(instr: Instr, steps: &mut Steps<'_>) -> Result<(), AllocError> {
         Instr::Case { handle: slot, .. } | Instr::Get(slot) | Instr::Except(slot) => {
             asked_subtask(slot, instr, steps)
         }
-        _ => steps.break_off(),
+        _ => match emptied_slot(instr) {
+            Some(slot) => emptied(slot, steps),
+            None => steps.break_off(),
+        },
     }
     Ok(())
 }

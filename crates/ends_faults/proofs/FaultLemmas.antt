@@ -8,7 +8,7 @@ use Rattle.std.proofs.lemmas.Option.{same_Some}
 use Rattle.sts_code.specs.Program.{Program}
 use Rattle.sts_code.specs.declared.instr.Instr.{Instr}
 use Rattle.sts_code.specs.declared.instr.Instr.TheVariants.{Open, Fork, Join, Close, Cancelled}
-use Rattle.sts_code.specs.declared.instr.Instr.TheVariants.{Case, Get, Except, Tally, Total, Forget}
+use Rattle.sts_code.specs.declared.instr.Instr.TheVariants.{Case, Get, Except, Tally, Total}
 use Rattle.sts_code.specs.declared.instr.Instr.TheVariants.{Bind, Unbind, Read, Ret, Fail}
 use Rattle.sts_code.specs.declared.instr.Instr.TheVariants.{Times, Next}
 use Rattle.sts_code.specs.declared.limits.TheConstants.{MAX_ENTRIES}
@@ -21,6 +21,7 @@ use Rattle.sts_model.specs.declared.record.Frame.{Frame}
 use Rattle.sts_model.specs.declared.record.Scope.{Scope}
 use Rattle.sts_model.specs.declared.record.Slot.{Slot}
 use Rattle.sts_model.specs.declared.record.Slot.TheVariants as slots
+use Rattle.sts_model.specs.Local.{emptied_slot}
 use Rattle.sts_model.specs.World.{World, State, Running, Faulted, task_at, scope_at, instr_at}
 use Rattle.sts_model.specs.Living.{ends, completion_of, parent, scope_of, sub_state, subtask_count}
 use Rattle.sts_model.specs.Environment.{environment_of, bound_of, read}
@@ -211,6 +212,10 @@ module _ (p : Program) (rows : ℕ → Row) (w : World) (h : Facts w) (closes : 
   free None e = refl
   free (Some x) e = empty_slot w opened (slot f x) (held_at own x) (held_in x) e
 
+  emptied : (q : Option ℕ) → safe.holds_subtask own q ≡ true → misuse.at_slot f q (λ x. not (misuse.is_sub x)) ≡ false
+  emptied None e = refl
+  emptied (Some x) e = sub_slot w opened (slot f x) (held_at own x) (held_in x) e
+
   -- a test of a scope or a subtask that fails
   own_fails : (q : Slot) (s : ℕ) (test : ℕ → Scope → Bool) → q ≡ slots.Own s → test s (scope_at w s) ≡ false → misuse.at_own w q test ≡ false
   own_fails q s test e fails = ap (λ y. misuse.at_own w y test) e ∙ fails
@@ -243,8 +248,12 @@ module _ (p : Program) (rows : ℕ → Row) (w : World) (h : Facts w) (closes : 
   slots_fine (Total x) a =
       let o = owned x a.place a.seen a.owns in
       or_from _ _ (or_from _ _ (ap (λ y. not (misuse.is_scope y)) o.mine) refl) refl
-  slots_fine (Forget x) a = or_from _ _ (sub_slot w opened (slot f x) (held_at own x) (held_in x) a) refl
-  slots_fine i a = refl
+  slots_fine (Bind x) a = refl
+  slots_fine Unbind a = refl
+  slots_fine (Read x) a = refl
+  slots_fine Ret a = refl
+  slots_fine Fail a = refl
+  slots_fine i a = or_from (misuse.at_slot f (emptied_slot i) (λ x. not (misuse.is_sub x))) false (emptied (emptied_slot i) a) refl
 
   own_legal : (i : Instr) → IsAllowed p c own i → misuse.is_strangers f i ≡ false
   own_legal (Fork x g q) a = ap misuse.is_lent (owned x a.0.place a.0.seen a.0.owns).mine

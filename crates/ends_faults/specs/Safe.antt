@@ -9,13 +9,14 @@ use Rattle.sts_code.specs.declared.limits.TheConstants.{MAX_ENTRIES}
 use Rattle.sts_code.specs.declared.profile.Profile.{Profile}
 use Rattle.sts_code.specs.declared.instr.Instr.{Instr}
 use Rattle.sts_code.specs.declared.instr.Instr.TheVariants.{Open, Fork, Join, Close, Cancelled}
-use Rattle.sts_code.specs.declared.instr.Instr.TheVariants.{Case, Get, Except, Tally, Total, Forget}
+use Rattle.sts_code.specs.declared.instr.Instr.TheVariants.{Case, Get, Except, Tally, Total}
 use Rattle.sts_code.specs.declared.instr.Instr.TheVariants.{Bind, Unbind, Read, Ret, Fail}
 use Rattle.sts_code.specs.Facts.{is_two}
 use Rattle.sts_model.specs.declared.event.End.{End}
 use Rattle.sts_model.specs.declared.record.Entry.{Entry}
 use Rattle.sts_model.specs.declared.record.Entry.TheVariants as entry
 use Rattle.sts_model.specs.declared.record.Frame.{Frame}
+use Rattle.sts_model.specs.Local.{emptied_slot}
 use Rattle.sts_model.specs.World.{instr_at}
 use Rattle.sts_model.specs.Environment.{read}
 use Rattle.sts_model.specs.Misuse.{lacks_operands, overflows, breaks_loop, misfits, is_opened}
@@ -55,6 +56,11 @@ is_sub _ = false
 abbrev pub is_free : Own → Option ℕ → Bool
 is_free own None = true
 is_free own (Some h) = is_empty (held_at own h)
+
+-- the slot that is emptied, if one is, holds a subtask
+abbrev pub holds_subtask : Own → Option ℕ → Bool
+holds_subtask own None = true
+holds_subtask own (Some h) = is_sub (held_at own h)
 
 -- the slot holds an open scope of the task, for which P holds
 pub record OwnsOne (own : Own) (x : ℕ) (P : ℕ → Seen → Type 0) : Type 0 where
@@ -150,13 +156,12 @@ IsAllowed p c own (Except h) = KnowsOne own h (CanRead p.profile has_failed)
 IsAllowed p c own (Tally x kind) =
     OwnsOne own x (λ place seen. is_readable p.profile seen ≡ true)
 IsAllowed p c own (Total x) = OwnsOne own x (λ place seen. is_readable p.profile seen ≡ true)
-IsAllowed p c own (Forget h) = is_sub (held_at own h) ≡ true
 IsAllowed p c own (Bind k) = is_full own.frame ≡ false
 IsAllowed p c own Unbind = innermost is_binding own.frame.entries ≡ true
 IsAllowed p c own (Read k) = is_none (read (bindings c own) k) ≡ false
 IsAllowed p c own Ret = own.frame.entries ≡ []
 IsAllowed p c own Fail = own.frame.entries ≡ []
-IsAllowed p c own _ = Unit {0}
+IsAllowed p c own i = holds_subtask own (emptied_slot i) ≡ true
 
 -- ---- states
 

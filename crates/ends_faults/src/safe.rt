@@ -17,7 +17,7 @@ use ends_table::stop::Stop;
 use laws_calls::table::{Call, Held, Own};
 use std::alloc::{AllocError, Global};
 use sts_code::{Instr, Joiner, Kind, Program};
-use sts_frames::{instr_at, is_local};
+use sts_frames::{emptied_slot, instr_at, stays_in_frame};
 use sts_model::Bound;
 use sts_plain::frame_tests::{breaks_loop, lacks_operands, overflows};
 
@@ -53,6 +53,16 @@ fn is_free(own: &Own, handle: Option<u8>) -> bool
     match handle {
         None => true,
         Some(slot) => is_empty(held_at(own, slot)),
+    }
+}
+
+/// Does the slot hold a subtask that is emptied, if one is?
+fn holds_subtask(own: &Own, handle: Option<u8>) -> bool
+    ensures { result ≡ def.holds_subtask own.now handle }
+{
+    match handle {
+        None => true,
+        Some(slot) => is_sub(held_at(own, slot)),
     }
 }
 
@@ -125,12 +135,6 @@ impl<'a> Around<'a> {
 
     fn case(&self, handle: u8, success: u32, failed: u32) -> Result<(), Stop>
         ensures { OnOk result (Allows self.now (instrs.Case handle success failed)) }
-    {
-        needs(is_sub(held_at(self.own, handle)))
-    }
-
-    fn forget(&self, handle: u8) -> Result<(), Stop>
-        ensures { OnOk result (Allows self.now (instrs.Forget handle)) }
     {
         needs(is_sub(held_at(self.own, handle)))
     }
@@ -239,22 +243,22 @@ impl<'a> Around<'a> {
         }
     }
 
-    /// A local instruction.
+    /// An instruction that stays in the frame.
     fn local(&self, instr: Instr) -> Result<(), Stop>
         ensures { OnOk result (Allows self.now instr) }
     {
-        if is_local(instr) {
-            self.nothing(instr)
+        if stays_in_frame(instr) {
+            self.empties(instr)
         } else {
             Err(Stop::Unknown)
         }
     }
 
-    fn nothing(&self, instr: Instr) -> Result<(), Stop>
-        requires { locals.is_local instr ≡ true }
+    fn empties(&self, instr: Instr) -> Result<(), Stop>
+        requires { locals.stays_in_frame instr ≡ true }
         ensures { OnOk result (Allows self.now instr) }
     {
-        Ok(())
+        needs(holds_subtask(self.own, emptied_slot(instr)))
     }
 
     /// An instruction on subtasks.
@@ -271,7 +275,6 @@ impl<'a> Around<'a> {
             Instr::Except(handle) => self.except(alloc, handle),
             Instr::Tally(slot, kind) => self.tally(slot, kind),
             Instr::Total(slot) => self.total(slot),
-            Instr::Forget(handle) => self.forget(handle),
             _ => self.listed(alloc, instr),
         }
     }

@@ -135,7 +135,7 @@ impl Own {
     }
 
     /// Empties the slots that hold a scope or a subtask of it.
-    pub fn forget_scope(&mut self, place: u32) {
+    pub fn empty_slots_of(&mut self, place: u32) {
         for held in self.held.iter_mut() {
             let is_its = match *held {
                 Held::Own(scope) | Held::Sub(scope, _) => scope == place,

@@ -1,7 +1,7 @@
 -- Own steps of a task end: each makes its fuel smaller.
 use Rattle.std.proofs.Common.{◌≡◌, ℕ, zero, suc, ◌+◌, ◌-◌, ◌*◌, ◌<◌, ◌≤◌, List, [], ◌∷◌, Bool, true, false, Option, Some, None}
 use Rattle.std.proofs.Common.{refl, ◌∙◌, ap, length, arith, cond, not, find, drop}
-use Rattle.std.specs.Prelude.{pos, nat_le, is_none, is_some, unwrap_or, ◌==◌, slice_get, slice_set, slice_range}
+use Rattle.std.specs.Prelude.{pos, nat_le, is_none, is_some, unwrap_or, ◌==◌, slice_get, slice_range}
 use Rattle.std.specs.List.{range_with_len, sum_by}
 use Rattle.std.specs.Int.{int_wrapping_div, w64}
 use Rattle.std.specs.Ordering.{int_eq}
@@ -19,7 +19,6 @@ use Rattle.sts_model.specs.declared.record.Entry.TheVariants as entry
 use Rattle.sts_model.specs.declared.record.Bound.{Bound}
 use Rattle.sts_model.specs.declared.record.Frame.{Frame}
 use Rattle.sts_model.specs.declared.record.Loop.{Loop}
-use Rattle.sts_model.specs.declared.record.Slot.TheVariants.{Empty}
 use Rattle.sts_model.specs.World.{code, instr_at}
 use Rattle.sts_model.specs.Environment.{read}
 use Rattle.sts_model.specs.Local.{local, operand, goes, steps, truth, clipped, enters, turns}
@@ -35,7 +34,6 @@ after_own bs is instr.Unbind f = record (steps f 0 []) { entries = drop 1 f.entr
 after_own bs is (instr.Read k) f = steps f 0 (unwrap_or (read bs k) (pos 0) ∷ [])
 after_own bs is (instr.Bound k) f = steps f 0 (truth (is_some (read bs k)) ∷ [])
 after_own bs is (instr.OrElse k) f = steps f 1 (unwrap_or (read bs k) (operand f 0) ∷ [])
-after_own bs is (instr.Forget h) f = record (steps f 0 []) { slots = slice_set f.slots h Empty }
 after_own bs is i f = local is i f
 
 -- ---- loops

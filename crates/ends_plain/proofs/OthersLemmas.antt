@@ -206,7 +206,6 @@ apart-effect p w t g u f (instr.Close s) apart alive = apart-close w t g u f (na
 apart-effect p w t g u f instr.Interrupted apart alive = apart-change w t g u (λ (x : Task). record x { frame = steps f 0 (truth x.flag ∷ []); flag = false }) apart alive
 apart-effect p w t g u f instr.Ret apart alive = apart-end w t g u f (Success (operand f 0)) apart alive
 apart-effect p w t g u f instr.Fail apart alive = apart-end w t g u f (Failed (operand f 0)) apart alive
-apart-effect p w t g u f (instr.Forget h) apart alive = apart-frame w t g u _ apart alive
 apart-effect p w t g u f (instr.Bind k) apart alive = apart-frame w t g u _ apart alive
 apart-effect p w t g u f instr.Unbind apart alive = apart-frame w t g u _ apart alive
 apart-effect p w t g u f i apart alive = apart-frames w t g u (moved p (with_frame w t g) u f i) (moved p w u f i) (moved_apart p w t g u f i apart) apart alive

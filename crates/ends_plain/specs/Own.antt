@@ -5,11 +5,11 @@ use Rattle.std.specs.Prelude.{nat_lt, is_none, find, ◌&&◌}
 use Rattle.std.specs.List.{range_with_len}
 use Rattle.sts_code.specs.Program.{Program}
 use Rattle.sts_code.specs.declared.instr.Instr.{Instr}
-use Rattle.sts_code.specs.declared.instr.Instr.TheVariants.{Div, Jmp, Jz, Bind, Unbind, Forget}
+use Rattle.sts_code.specs.declared.instr.Instr.TheVariants.{Div, Jmp, Jz, Bind, Unbind}
 use Rattle.sts_code.specs.declared.instr.Instr.TheVariants.{Read, Bound, OrElse}
 use Rattle.sts_model.specs.declared.record.Frame.{Frame}
 use Rattle.sts_model.specs.World.{World, State, Running, Faulted, task_at, instr_at}
-use Rattle.sts_model.specs.Local.{is_local}
+use Rattle.sts_model.specs.Local.{stays_in_frame}
 use Rattle.sts_model.specs.Living.{lives}
 use Rattle.sts_model.specs.Misuse.{misuse}
 
@@ -24,8 +24,7 @@ is_own f Unbind = true
 is_own f (Read k) = true
 is_own f (Bound k) = true
 is_own f (OrElse k) = true
-is_own f (Forget h) = true
-is_own f i = is_local i
+is_own f i = stays_in_frame i
 
 abbrev pub is_own_at : Frame → Option Instr → Bool
 is_own_at f None = false

@@ -4,7 +4,7 @@ ghost use Rattle.std.specs.Prelude.{◌≡◌};
 ghost use Rattle.ends_plain.specs.Own as def;
 
 use sts_code::{Instr, Program};
-use sts_frames::{instr_at, is_local};
+use sts_frames::{instr_at, stays_in_frame};
 use sts_model::Frame;
 use sts_plain::misuse;
 use sts_world::World;
@@ -15,9 +15,9 @@ fn is_own(frame: &Frame, instr: Instr) -> bool
 {
     match instr {
         Instr::Div(to) | Instr::Jmp(to) | Instr::Jz(to) => frame.pc < to,
-        Instr::Bind(_) | Instr::Unbind | Instr::Forget(_) => true,
+        Instr::Bind(_) | Instr::Unbind => true,
         Instr::Read(_) | Instr::Bound(_) | Instr::OrElse(_) => true,
-        _ => is_local(instr),
+        _ => stays_in_frame(instr),
     }
 }
 

@@ -1,19 +1,18 @@
 -- The states to which each instruction leads.
 use Rattle.std.proofs.Common.{◌≡◌, ℕ, pos, List, [], ◌∷◌, Bool, true, false, Option, Some}
 use Rattle.std.proofs.Common.{refl, sym, ◌∙◌, subst, is_some}
-use Rattle.std.specs.Prelude.{unwrap_or, slice_get, drop, slice_set}
+use Rattle.std.specs.Prelude.{unwrap_or, slice_get, drop}
 use Rattle.sts_code.specs.Program.{Program}
 use Rattle.sts_code.specs.declared.instr.Instr.{Instr}
 use Rattle.sts_code.specs.declared.instr.Instr.TheVariants.{Open, Fork, Join, Close, Cancelled}
-use Rattle.sts_code.specs.declared.instr.Instr.TheVariants.{Case, Get, Except, Tally, Total, Forget}
+use Rattle.sts_code.specs.declared.instr.Instr.TheVariants.{Case, Get, Except, Tally, Total}
 use Rattle.sts_code.specs.declared.instr.Instr.TheVariants.{Bind, Unbind, Read, Bound, OrElse}
 use Rattle.sts_code.specs.declared.instr.Instr.TheVariants.{Interrupted, Ret, Fail}
 use Rattle.sts_code.specs.declared.instr.Joiner.{Joiner}
 use Rattle.sts_code.specs.declared.instr.Kind.{Kind}
 use Rattle.sts_model.specs.declared.event.End.TheVariants.{Success, Failed}
 use Rattle.sts_model.specs.declared.record.Entry.TheVariants as entry
-use Rattle.sts_model.specs.World.{code}
-use Rattle.sts_model.specs.Local.{is_local, local, operand, steps, truth}
+use Rattle.sts_model.specs.Local.{stays_in_frame, operand, steps, truth}
 use Rattle.sts_model.specs.Environment.{read}
 use Rattle.laws_calls.specs.declared.table.Held.TheVariants as held
 use Rattle.laws_calls.specs.declared.table.Outside.{Outside}
@@ -23,9 +22,9 @@ use Rattle.laws_calls.specs.declared.table.Call.{Call}
 use Rattle.laws_calls.specs.declared.table.Own.{Own}
 use Rattle.laws_calls.specs.declared.table.Seen.{Seen}
 use Rattle.laws_calls.specs.declared.table.Part.{Part}
-use Rattle.laws_calls.specs.Steps.{Table, Leads, LeadsBy, Forks, born_by, Owns, Knows, to, pushes, forked, opened, closed}
+use Rattle.laws_calls.specs.Steps.{Table, Leads, LeadsBy, Forks, born_by, Owns, Knows, to, alone, pushes, forked, opened, closed}
 use Rattle.laws_calls.specs.Steps.{local_step, read_step, bound_step, or_else_step, bind_step}
-use Rattle.laws_calls.specs.Steps.{unbind_step, forget_step, calm_step, interrupted_step, lent_step}
+use Rattle.laws_calls.specs.Steps.{unbind_step, calm_step, interrupted_step, lent_step}
 use Rattle.laws_calls.specs.Steps.{lent_cancelled_step, going_step, cancelled_step, expired_step, open_step}
 use Rattle.laws_calls.specs.Steps.{unstarted_step, close_step, attempted_step, timeout_step}
 use Rattle.laws_calls.specs.Steps.{by_one_step, by_count_step, heard_step, none_step, success_step}
@@ -65,20 +64,19 @@ module _ (p : Program) (outside : Outside) (c : Call) (states : List Own) (own :
 
   -- ---- the frame alone
 
-  -- a local instruction makes no birth
-  local_none : (i : Instr) → is_local i ≡ true → born_by outside i ≡ 0
+  -- an instruction that stays in the frame makes no birth
+  local_none : (i : Instr) → stays_in_frame i ≡ true → born_by outside i ≡ 0
   local_none (Open x timed joiner) e = cc
   local_none (Fork x g h) e = cc
   local_none i e = refl
 
-  pub local_leads : (i : Instr) → is_local i ≡ true → Leads states (to own (local (code p own.frame) i own.frame)) → AllLead p outside c states own i
-  local_leads i e h next (local_step same) = subst (λ n. LeadsBy n states (to own (local (code p own.frame) i own.frame))) (sym (local_none i e)) h
+  pub local_leads : (i : Instr) → stays_in_frame i ≡ true → Leads states (alone p own i) → AllLead p outside c states own i
+  local_leads i e h next (local_step stays) = subst (λ n. LeadsBy n states (alone p own i)) (sym (local_none i e)) h
   local_leads i e h next read_step = cc
   local_leads i e h next bound_step = cc
   local_leads i e h next or_else_step = cc
   local_leads i e h next bind_step = cc
   local_leads i e h next unbind_step = cc
-  local_leads i e h next forget_step = cc
   local_leads i e h next calm_step = cc
   local_leads i e h next (interrupted_step may) = cc
   local_leads i e h next (lent_step holds) = cc
@@ -122,10 +120,6 @@ module _ (p : Program) (outside : Outside) (c : Call) (states : List Own) (own :
   pub unbind_leads : Leads states (to own (record (steps own.frame 0 []) { entries = drop 1 own.frame.entries })) → AllLead p outside c states own Unbind
   unbind_leads h next (local_step e) = cc
   unbind_leads h next unbind_step = h
-
-  pub forget_leads : (x : ℕ) → Leads states (record own { frame = steps own.frame 0 []; held = slice_set own.held x held.Empty }) → AllLead p outside c states own (Forget x)
-  forget_leads x h next (local_step e) = cc
-  forget_leads x h next forget_step = h
 
   pub interrupted_leads : Leads states (pushes own 0 (truth false)) → (may_flag outside ≡ true → Leads states (pushes own 0 (truth true))) → AllLead p outside c states own Interrupted
   interrupted_leads h k next (local_step e) = cc

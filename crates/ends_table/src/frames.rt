@@ -80,7 +80,7 @@ pub fn answered(frame: &Frame, answer: Verdict, failed: u32) -> Result<Frame, St
     }
 }
 
-/// The frame after a local instruction.
+/// The frame after an instruction that stays in the frame.
 pub fn after_local(frame: &Frame, program: &Program, instr: Instr) -> Result<Frame, Stop>
     ensures { IfOk result (λ f. f
         ≡ locals.local (world.code program.now frame.now) instr frame.now) }

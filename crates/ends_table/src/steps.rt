@@ -1,6 +1,6 @@
 //! The states after each instruction.
 
-ghost use Rattle.std.specs.Prelude.{◌≡◌, [], IfOk, OnOk, slice_set, true};
+ghost use Rattle.std.specs.Prelude.{◌≡◌, IfOk, OnOk, true};
 ghost use Rattle.ends_table.specs.Led as led;
 ghost use Rattle.laws_calls.specs.Outside.{may_flag};
 ghost use Rattle.laws_calls.specs.Steps as def;
@@ -11,7 +11,7 @@ ghost use Rattle.sts_model.specs.Local as locals;
 
 use crate::around::Around;
 use crate::bindings::{after_bound, after_or_else, after_read, bound};
-use crate::frames::{after_local, left, stepped};
+use crate::frames::{after_local, left};
 use crate::joins::target;
 use crate::places::{held_at, known, owned, set_held, with_frame};
 use crate::reached::{leads, leads_after};
@@ -19,43 +19,42 @@ use crate::scopes::{closed, opened};
 use crate::stop::Stop;
 use laws_calls::table::{Held, Own, Seen};
 use std::alloc::Global;
-use sts_code::{Instr, Joiner, Kind};
-use sts_frames::is_local;
+use sts_code::{Instr, Joiner, Kind, Program};
+use sts_frames::{emptied_slot, stays_in_frame};
 use sts_model::Frame;
 
-/// The state after a handle was forgotten.
-fn forgotten(alloc: Global, own: &Own, handle: u8) -> Result<Own, Stop>
-    ensures { IfOk result (λ o. o ≡ record own.now {
-      frame = locals.steps own.now.frame 0 [];
-      held = slice_set own.now.held handle held.Empty;
-    }) }
+/// Empties a slot, if one is given.
+fn empties(slots: &mut [Held; 16], handle: Option<u8>)
+    ensures { slots.new ≡ def.with_handle slots.old handle held.Empty }
 {
-    let frame = stepped(&own.frame, 0)?;
+    if let Some(slot) = handle {
+        set_held(slots, slot, Held::Empty);
+    }
+}
+
+/// The state after an instruction that stays in the frame.
+fn after_alone(alloc: Global, program: &Program, own: &Own, instr: Instr) -> Result<Own, Stop>
+    ensures { IfOk result (λ o. o ≡ def.alone program.now own.now instr) }
+{
+    let frame = after_local(&own.frame, program, instr)?;
     let mut next = with_frame(alloc, own, frame)?;
-    set_held(&mut next.held, handle, Held::Empty);
+    empties(&mut next.held, emptied_slot(instr));
     Ok(next)
 }
 
 impl<'a> Around<'a> {
     fn local(&self, alloc: Global, instr: Instr) -> Result<(), Stop>
-        requires { locals.is_local instr ≡ true }
+        requires { locals.stays_in_frame instr ≡ true }
         ensures { OnOk result (led.LeadsOn self.now instr) }
     {
-        let frame = after_local(&self.own.frame, self.program, instr)?;
-        self.leads_by(alloc, frame)
+        let next = after_alone(alloc, self.program, self.own, instr)?;
+        leads(self.states, next)
     }
 
     fn interrupted(&self, alloc: Global) -> Result<(), Stop>
         ensures { OnOk result (led.LeadsOn self.now instrs.Interrupted) }
     {
         self.answers_by(alloc, self.outside.may_flag())
-    }
-
-    fn forget(&self, alloc: Global, handle: u8) -> Result<(), Stop>
-        ensures { OnOk result (led.LeadsOn self.now (instrs.Forget handle)) }
-    {
-        let next = forgotten(alloc, self.own, handle)?;
-        leads(self.states, next)
     }
 
     fn open(&self, alloc: Global, slot: u8, joiner: Joiner, timed: bool) -> Result<(), Stop>
@@ -187,7 +186,6 @@ impl<'a> Around<'a> {
             } => self.case(alloc, handle, success, failed),
             Instr::Get(handle) => self.read(alloc, handle, true),
             Instr::Except(handle) => self.read(alloc, handle, false),
-            Instr::Forget(handle) => self.forget(alloc, handle),
             Instr::Tally(slot, kind) => self.tally(alloc, slot, kind),
             Instr::Total(slot) => self.total(alloc, slot),
             _ => self.scoped(alloc, instr),
@@ -228,7 +226,7 @@ impl<'a> Around<'a> {
     pub fn steps(&self, alloc: Global, instr: Instr) -> Result<(), Stop>
         ensures { OnOk result (led.LeadsOn self.now instr) }
     {
-        if is_local(instr) {
+        if stays_in_frame(instr) {
             self.local(alloc, instr)
         } else {
             self.other(alloc, instr)

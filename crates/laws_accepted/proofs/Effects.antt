@@ -1,7 +1,7 @@
 -- Every instruction that is no misuse keeps the facts about costs, with one step more.
 use Rattle.std.proofs.Common.{◌≡◌, ℕ, ◌+◌, ◌<◌, ◌≤◌, inl, List, [], ◌∷◌, ◌++◌, Bool, true, false}
 use Rattle.std.proofs.Common.{Option, Some, None, refl, sym, ◌∙◌, ap, subst, length, arith, cond}
-use Rattle.std.proofs.Common.{set, take, not, ◌&&◌, drop, get_or-set_same, get_or-set_other}
+use Rattle.std.proofs.Common.{take, not, ◌&&◌, drop, get_or-set_same, get_or-set_other}
 use Rattle.std.proofs.Common.{length-set}
 use Rattle.std.specs.Prelude.{nat_lt, unwrap_or, pos, is_some}
 use Rattle.std.proofs.lemmas.Bool.{cond_both, or_parts, and_parts, not-false}
@@ -11,7 +11,7 @@ use Rattle.std.proofs.lemmas.List.{length-map, get_or_append_left}
 use Rattle.sts_code.specs.Program.{Program, routine}
 use Rattle.sts_code.specs.declared.instr.Instr.{Instr}
 use Rattle.sts_code.specs.declared.instr.Instr.TheVariants.{Open, Fork, Join, Close, Cancelled}
-use Rattle.sts_code.specs.declared.instr.Instr.TheVariants.{Case, Get, Except, Tally, Total, Forget}
+use Rattle.sts_code.specs.declared.instr.Instr.TheVariants.{Case, Get, Except, Tally, Total}
 use Rattle.sts_code.specs.declared.instr.Instr.TheVariants.{Bind, Unbind, Read, Bound, OrElse}
 use Rattle.sts_code.specs.declared.instr.Instr.TheVariants.{Interrupted, Ret, Fail}
 use Rattle.sts_code.specs.declared.instr.Joiner.{Joiner}
@@ -30,7 +30,7 @@ use Rattle.sts_model.specs.declared.record.Scope.{Scope}
 use Rattle.sts_model.specs.World.{World, task_at, scope_at, no_task, no_scope, code, with_scope}
 use Rattle.sts_model.specs.World.{with_frame, instr_at}
 use Rattle.sts_code.specs.Program as program
-use Rattle.sts_model.specs.Local.{local, is_local, goes, steps, operand, truth}
+use Rattle.sts_model.specs.Local.{local, emptied_slot, stays_in_frame, goes, steps, operand, truth}
 use Rattle.sts_model.specs.Environment.{environment_of, read}
 use Rattle.sts_model.specs.Living.{lives, any_lives, sub_state, ends}
 use Rattle.sts_model.specs.Joining.{cancels}
@@ -39,14 +39,14 @@ use Rattle.sts_model.specs.Misuse.{slot, is_scope, is_lent, is_sub, is_empty, at
 use Rattle.sts_model.specs.Misuse.{is_entry_of, innermost, joins_wrongly}
 use Rattle.sts_model.specs.Waiting.{stand_at, stand_at_instr, can_go, stands_at_close, is_closing}
 use Rattle.sts_model.specs.Effect.{effect, named, with_phase, close_scope, closed, cleared, is_of}
-use Rattle.sts_model.specs.Effect.{open_scope, fork_task, subtask_of, forked, bind, unbind, forget}
+use Rattle.sts_model.specs.Effect.{open_scope, fork_task, subtask_of, forked, bind, unbind}
 use Rattle.sts_model.specs.Effect.{value_or_zero, tally, total, told, decide, tell, ended, end_task}
 use Rattle.sts_model.specs.Effect.{case_target}
 use Rattle.sts_rules.specs.ControlPaths.{OpenEntry, GoesTo, Follows}
 use Rattle.sts_rules.specs.Budget.{budget_at, entries_of, steps_of, shape_of}
 use Rattle.laws_runs.specs.Later.{Later}
 use Rattle.laws_runs.proofs.BirthLemmas.{born_alive, new_scope, opener, more_tasks}
-use Rattle.laws_runs.proofs.FrameLemmas.{own_slot, at_own-is}
+use Rattle.laws_runs.proofs.FrameLemmas.{own_slot, at_own-is, Leaves, leaves-local}
 use Rattle.laws_runs.proofs.EffectLemmas.{first_no, alive_in, dead_in}
 use Rattle.laws_runs.proofs.EventLemmas.{Also}
 use Rattle.laws_runs.proofs.EntryLemmas.{tell_both}
@@ -55,7 +55,7 @@ use Rattle.laws_accepted.proofs.TimelyLemmas.{Timely}
 use Rattle.sts_budget.proofs.CheckedLemmas.{is_checked}
 use Rattle.laws_accepted.specs.Points.{loops_of, skeleton_of}
 use Rattle.laws_accepted.specs.Costs.{steps_begun}
-use Rattle.laws_accepted.proofs.Flow.{positive, goes_to, local_goes, local_same}
+use Rattle.laws_accepted.proofs.Flow.{GoesOn, positive, goes_to}
 use Rattle.laws_accepted.proofs.Points.{zips_map}
 use Rattle.laws_accepted.proofs.Turns.{Alike, Turned, like-refl, like-lives, alike-refl}
 use Rattle.laws_accepted.proofs.Turns.{alike-trans, alike-scope, alike-cancel, turned-task}
@@ -66,6 +66,7 @@ use Rattle.laws_accepted.proofs.Moves.{Moves, moves_same, moves_next, case_among
 use Rattle.laws_accepted.proofs.Moves.{moves_join, entering_bind, entering_unbind, entering_write}
 use Rattle.laws_accepted.proofs.Moves.{entering_open, entering_close}
 use Rattle.laws_accepted.proofs.Forks.{good_fork}
+use Rattle.laws_accepted.proofs.FrameRows.{emptied-sub, in_frame_goes}
 use Rattle.laws_accepted.proofs.RangeLemmas.{opens_in_range}
 
 -- the plain machine and control paths see the same instruction
@@ -218,14 +219,35 @@ module _ (Typed : Type 0) (p : Program) (budgets : List Budgets) (w : World) (n 
       (next_place i d shape)
       keeps
 
-  local_moves : (i : Instr) → is_local i ≡ true → Does p w t i → ((os : List OpenEntry) → entries_of i os ≡ os) → Moves p budgets w (with_frame w t (local (code p (task_at w t).frame) i (task_at w t).frame)) t i
-  local_moves i is_l d keeps =
-      let q = (o.placed t d.alive).point in
-      moves_same p budgets w _ t i (local (code p (task_at w t).frame) i (task_at w t).frame)
-      (turned-frame w w t (local (code p (task_at w t).frame) i (task_at w t).frame) (task_at w t).flag (born_alive w t d.alive) (alike-refl w))
-      (local_goes p budgets (task_at w t).frame i is_l (same_instr p (task_at w t).frame i d.at) d.fine.loops (positive _ _ _ _ _ q.comes))
-      (local_same (code p (task_at w t).frame) i (task_at w t).frame)
-      keeps
+  in_frame_moves : (i : Instr) → stays_in_frame i ≡ true → Does p w t i → ((os : List OpenEntry) → entries_of i os ≡ os) → Moves p budgets w (with_frame w t (local (code p (task_at w t).frame) i (task_at w t).frame)) t i
+  in_frame_moves i is d keeps = by (emptied_slot i) refl (leaves-local (code p f) i f)
+    where
+      f : Frame
+      f = (task_at w t).frame
+
+      g : Frame
+      g = local (code p f) i f
+
+      turned : Turned w (with_frame w t g) t (record (task_at w t) { frame = g })
+      turned = turned-frame w w t g (task_at w t).flag (born_alive w t d.alive) (alike-refl w)
+
+      goes_on : GoesOn p budgets f g
+      goes_on = in_frame_goes p budgets f i is (same_instr p f i d.at) d.fine.loops (positive _ _ _ _ _ (o.placed t d.alive).point.comes)
+
+      owns_nothing : (q : Slot) (s : ℕ) → is_sub q ≡ true → q ≡ slots.Own s → ⊥
+      owns_nothing q s e h = let none : false ≡ true = ap is_sub (sym h) ∙ e in cc
+
+      by : (emptied : Option ℕ) → emptied_slot i ≡ emptied → Leaves f g emptied → Moves p budgets w (with_frame w t g) t i
+      by None e same = moves_same p budgets w (with_frame w t g) t i g turned goes_on same keeps
+      by (Some x) e same =
+          record {
+            frame = g;
+            turned = turned;
+            goes = goes_on;
+            function = same.function;
+            size = ap (λ (xs : List Slot). length xs) same.slots ∙ length-set f.slots x slots.Empty;
+            entries = entering_write budgets w.tasks f g i x slots.Empty same.entries same.slots (λ s q. cc) (λ s q. owns_nothing (slot f x) s (emptied-sub f i x d.fine.slots e) q) keeps;
+          }
 
   case_moves : (x success failed : ℕ) (q : Option End) → Does p w t (Case x success failed) → Moves p budgets w (with_frame w t (goes (task_at w t).frame (case_target q success failed ((task_at w t).frame.pc + 1)) 0 [])) t (Case x success failed)
   case_moves x success failed q d =
@@ -271,20 +293,6 @@ module _ (Typed : Type 0) (p : Program) (budgets : List Budgets) (w : World) (n 
         size = refl;
         entries = entering_unbind budgets w.tasks (task_at w t).frame d.fine.structure;
       }
-
-  forget_moves : (x : ℕ) → Does p w t (Forget x) → Moves p budgets w (forget w t (task_at w t).frame x) t (Forget x)
-  forget_moves x d =
-      record {
-        frame = record (steps (task_at w t).frame 0 []) { slots = set (task_at w t).frame.slots x slots.Empty };
-        turned = turned-frame w w t (record (steps (task_at w t).frame 0 []) { slots = set (task_at w t).frame.slots x slots.Empty }) (task_at w t).flag (born_alive w t d.alive) (alike-refl w);
-        goes = next_place (Forget x) d refl;
-        function = refl;
-        size = length-set (task_at w t).frame.slots x slots.Empty;
-        entries = entering_write budgets w.tasks (task_at w t).frame (record (steps (task_at w t).frame 0 []) { slots = set (task_at w t).frame.slots x slots.Empty }) (Forget x) x slots.Empty refl refl (λ s e. cc) (λ s e. no_scope_there (slot (task_at w t).frame x) s (not-false (is_sub (slot (task_at w t).frame x)) (or_parts (not (is_sub (slot (task_at w t).frame x))) false d.fine.slots).0) e) (λ os. refl);
-      }
-    where
-      no_scope_there : (q : Slot) (s : ℕ) → is_sub q ≡ true → q ≡ slots.Own s → ⊥
-      no_scope_there q s e h = let none : false ≡ true = ap is_sub (sym h) ∙ e in cc
 
   closed_moves : (x s : ℕ) → Does p w t (Close x) → not (innermost (is_entry_of s) (task_at w t).frame.entries) ≡ false → Moves p budgets w (closed (cancel w s) t (task_at w t).frame s) t (Close x)
   closed_moves x s d first =
@@ -356,7 +364,6 @@ module _ (Typed : Type 0) (p : Program) (budgets : List Budgets) (w : World) (n 
       moved _ (Join x failed timeout interrupted) d (moves_join p budgets w t x failed timeout interrupted (born_alive w t d.alive) (same_instr p (task_at w t).frame (Join x failed timeout interrupted) d.at) s right (facts.also.timely s)) ov later
   good_effect (Close x) d ov later = close_effect x d ov later
   good_effect (Case x success failed) d ov later = moved _ (Case x success failed) d (case_moves x success failed (sub_state w (named (slot (task_at w t).frame x))) d) ov later
-  good_effect (Forget x) d ov later = moved _ (Forget x) d (forget_moves x d) ov later
   good_effect (Bind k) d ov later = moved _ (Bind k) d (bind_moves k d) ov later
   good_effect Unbind d ov later = moved _ Unbind d (unbind_moves d) ov later
   good_effect Ret d ov later = end_effect Ret (Success (operand (task_at w t).frame 0)) d d.fine.structure ov later
@@ -373,4 +380,4 @@ module _ (Typed : Type 0) (p : Program) (budgets : List Budgets) (w : World) (n 
   good_effect (Read k) d ov later = moved _ (Read k) d (goes_next (Read k) 0 (unwrap_or (read (environment_of (task_at w t) w) k) (pos 0) ∷ []) d refl (λ os. refl)) ov later
   good_effect (Bound k) d ov later = moved _ (Bound k) d (goes_next (Bound k) 0 (truth (is_some (read (environment_of (task_at w t) w) k)) ∷ []) d refl (λ os. refl)) ov later
   good_effect (OrElse k) d ov later = moved _ (OrElse k) d (goes_next (OrElse k) 1 (unwrap_or (read (environment_of (task_at w t) w) k) (operand (task_at w t).frame 0) ∷ []) d refl (λ os. refl)) ov later
-  good_effect i d ov later = moved _ i d (local_moves i refl d (λ os. refl)) ov later
+  good_effect i d ov later = moved _ i d (in_frame_moves i refl d (λ os. refl)) ov later

@@ -108,23 +108,3 @@ local_goes p budgets f Mul is at fine some = goes_to p budgets f Mul ((f.pc + 1)
 local_goes p budgets f Lt is at fine some = goes_to p budgets f Lt ((f.pc + 1) ∷ []) (f.pc + 1) at refl (inl refl)
 local_goes p budgets f Eq is at fine some = goes_to p budgets f Eq ((f.pc + 1) ∷ []) (f.pc + 1) at refl (inl refl)
 local_goes p budgets f _ is at fine some = cc
-
--- ---- what a local instruction leaves alone
-
-pub record Same (f g : Frame) : Type 0 where
-  pub function : g.function ≡ f.function
-  pub entries : g.entries ≡ f.entries
-  pub slots : g.slots ≡ f.slots
-
-same_turns : (f : Frame) (ls : List Loop) → Same f (turns f ls)
-same_turns f [] = record { function = refl; entries = refl; slots = refl }
-same_turns f (l ∷ ls) =
-    cond_both (nat_le l.left 1) (record (steps f 0 []) { loops = ls }) (record f { pc = l.at + 1; loops = record l { left = l.left - 1 } ∷ ls }) (λ (g : Frame). Same f g)
-    (λ e. record { function = refl; entries = refl; slots = refl })
-    (λ e. record { function = refl; entries = refl; slots = refl })
-
-pub local_same : (is : List Instr) (i : Instr) (f : Frame) → Same f (local is i f)
-local_same is (Div to) f = cond_both _ _ _ (λ (g : Frame). Same f g) (λ e. record { function = refl; entries = refl; slots = refl }) (λ e. record { function = refl; entries = refl; slots = refl })
-local_same is (Times n) f = cond_both _ _ _ (λ (g : Frame). Same f g) (λ e. record { function = refl; entries = refl; slots = refl }) (λ e. record { function = refl; entries = refl; slots = refl })
-local_same is Next f = same_turns f f.loops
-local_same is _ f = record { function = refl; entries = refl; slots = refl }

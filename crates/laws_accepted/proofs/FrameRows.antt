@@ -3,7 +3,7 @@ use Rattle.std.proofs.Common.{◌≡◌, ℕ, ◌+◌, ◌-◌, inl, inr, List, 
 use Rattle.std.proofs.Common.{Option, Some, None, refl, sym, ◌∙◌, not, arith, get_or, set}
 use Rattle.std.proofs.Common.{length-set}
 use Rattle.std.specs.Prelude.{ℤ, slice_set}
-use Rattle.sts_code.specs.Program.{Program, routine}
+use Rattle.sts_code.specs.Program.{Program, routine, instr_at}
 use Rattle.sts_code.specs.declared.instr.Instr.{Instr}
 use Rattle.sts_code.specs.declared.instr.Instr.TheVariants.{Case, Forget, Bind, Unbind, OrElse}
 use Rattle.sts_model.specs.declared.event.End.{End}
@@ -12,15 +12,16 @@ use Rattle.sts_model.specs.declared.record.Entry.TheVariants as entry
 use Rattle.sts_model.specs.declared.record.Frame.{Frame}
 use Rattle.sts_model.specs.declared.record.Slot.{Slot}
 use Rattle.sts_model.specs.declared.record.Slot.TheVariants.{Empty, Own, Lent, Sub}
+use Rattle.sts_rules.specs.declared.budget.Budgets.{Budgets}
 use Rattle.sts_rules.specs.declared.typing.Known.{Known}
 use Rattle.sts_rules.specs.declared.typing.Known.TheVariants as known
 use Rattle.sts_rules.specs.declared.typing.SlotKind.{SlotKind}
 use Rattle.sts_rules.specs.declared.typing.SlotKind.TheVariants as kind_of
 use Rattle.sts_rules.specs.declared.typing.TypedEntry.TheVariants as typed
-use Rattle.sts_model.specs.World.{World}
-use Rattle.sts_model.specs.Local.{goes, steps, operand}
+use Rattle.sts_model.specs.World.{World, code}
+use Rattle.sts_model.specs.Local.{local, emptied_slot, stays_in_frame, goes, steps, operand}
 use Rattle.sts_model.specs.Living.{sub_state}
-use Rattle.sts_model.specs.Misuse.{slot}
+use Rattle.sts_model.specs.Misuse.{slot, is_sub, has_wrong_slot, breaks_loop}
 use Rattle.sts_rules.specs.TypeState.{TypeState, kind}
 use Rattle.sts_rules.specs.Causes as cause
 use Rattle.sts_rules.specs.Edges.{follows, moved, known_as, with_known}
@@ -29,11 +30,13 @@ use Rattle.sts_rules.specs.Flow.{Leads}
 use Rattle.laws_runs.proofs.ListLemmas.{at_set}
 use Rattle.std.proofs.lemmas.Bool.{or_parts, not-false}
 use Rattle.laws_runs.proofs.FrameLemmas.{owns-set}
+use Rattle.laws_accepted.specs.Points.{loops_of}
 use Rattle.laws_accepted.specs.Typed.{closes, is_known, FitsEntry, FitsSlot}
+use Rattle.laws_accepted.proofs.Flow.{GoesOn, Positive, goes_to, local_goes}
 use Rattle.laws_accepted.proofs.Zips.{zips-map, zips-drop, both-set}
 use Rattle.laws_accepted.proofs.Same.{Onward, entry-on, slot-on}
 use Rattle.laws_accepted.proofs.Stands.{Stands, Lands, lands-forward, not_closing, onward-slots}
-use Rattle.laws_accepted.proofs.LocalRows.{height-moved}
+use Rattle.laws_accepted.proofs.LocalRows.{height-moved, lands-local}
 
 -- ---- what a slot of a kind holds
 
@@ -149,6 +152,22 @@ lands-forget p w f h s st =
 
     on : Onward p f (record (steps f 0 []) { slots = slice_set f.slots h Empty })
     on = record { function = refl; own = own-set f.slots h Empty never; still = not_closing p f (Forget h) st.at (λ y. refl) }
+
+-- ---- all instructions that stay in the frame
+
+pub lands-in_frame : (p : Program) (w : World) (f : Frame) (i : Instr) (s : TypeState) → Stands p w f i s → stays_in_frame i ≡ true → Lands p w f (local (code p f) i f)
+lands-in_frame p w f (Forget h) s st is = lands-forget p w f h s st
+lands-in_frame p w f i s st is = lands-local p w f i s st is
+
+-- the control path goes on, too
+pub in_frame_goes : (p : Program) (budgets : List Budgets) (f : Frame) (i : Instr) → stays_in_frame i ≡ true → instr_at (code p f) f.pc ≡ i → breaks_loop p f i ≡ false → Positive (loops_of f.loops) → GoesOn p budgets f (local (code p f) i f)
+in_frame_goes p budgets f (Forget h) is at fine some = goes_to p budgets f (Forget h) ((f.pc + 1) ∷ []) (f.pc + 1) at refl (inl refl)
+in_frame_goes p budgets f i is at fine some = local_goes p budgets f i is at fine some
+
+-- a slot that is emptied held a subtask
+pub emptied-sub : (f : Frame) (i : Instr) (h : ℕ) → has_wrong_slot f i ≡ false → emptied_slot i ≡ Some h → is_sub (slot f h) ≡ true
+emptied-sub f (Forget x) h fine e = let same : x ≡ h = cc in rw (← same) (not-false (is_sub (slot f x)) (or_parts (not (is_sub (slot f x))) false fine).0)
+emptied-sub f _ h fine e = cc
 
 -- ---- bindings
 

@@ -38,10 +38,11 @@ use Rattle.sts_rules.specs.Budget.{entries_of}
 use Rattle.laws_runs.proofs.ListLemmas.{at_set}
 use Rattle.laws_runs.proofs.SoundLemmas.{Sound}
 use Rattle.laws_runs.proofs.EntryLemmas.{times_in}
+use Rattle.laws_runs.proofs.FrameLemmas.{Leaves}
 use Rattle.laws_accepted.specs.Points.{Opens, Zips, loops_of, skeleton_of}
 use Rattle.laws_accepted.specs.Costs.{Peak, subtask_shares, share_in}
 use Rattle.laws_accepted.proofs.Sums.{sum-none}
-use Rattle.laws_accepted.proofs.Flow.{GoesOn, goes_to, Same}
+use Rattle.laws_accepted.proofs.Flow.{GoesOn, goes_to}
 use Rattle.laws_accepted.proofs.Points.{zips_map, not_in_rest}
 use Rattle.laws_accepted.proofs.Turns.{Turned, alike-scope, turned-frame}
 use Rattle.laws_accepted.proofs.Good.{Entering}
@@ -58,7 +59,7 @@ pub record Moves (p : Program) (budgets : List Budgets) (w v : World) (t : ℕ) 
 
 -- ---- instructions that leave entries and slots alone
 
-pub entering_same : (budgets : List Budgets) (tasks : List Task) (f g : Frame) (i : Instr) → Same f g → ((os : List OpenEntry) → entries_of i os ≡ os) → Entering budgets tasks f i g
+pub entering_same : (budgets : List Budgets) (tasks : List Task) (f g : Frame) (i : Instr) → Leaves f g None → ((os : List OpenEntry) → entries_of i os ≡ os) → Entering budgets tasks f i g
 entering_same budgets tasks f g i h keeps os z sl = (
   subst (λ es. Zips budgets (take f.function budgets) tasks (slot g) es (entries_of i os)) (sym h.entries)
       (subst (λ qs. Zips budgets (take f.function budgets) tasks (slot g) f.entries qs) (sym (keeps os))
@@ -66,7 +67,7 @@ entering_same budgets tasks f g i h keeps os z sl = (
   λ x s e. subst (λ qs. Opens x qs) (sym (keeps os)) (sl x s (ap (λ xs. slice_index_or xs x slots.Empty) (sym h.slots) ∙ e)),
 )
 
-pub moves_same : (p : Program) (budgets : List Budgets) (w v : World) (t : ℕ) (i : Instr) (g : Frame) → Turned w v t (record (task_at w t) { frame = g }) → GoesOn p budgets (task_at w t).frame g → Same (task_at w t).frame g → ((os : List OpenEntry) → entries_of i os ≡ os) → Moves p budgets w v t i
+pub moves_same : (p : Program) (budgets : List Budgets) (w v : World) (t : ℕ) (i : Instr) (g : Frame) → Turned w v t (record (task_at w t) { frame = g }) → GoesOn p budgets (task_at w t).frame g → Leaves (task_at w t).frame g None → ((os : List OpenEntry) → entries_of i os ≡ os) → Moves p budgets w v t i
 moves_same p budgets w v t i g turned goes_on h keeps =
     record {
       frame = g;
@@ -119,14 +120,14 @@ failed_can (Until q) es n c e = cc
 failed_can _ es n c e = refl
 
 module _ (p : Program) (budgets : List Budgets) (w : World) (t x : ℕ) (failed timeout : Option ℕ) (interrupted : ℕ) (born : t < length w.tasks) (at : instr_at (code p (task_at w t).frame) (task_at w t).frame.pc ≡ Join x failed timeout interrupted) where
-  moves_join_to : (v : World) (g : Frame) → Turned w v t (record (task_at w t) { frame = g }) → Among (Targets failed timeout interrupted ((task_at w t).frame.pc + 1)) g.pc → g.loops ≡ (task_at w t).frame.loops → Same (task_at w t).frame g → Moves p budgets w v t (Join x failed timeout interrupted)
+  moves_join_to : (v : World) (g : Frame) → Turned w v t (record (task_at w t) { frame = g }) → Among (Targets failed timeout interrupted ((task_at w t).frame.pc + 1)) g.pc → g.loops ≡ (task_at w t).frame.loops → Leaves (task_at w t).frame g None → Moves p budgets w v t (Join x failed timeout interrupted)
   moves_join_to v g turned among loops h =
       moves_same p budgets w v t (Join x failed timeout interrupted) g turned
       (subst (λ ls. Follows (skeleton_of p budgets (task_at w t).frame) (task_at w t).frame.pc (loops_of (task_at w t).frame.loops) g.pc (loops_of ls)) (sym loops)
       (goes_to p budgets (task_at w t).frame (Join x failed timeout interrupted) (Targets failed timeout interrupted ((task_at w t).frame.pc + 1)) g.pc at refl among))
       h (λ os. refl)
 
-  moves_joined : (s : ℕ) (g : Frame) → Among (Targets failed timeout interrupted ((task_at w t).frame.pc + 1)) g.pc → g.loops ≡ (task_at w t).frame.loops → Same (task_at w t).frame g → Moves p budgets w (joined w t s g) t (Join x failed timeout interrupted)
+  moves_joined : (s : ℕ) (g : Frame) → Among (Targets failed timeout interrupted ((task_at w t).frame.pc + 1)) g.pc → g.loops ≡ (task_at w t).frame.loops → Leaves (task_at w t).frame g None → Moves p budgets w (joined w t s g) t (Join x failed timeout interrupted)
   moves_joined s g among loops h =
       moves_join_to (joined w t s g) g (turned-frame w (with_phase w s Joined) t g (task_at w t).flag born (alike-scope w s (record (scope_at w s) { phase = Joined }))) among loops h
 

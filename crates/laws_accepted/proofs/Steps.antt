@@ -11,7 +11,7 @@ use Rattle.sts_code.specs.Checks.{program_fault}
 use Rattle.sts_code.specs.Program.{Program, routine}
 use Rattle.sts_code.specs.declared.instr.Instr.{Instr}
 use Rattle.sts_code.specs.declared.instr.Instr.TheVariants.{Open, Fork, Join, Close, Cancelled}
-use Rattle.sts_code.specs.declared.instr.Instr.TheVariants.{Case, Get, Except, Tally, Total, Forget}
+use Rattle.sts_code.specs.declared.instr.Instr.TheVariants.{Case, Get, Except, Tally, Total}
 use Rattle.sts_code.specs.declared.instr.Instr.TheVariants.{Bind, Unbind, Read, Bound, OrElse}
 use Rattle.sts_code.specs.declared.instr.Instr.TheVariants.{Interrupted, Ret, Fail}
 use Rattle.sts_code.specs.declared.instr.Joiner.{Joiner}
@@ -40,8 +40,7 @@ use Rattle.laws_accepted.proofs.Others.{knows-later}
 use Rattle.laws_accepted.proofs.Stands.{Stands, Lands, lands-same}
 use Rattle.laws_accepted.proofs.Keys.{covers-own}
 use Rattle.laws_accepted.proofs.Checked.{instr_checked}
-use Rattle.laws_accepted.proofs.LocalRows.{lands-local}
-use Rattle.laws_accepted.proofs.FrameRows.{lands-reading, lands-case, lands-forget, lands-bind}
+use Rattle.laws_accepted.proofs.FrameRows.{lands-reading, lands-case, lands-in_frame, lands-bind}
 use Rattle.laws_accepted.proofs.FrameRows.{lands-unbind, lands-orelse}
 use Rattle.laws_accepted.proofs.BirthRows.{lands-open, lands-fork}
 use Rattle.laws_accepted.proofs.JoinRows.{Landed, lands-join, at-join}
@@ -152,10 +151,9 @@ landed p w t (Read k) s checked h alive fine st bound e later = framed p w w t _
 landed p w t (Bound k) s checked h alive fine st bound e later = framed p w w t _ (task_at w t).flag (born_alive w t alive) (lands-reading p w (task_at w t).frame (Bound k) s _ st (λ y. refl) (inl (refl, refl)))
 landed p w t Interrupted s checked h alive fine st bound e later = framed p w w t _ false (born_alive w t alive) (lands-reading p w (task_at w t).frame Interrupted s _ st (λ y. refl) (inl (refl, refl)))
 landed p w t (Case x success failed) s checked h alive fine st bound e later = framed p w w t _ (task_at w t).flag (born_alive w t alive) (lands-case p w (task_at w t).frame x success failed s st (sub_state w (named (slot (task_at w t).frame x))) refl)
-landed p w t (Forget x) s checked h alive fine st bound e later = framed p w w t _ (task_at w t).flag (born_alive w t alive) (lands-forget p w (task_at w t).frame x s st)
 landed p w t (Bind k) s checked h alive fine st bound e later = framed p w w t _ (task_at w t).flag (born_alive w t alive) (lands-bind p w (task_at w t).frame k s st)
 landed p w t Unbind s checked h alive fine st bound e later = framed p w w t _ (task_at w t).flag (born_alive w t alive) (lands-unbind p w (task_at w t).frame s st)
 landed p w t (OrElse k) s checked h alive fine st bound e later = framed p w w t _ (task_at w t).flag (born_alive w t alive) (lands-orelse p w (task_at w t).frame k s _ st)
 landed p w t Ret s checked h alive fine st bound e later = cc
 landed p w t Fail s checked h alive fine st bound e later = cc
-landed p w t i s checked h alive fine st bound e later = framed p w w t (local (code p (task_at w t).frame) i (task_at w t).frame) (task_at w t).flag (born_alive w t alive) (lands-local p w (task_at w t).frame i s st refl)
+landed p w t i s checked h alive fine st bound e later = framed p w w t (local (code p (task_at w t).frame) i (task_at w t).frame) (task_at w t).flag (born_alive w t alive) (lands-in_frame p w (task_at w t).frame i s st refl)

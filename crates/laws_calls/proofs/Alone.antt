@@ -6,7 +6,7 @@ use Rattle.std.specs.Prelude.{slice_get, count_by, filter_map, unwrap_or, pos, i
 use Rattle.std.proofs.lemmas.Bool.{and_parts, not-false}
 use Rattle.sts_code.specs.Program.{Program}
 use Rattle.sts_code.specs.declared.instr.Instr.{Instr}
-use Rattle.sts_code.specs.declared.instr.Instr.TheVariants.{Cancelled, Case, Get, Except, Tally, Total, Forget}
+use Rattle.sts_code.specs.declared.instr.Instr.TheVariants.{Cancelled, Case, Get, Except, Tally, Total}
 use Rattle.sts_code.specs.declared.instr.Instr.TheVariants.{Open, Fork, Join, Close, Ret, Fail}
 use Rattle.sts_code.specs.declared.instr.Instr.TheVariants.{Bind, Unbind, Read, Bound, OrElse, Interrupted}
 use Rattle.sts_code.specs.Facts.{is_two}
@@ -23,11 +23,11 @@ use Rattle.sts_model.specs.declared.record.Slot.{Slot}
 use Rattle.sts_model.specs.declared.record.Slot.TheVariants as slots
 use Rattle.sts_model.specs.World.{World, task_at, scope_at, with_frame, instr_at, code}
 use Rattle.sts_model.specs.Local as locals
-use Rattle.sts_model.specs.Local.{is_local, goes, steps, truth, operand}
+use Rattle.sts_model.specs.Local.{emptied_slot, stays_in_frame, goes, steps, truth, operand}
 use Rattle.sts_model.specs.Living.{lives, completion_of, scope_of, parent, sub_state}
 use Rattle.sts_model.specs.Misuse.{slot, is_sub, is_scope, innermost, is_binding, has_succeeded, has_failed, at_sub, is_readable, is_illegal, is_joined, at_own}
 use Rattle.sts_model.specs.Environment.{environment_of, bound_of, read}
-use Rattle.sts_model.specs.Effect.{named, case_target, value_or_zero, tally, total, moved, effect}
+use Rattle.sts_model.specs.Effect.{named, with_slot, case_target, value_or_zero, tally, total, moved, effect}
 use Rattle.sts_model.specs.Joining.{is_success, is_failure, total_of}
 use Rattle.laws_runs.specs.Runs.{Does}
 use Rattle.laws_runs.proofs.BirthLemmas.{born_alive}
@@ -41,8 +41,8 @@ use Rattle.laws_calls.specs.Fitting.{Answers, heard_in, most}
 use Rattle.laws_calls.specs.Held as held
 use Rattle.laws_calls.specs.Tasks.{AllTwo, at_place, HasWay, Part, Seen, Own, bare, births_in, held_at}
 use Rattle.laws_calls.specs.Tasks.{Knowledge, Unseen, ByJoiner, Heard, bindings, May, Asked, Late}
-use Rattle.laws_calls.specs.Steps.{Row, Table, Steps, IsTable, born_by, to, pushes, after_cancel, counted, summed, parts_with, split, told, after_expiry, expired_step, saw_failure, may_decide, may_be_late, is_heard}
-use Rattle.laws_calls.specs.Steps.{local_step, read_step, bound_step, or_else_step, bind_step, unbind_step, forget_step}
+use Rattle.laws_calls.specs.Steps.{Row, Table, Steps, IsTable, born_by, to, alone, with_handle, pushes, after_cancel, counted, summed, parts_with, split, told, after_expiry, expired_step, saw_failure, may_decide, may_be_late, is_heard}
+use Rattle.laws_calls.specs.Steps.{local_step, read_step, bound_step, or_else_step, bind_step, unbind_step}
 use Rattle.laws_calls.specs.Steps.{calm_step, interrupted_step, lent_step, lent_cancelled_step, going_step, cancelled_step, success_step, failure_step}
 use Rattle.laws_calls.specs.Steps.{missed_step, get_step, except_step, tally_step, total_step, only, kept, missed, with_part, with_seen}
 use Rattle.laws_calls.specs.Covers.{PartFits, SeenFits, HeldFits, FrameFits, TaskFits, IsRight, IsTimely, InOrder, subs}
@@ -127,21 +127,27 @@ module _ (p : Program) (outside : Outside) (t : Table) (root : Row) (is : IsTabl
 
   -- ---- frames
 
-  -- another frame with the same entries and slots
-  fits_leaves : (rows : ℕ → Row) (f g : Frame) (own : Own) (next : Frame) → Leaves f g → FrameFits rows w f own → bare g ≡ next → FrameFits rows w g (to own next)
-  fits_leaves rows f g own next same k e =
+  -- the slots, where one may be emptied
+  held_emptied : (rows : ℕ → Row) (f : Frame) (own : Own) (emptied : Option ℕ) → FrameFits rows w f own → AllTwo (HeldFits w (births_in f.entries)) (with_slot f.slots emptied slots.Empty) (with_handle own.held emptied held.Empty)
+  held_emptied rows f own None k = k.held
+  held_emptied rows f own (Some x) k = all_set (HeldFits w (births_in f.entries)) f.slots own.held x slots.Empty held.Empty k.held tt
+
+  -- another frame with the same entries and slots, where a slot may be emptied
+  fits_leaves : (rows : ℕ → Row) (f g : Frame) (own : Own) (next : Frame) (emptied : Option ℕ) → Leaves f g emptied → FrameFits rows w f own → bare g ≡ next → FrameFits rows w g (record own { frame = next; held = with_handle own.held emptied held.Empty })
+  fits_leaves rows f g own next emptied same k e =
       record {
         frame = e;
-        held = subst (λ es. AllTwo (HeldFits w (births_in es)) g.slots own.held) (sym same.entries) (subst (λ (xs : List Slot). AllTwo (HeldFits w (births_in f.entries)) xs own.held) (sym same.slots) k.held);
+        held = subst (λ es. AllTwo (HeldFits w (births_in es)) g.slots (with_handle own.held emptied held.Empty)) (sym same.entries)
+            (subst (λ (xs : List Slot). AllTwo (HeldFits w (births_in f.entries)) xs (with_handle own.held emptied held.Empty)) (sym same.slots) (held_emptied rows f own emptied k));
         scopes = subst (λ es. AllTwo (SeenFits rows w) (births_in es) own.scopes) (sym same.entries) k.scopes;
       }
 
-  leaves_refl : (f : Frame) (to_pc n : ℕ) (pushed : _) → Leaves f (goes f to_pc n pushed)
+  leaves_refl : (f : Frame) (to_pc n : ℕ) (pushed : _) → Leaves f (goes f to_pc n pushed) None
   leaves_refl f to_pc n pushed = record { function = refl; entries = refl; slots = refl }
 
   -- at another place, with another operand
   fits_goes : (rows : ℕ → Row) (f : Frame) (own : Own) (to_pc n : ℕ) (pushed : _) → FrameFits rows w f own → FrameFits rows w (goes f to_pc n pushed) (to own (goes own.frame to_pc n pushed))
-  fits_goes rows f own to_pc n pushed k = fits_leaves rows f (goes f to_pc n pushed) own (goes own.frame to_pc n pushed) (leaves_refl f to_pc n pushed) k (ap (λ (z : Frame). goes z to_pc n pushed) k.frame)
+  fits_goes rows f own to_pc n pushed k = fits_leaves rows f (goes f to_pc n pushed) own (goes own.frame to_pc n pushed) None (leaves_refl f to_pc n pushed) k (ap (λ (z : Frame). goes z to_pc n pushed) k.frame)
 
   pc_same : (f : Frame) (own : Own) → bare f ≡ own.frame → f.pc ≡ own.frame.pc
   pc_same f own e = ap (λ (z : Frame). z.pc) e
@@ -151,7 +157,7 @@ module _ (p : Program) (outside : Outside) (t : Table) (root : Row) (is : IsTabl
 
   -- at the next place
   fits_steps : (rows : ℕ → Row) (f : Frame) (own : Own) (n : ℕ) (pushed : _) → FrameFits rows w f own → FrameFits rows w (steps f n pushed) (to own (steps own.frame n pushed))
-  fits_steps rows f own n pushed k = fits_leaves rows f (steps f n pushed) own (steps own.frame n pushed) (leaves_refl f (f.pc + 1) n pushed) k (ap (λ (z : Frame). steps z n pushed) k.frame)
+  fits_steps rows f own n pushed k = fits_leaves rows f (steps f n pushed) own (steps own.frame n pushed) None (leaves_refl f (f.pc + 1) n pushed) k (ap (λ (z : Frame). steps z n pushed) k.frame)
 
   -- ---- the frame alone
 
@@ -159,12 +165,12 @@ module _ (p : Program) (outside : Outside) (t : Table) (root : Row) (is : IsTabl
     abbrev f : Frame
     f = (task_at w u).frame
 
-    to_local : (i : Instr) → is_local i ≡ true → StepsTo p outside t rows w u own i (locals.local (code p f) i f)
-    to_local i local =
+    to_local : (i : Instr) → stays_in_frame i ≡ true → StepsTo p outside t rows w u own i (locals.local (code p f) i f)
+    to_local i stays =
         record {
-          next = to own (locals.local (code p own.frame) i own.frame);
-          step = local_step local;
-          fits = fits_leaves rows f (locals.local (code p f) i f) own (locals.local (code p own.frame) i own.frame) (leaves-local (code p f) i f) k.fits
+          next = alone p own i;
+          step = local_step stays;
+          fits = fits_leaves rows f (locals.local (code p f) i f) own (locals.local (code p own.frame) i own.frame) (emptied_slot i) (leaves-local (code p f) i f) k.fits
               (bare_local (code p f) i f ∙ ap (λ (z : Frame). locals.local (code p z) i z) k.fits.frame);
         }
 
@@ -213,18 +219,6 @@ module _ (p : Program) (outside : Outside) (t : Table) (root : Row) (is : IsTabl
           };
         }
 
-    to_forget : (x : ℕ) → StepsTo p outside t rows w u own (Forget x) (record (steps f 0 []) { slots = set f.slots x slots.Empty })
-    to_forget x =
-        record {
-          next = record own { frame = steps own.frame 0 []; held = set own.held x held.Empty };
-          step = forget_step;
-          fits = record {
-            frame = ap (λ (z : Frame). steps z 0 []) k.fits.frame;
-            held = all_set (HeldFits w (births_in f.entries)) f.slots own.held x slots.Empty held.Empty k.fits.held tt;
-            scopes = k.fits.scopes;
-          };
-        }
-
     births_unbind : (es : List Entry) → not (innermost is_binding es) ≡ false → births_in (drop 1 es) ≡ births_in es
     births_unbind [] e = refl
     births_unbind (entry.Binding x v ∷ es) e = refl
@@ -251,9 +245,9 @@ module _ (p : Program) (outside : Outside) (t : Table) (root : Row) (is : IsTabl
     apart alive = apart_births f.entries (λ s has. (h.entered u s alive has).once)
 
     -- the same, with another scope at a place
-    fits_seen : lives (task_at w u) ≡ true → (place s : ℕ) (x : Seen) (g : Frame) (next : Frame) → Leaves f g → bare g ≡ next → at_place opened place ≡ Some s → SeenFits rows w s x → FrameFits rows w g (to (with_seen own place x) next)
+    fits_seen : lives (task_at w u) ≡ true → (place s : ℕ) (x : Seen) (g : Frame) (next : Frame) → Leaves f g None → bare g ≡ next → at_place opened place ≡ Some s → SeenFits rows w s x → FrameFits rows w g (to (with_seen own place x) next)
     fits_seen alive place s x g next same e at new =
-        fits_leaves rows f g (with_seen own place x) next same
+        fits_leaves rows f g (with_seen own place x) next None same
         (record { frame = k.fits.frame; held = k.fits.held; scopes = put_seen rows w opened own.scopes place s x k.fits.scopes (apart alive) at new })
         e
 
@@ -327,7 +321,7 @@ module _ (p : Program) (outside : Outside) (t : Table) (root : Row) (is : IsTabl
     state_of x o = ap (λ q. completion_of (parent w q).completions (named (slot f x))) o.inside
 
     -- the same, with another part
-    to_part : lives (task_at w u) ≡ true → (i : Instr) (x : ℕ) (o : OwnSub rows w f own x (named (slot f x))) (part : Part) (g next : Frame) → (is_joined o.seen.phase ≡ false → InOrder o.seen.has_failure (scope_at w o.scope) (subs w o.scope) (set o.seen.parts o.i part)) → Leaves f g → bare g ≡ next
+    to_part : lives (task_at w u) ≡ true → (i : Instr) (x : ℕ) (o : OwnSub rows w f own x (named (slot f x))) (part : Part) (g next : Frame) → (is_joined o.seen.phase ≡ false → InOrder o.seen.has_failure (scope_at w o.scope) (subs w o.scope) (set o.seen.parts o.i part)) → Leaves f g None → bare g ≡ next
         → PartFits rows (alive_in w) (scope_at w o.scope) (named (slot f x)) part
         → Steps p outside (rows u).call own i (to (with_part own o.place o.seen o.i part) next) → StepsTo p outside t rows w u own i g
     to_part alive i x o part g next order same e new step =
@@ -520,12 +514,12 @@ module _ (p : Program) (outside : Outside) (t : Table) (root : Row) (is : IsTabl
         let e = state_of c.rows u own k x o in
         subst (λ q. StepsTo p outside t c.rows w u own i (steps frame 0 (value_or_zero q ∷ []))) (sym e) (reads own k o (subst (λ q. test q ≡ true) e legal))
 
-    give_local : (i : Instr) → is_local i ≡ true → (locals.local (code p frame) i frame ≡ moved p w u frame i) → effect p w u frame i ≡ with_frame w u (moved p w u frame i) → Gives i
-    give_local i local same is2 n flags d =
+    give_local : (i : Instr) → stays_in_frame i ≡ true → (locals.local (code p frame) i frame ≡ moved p w u frame i) → effect p w u frame i ≡ with_frame w u (moved p w u frame i) → Gives i
+    give_local i stays same is2 n flags d =
         let e : effect p w u frame i ≡ with_frame w u (locals.local (code p frame) i frame) = is2 ∙ ap (λ (g : Frame). with_frame w u g) (sym same) in
         subst (λ (v : World). Covers p outside t root v) (sym e)
         (with_next i (locals.local (code p frame) i frame) (subst (λ (v : World). Next w v) e n) (subst (λ (v : World). FlagsHaveCause outside w v) e flags) d
-        (λ owed own k. to_local c.rows u own k i local))
+        (λ owed own k. to_local c.rows u own k i stays))
 
     pub give : (i : Instr) → changes_frame_alone i ≡ true → Gives i
     give (Cancelled x) a n flags d = with_next (Cancelled x) (moved p w u frame (Cancelled x)) n flags d (λ owed own k. to_cancelled c.rows u own k c.timely d.alive owed x d.fine.slots)
@@ -552,7 +546,6 @@ module _ (p : Program) (outside : Outside) (t : Table) (root : Row) (is : IsTabl
     give (OrElse x) a n flags d = with_next (OrElse x) (moved p w u frame (OrElse x)) n flags d (λ owed own k. to_or_else c.rows u own k x)
     give (Bind x) a n flags d = with_next (Bind x) (record (steps frame 1 []) { entries = entry.Binding x (operand frame 0) ∷ frame.entries }) n flags d (λ owed own k. to_bind c.rows u own k x)
     give Unbind a n flags d = with_next Unbind (record (steps frame 0 []) { entries = drop 1 frame.entries }) n flags d (λ owed own k. to_unbind c.rows u own k d.fine.structure)
-    give (Forget x) a n flags d = with_next (Forget x) (record (steps frame 0 []) { slots = set frame.slots x slots.Empty }) n flags d (λ owed own k. to_forget c.rows u own k x)
     give Interrupted a n flags d =
         covers_alone c (effect p w u frame Interrupted) u Interrupted (steps frame 0 (truth (task_at w u).flag ∷ [])) n flags
         (turned_flag w u (steps frame 0 (truth (task_at w u).flag ∷ [])) false (born_alive w u d.alive)) (λ s. refl) d

@@ -8,7 +8,7 @@ use Rattle.sts_model.specs.World.{World}
 use Rattle.laws_calls.specs.Outside.{Outside}
 use Rattle.laws_calls.specs.Tasks.{Call, Own}
 use Rattle.laws_calls.specs.Steps.{Row, Steps, local_step, read_step, bound_step, or_else_step, bind_step}
-use Rattle.laws_calls.specs.Steps.{unbind_step, forget_step, calm_step, interrupted_step, lent_step, lent_cancelled_step}
+use Rattle.laws_calls.specs.Steps.{unbind_step, calm_step, interrupted_step, lent_step, lent_cancelled_step}
 use Rattle.laws_calls.specs.Steps.{going_step, cancelled_step, expired_step, open_step, unstarted_step, close_step}
 use Rattle.laws_calls.specs.Steps.{attempted_step, timeout_step, by_one_step, by_count_step, heard_step, none_step}
 use Rattle.laws_calls.specs.Steps.{success_step, failure_step, missed_step, get_step, except_step, tally_step, total_step}
@@ -61,13 +61,12 @@ same_births left root w v tasks scopes before =
 
 -- a step leaves the births that are left; `IsTable` takes off those that it makes
 pub step_left : (p : Program) (outside : Outside) (c : Call) (own : Own) (i : Instr) (next : Own) → Steps p outside c own i next → next.left ≡ own.left
-step_left p outside c own i next (local_step same) = refl
+step_left p outside c own i next (local_step stays) = refl
 step_left p outside c own i next read_step = refl
 step_left p outside c own i next bound_step = refl
 step_left p outside c own i next or_else_step = refl
 step_left p outside c own i next bind_step = refl
 step_left p outside c own i next unbind_step = refl
-step_left p outside c own i next forget_step = refl
 step_left p outside c own i next calm_step = refl
 step_left p outside c own i next (interrupted_step may) = refl
 step_left p outside c own i next (lent_step holds) = refl

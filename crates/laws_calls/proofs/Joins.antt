@@ -72,7 +72,7 @@ not_joined a b e (inl same) = subst (λ z. is_joined z ≡ false) same (early a 
     early _ k = refl
 not_joined a b e (inr same) = absurd (no (sym (ap (λ z. not (can_join z)) same) ∙ e))
 
-leaves_answered : (a : Verdict) (f : Frame) (failed : ℕ) → Leaves f (answered a f failed)
+leaves_answered : (a : Verdict) (f : Frame) (failed : ℕ) → Leaves f (answered a f failed) None
 leaves_answered (verdict.Ok None) f failed = record { function = refl; entries = refl; slots = refl }
 leaves_answered (verdict.Ok (Some v)) f failed = record { function = refl; entries = refl; slots = refl }
 leaves_answered (verdict.Failed c) f failed = record { function = refl; entries = refl; slots = refl }
@@ -139,7 +139,7 @@ module _ (p : Program) (outside : Outside) (t : Table) (root : Row) (is : IsTabl
         (all_map (PartFits rows (alive_in w) z) (PartFits rows (alive_in v) z) (subs w s) y.parts
         (λ i part at e. part_same w v h nx rows rows z i part (sub_born w s i at) refl e) k.parts)))
 
-    fits_rescoped : (rows : ℕ → Row) (own : Own) → TaskFits outside rows w u own → (o : OwnScope rows w f own x s) (y : Seen) (next : Frame) → Leaves f g → bare g ≡ next
+    fits_rescoped : (rows : ℕ → Row) (own : Own) → TaskFits outside rows w u own → (o : OwnScope rows w f own x s) (y : Seen) (next : Frame) → Leaves f g None → bare g ≡ next
         → ScopeFits rows (alive_in w) z (subs w s) y → FrameFits rows v g (record (with_seen own o.place y) { frame = next })
     fits_rescoped rows own k o y next same e new =
         record {

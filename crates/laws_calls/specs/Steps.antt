@@ -10,7 +10,7 @@ use Rattle.sts_code.specs.Facts.{can_fail, is_until}
 use Rattle.sts_code.specs.Program.{Program, routine}
 use Rattle.sts_code.specs.declared.instr.Instr.{Instr}
 use Rattle.sts_code.specs.declared.instr.Instr.TheVariants.{Open, Fork, Join, Close, Cancelled}
-use Rattle.sts_code.specs.declared.instr.Instr.TheVariants.{Case, Get, Except, Tally, Total, Forget}
+use Rattle.sts_code.specs.declared.instr.Instr.TheVariants.{Case, Get, Except, Tally, Total}
 use Rattle.sts_code.specs.declared.instr.Instr.TheVariants.{Bind, Unbind, Read, Bound, OrElse}
 use Rattle.sts_code.specs.declared.instr.Instr.TheVariants.{Interrupted, Ret, Fail}
 use Rattle.sts_code.specs.declared.instr.Joiner.{Joiner}
@@ -25,7 +25,7 @@ use Rattle.sts_model.specs.declared.record.Entry.TheVariants as entry
 use Rattle.sts_model.specs.declared.record.Frame.{Frame}
 use Rattle.sts_model.specs.World.{code, instr_at}
 use Rattle.sts_model.specs.Local as local
-use Rattle.sts_model.specs.Local.{is_local, operand, goes, steps, truth}
+use Rattle.sts_model.specs.Local.{emptied_slot, stays_in_frame, operand, goes, steps, truth}
 use Rattle.sts_model.specs.Effect.{answered}
 use Rattle.sts_model.specs.Environment.{read}
 use Rattle.sts_model.specs.Joining.{is_success, is_failure, result_of, total_of}
@@ -54,6 +54,19 @@ to own f = record own { frame = f }
 -- at the next place, after it popped n operands and pushed a value
 abbrev pub pushes : Own → ℕ → ℤ → Own
 pushes own n value = to own (steps own.frame n (value ∷ []))
+
+-- the slots, after this one was set, if there is one
+abbrev pub with_handle : List Held → Option ℕ → Held → List Held
+with_handle slots None x = slots
+with_handle slots (Some h) x = slice_set slots h x
+
+-- after an instruction that reads and changes the frame alone, where a slot may be emptied
+abbrev pub alone : Program → Own → Instr → Own
+alone p own i =
+    record own {
+      frame = local.local (code p own.frame) i own.frame;
+      held = with_handle own.held (emptied_slot i) held.Empty;
+    }
 
 -- with another scope at a place
 abbrev pub with_seen : Own → ℕ → Seen → Own
@@ -120,10 +133,6 @@ call_of p own x g =
       args = reverse (take (routine p g).args own.frame.operands);
       environment = x.environment;
     }
-
-abbrev pub with_handle : List Held → Option ℕ → Held → List Held
-with_handle slots None x = slots
-with_handle slots (Some h) x = slice_set slots h x
 
 -- a new part, with these ways; it is not early if a failure was seen before
 abbrev pub new_part : List Way → Seen → Part
@@ -283,8 +292,7 @@ pub record IsRowOf (t : Table) (row : Row) (c : Call) : Type 0 where
 -- from a state of a call by an instruction to another state
 pub data Steps (p : Program) (outside : Outside) (c : Call) (own : Own) : Instr → Own → Type 0 where
   -- the frame alone
-  local_step : {i : Instr} → is_local i ≡ true
-      → Steps p outside c own i (to own (local.local (code p own.frame) i own.frame))
+  local_step : {i : Instr} → stays_in_frame i ≡ true → Steps p outside c own i (alone p own i)
   read_step : {k : ℕ}
       → Steps p outside c own (Read k)
       (pushes own 0 (unwrap_or (read (bindings c own) k) (pos 0)))
@@ -298,8 +306,6 @@ pub data Steps (p : Program) (outside : Outside) (c : Call) (own : Own) : Instr 
   }))
   unbind_step : Steps p outside c own Unbind
       (to own (record (steps own.frame 0 []) { entries = drop 1 own.frame.entries }))
-  forget_step : {h : ℕ} → Steps p outside c own (Forget h)
-      (record own { frame = steps own.frame 0 []; held = slice_set own.held h held.Empty })
   -- whether the task was interrupted
   calm_step : Steps p outside c own Interrupted (pushes own 0 (truth false))
   interrupted_step : may_flag outside ≡ true

@@ -7,7 +7,7 @@ use Rattle.std.specs.Prelude.{filter_map}
 use Rattle.sts_code.specs.Program.{Program, routine}
 use Rattle.sts_code.specs.declared.instr.Instr.{Instr}
 use Rattle.sts_code.specs.declared.instr.Instr.TheVariants.{Open, Fork, Join, Close, Cancelled}
-use Rattle.sts_code.specs.declared.instr.Instr.TheVariants.{Case, Get, Except, Tally, Total, Forget}
+use Rattle.sts_code.specs.declared.instr.Instr.TheVariants.{Case, Get, Except, Tally, Total}
 use Rattle.sts_code.specs.declared.instr.Instr.TheVariants.{Bind, Unbind, Read, Bound, OrElse}
 use Rattle.sts_code.specs.declared.instr.Instr.TheVariants.{Interrupted, Ret, Fail}
 use Rattle.sts_code.specs.declared.instr.Joiner.{Joiner}
@@ -305,7 +305,6 @@ seen-effect p w t (Close x) o alive is =
     let scoped = first_no _ _ (first_no _ _ is.slots) in
     let order : not (innermost (is_entry_of (named (slot f x))) f.entries) ≡ false = sym (at_own-is w (slot f x) (λ n scope. not (innermost (is_entry_of n) f.entries)) (own_slot (slot f x) scoped is.own)) ∙ is.structure in
     seen-close w t (named (slot f x)) o alive (owned w t x o alive scoped is.own) order
-seen-effect p w t (Forget x) o alive is = seen-frame w t _ (born_alive w t alive) refl
 seen-effect p w t (Bind k) o alive is =
     let f : Frame = record (steps (task_at w t).frame 1 []) { entries = entry.Binding k (operand (task_at w t).frame 0) ∷ (task_at w t).frame.entries } in
     seen-task w t f (task_at w t).flag (λ alive. record alive { frame = f; environment = record { key = k; value = operand (task_at w t).frame 0 } ∷ alive.environment }) (born_alive w t alive) refl

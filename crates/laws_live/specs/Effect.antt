@@ -5,7 +5,7 @@ use Rattle.std.specs.Prelude.{not, if◌then◌else◌, slice_set}
 use Rattle.sts_code.specs.Program.{Program, routine}
 use Rattle.sts_code.specs.declared.instr.Instr.{Instr}
 use Rattle.sts_code.specs.declared.instr.Instr.TheVariants.{Open, Fork, Join, Close, Cancelled}
-use Rattle.sts_code.specs.declared.instr.Instr.TheVariants.{Case, Get, Except, Tally, Total, Forget}
+use Rattle.sts_code.specs.declared.instr.Instr.TheVariants.{Case, Get, Except, Tally, Total}
 use Rattle.sts_code.specs.declared.instr.Instr.TheVariants.{Bind, Unbind, Read, Bound, OrElse}
 use Rattle.sts_code.specs.declared.instr.Instr.TheVariants.{Interrupted, Ret, Fail}
 use Rattle.sts_code.specs.declared.instr.Joiner.{Joiner}
@@ -169,10 +169,6 @@ live_state v t = (live_task_at v t).state
 
 -- ---- the task alone
 
-abbrev pub live_forget : Live → ℕ → Frame → ℕ → Live
-live_forget v t f h =
-    with_live_frame v t (record (steps f 0 []) { slots = slice_set f.slots h Empty })
-
 abbrev pub live_bind : Live → ℕ → Frame → ℕ → Live
 live_bind v t f k =
     with_alive v t
@@ -221,7 +217,6 @@ live_effect p v t f (Fork s g h) = live_fork p v t f (named (slot f s)) g h
 live_effect p v t f (Join s failed timeout interrupted) =
     live_join v t f (named (slot f s)) (unwrap_or failed 0) (unwrap_or timeout 0) interrupted
 live_effect p v t f (Close s) = live_close v t f (named (slot f s))
-live_effect p v t f (Forget h) = live_forget v t f h
 live_effect p v t f (Bind k) = live_bind v t f k
 live_effect p v t f Unbind = live_unbind v t f
 live_effect p v t f Interrupted = live_take_flag v t f

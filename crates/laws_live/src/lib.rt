@@ -1,4 +1,4 @@
-//! Laws of the live view, for a machine that forgets closed scopes and is seen as such a view.
+//! Laws of the live view, for a machine that drops closed scopes and is seen as such a view.
 //!
 //! `steps` says that the view follows the machine: the view after an event is the view's own event.
 //! `moves` says which tasks an event leaves alone. For programs that never fault it also says that

@@ -28,7 +28,7 @@ use Rattle.sts_model.specs.declared.record.Slot.TheVariants.{Empty, Own, Lent, S
 use Rattle.sts_model.specs.declared.record.Task.{Task}
 use Rattle.sts_model.specs.World.{World, task_at, scope_at, no_task, fresh_scope, with_task, with_scope, code}
 use Rattle.sts_model.specs.Living.{lives, any_lives, subtask_count, sub_state, ends}
-use Rattle.sts_model.specs.Local.{local, operand, goes, steps, truth, clipped, turns}
+use Rattle.sts_model.specs.Local.{local, emptied_slot, operand, goes, steps, truth, clipped, turns}
 use Rattle.sts_model.specs.Joining.{cancels, result_of}
 use Rattle.sts_model.specs.Cancelling.{cancel}
 use Rattle.sts_model.specs.Environment.{environment_of}
@@ -65,7 +65,11 @@ sub_at_slot n f x b c e =
     let h = or_parts b (not (is_sub (slot f x))) (or_parts (b || not (is_sub (slot f x))) c e).0 in
     ap named (slot_named n f x) ∙ sub_name n (slot f x) (not-false (is_sub (slot f x)) h.1)
 
--- ---- local instructions
+with_slot_named : (n : Names) (xs : List Slot) (h : Option ℕ) (x : Slot) → with_slot (map (named_slot n) xs) h (named_slot n x) ≡ map (named_slot n) (with_slot xs h x)
+with_slot_named n xs None x = refl
+with_slot_named n xs (Some k) x = sym (map_set (named_slot n) xs k x)
+
+-- ---- instructions in the frame
 
 cond_named : (n : Names) (b : Bool) (f g f' g' : Frame) → f' ≡ named_frame n f → g' ≡ named_frame n g → cond b f' g' ≡ named_frame n (cond b f g)
 cond_named n true f g f' g' h k = h
@@ -79,7 +83,7 @@ local_named : (n : Names) (is : List Instr) (f : Frame) (i : Instr) → local is
 local_named n is f (instr.Div to) = cond_named n (int_eq (operand f 0) (pos 0)) (goes f to 2 []) (steps f 2 (int_wrapping_div w64 (operand f 1) (operand f 0) ∷ [])) (goes (named_frame n f) to 2 []) (steps (named_frame n f) 2 (int_wrapping_div w64 (operand f 1) (operand f 0) ∷ [])) refl refl
 local_named n is f (instr.Times k) = cond_named n (clipped k (operand f 0) == 0) (goes f (unwrap_or (match_of is f.pc) 0 + 1) 1 []) (record (steps f 1 []) { loops = record { at = f.pc; left = clipped k (operand f 0) } ∷ f.loops }) (goes (named_frame n f) (unwrap_or (match_of is f.pc) 0 + 1) 1 []) (record (steps (named_frame n f) 1 []) { loops = record { at = f.pc; left = clipped k (operand f 0) } ∷ f.loops }) refl refl
 local_named n is f instr.Next = turns_named n f f.loops
-local_named n is f i = refl
+local_named n is f i = ap (λ (xs : List Slot). record (local is i (named_frame n f)) { slots = xs }) (with_slot_named n f.slots (emptied_slot i) Empty)
 
 -- ---- scopes
 
@@ -100,10 +104,6 @@ alike_open n w v a t f x joiner timed alive =
     (ap (λ (k : ℕ). record (steps g 0 []) { entries = entry.Scope k ∷ g.entries; slots = slice_set g.slots x (Own k) }) same
     ∙ ap (λ (xs : List Slot). record (steps g 0 []) { entries = entry.Scope (n.scopes m) ∷ g.entries; slots = xs }) (sym (map_set (named_slot n) f.slots x (Own m))))
 
-with_slot_named : (n : Names) (xs : List Slot) (h : Option ℕ) (c : ℕ) → with_slot (map (named_slot n) xs) h (Sub (n.tasks c)) ≡ map (named_slot n) (with_slot xs h (Sub c))
-with_slot_named n xs None c = refl
-with_slot_named n xs (Some x) c = sym (map_set (named_slot n) xs x (Sub c))
-
 alike_fork : (p : Program) (n : Names) (w v : World) → IsAlike n w v → (t : ℕ) (f : Frame) (s m : ℕ) (h : Option ℕ) → lives (task_at w t) ≡ true → IsAlike n (fork_task p w t f s m h) (fork_task p v (n.tasks t) (named_frame n f) (n.scopes s) m h)
 unfolding fork_task
 alike_fork p n w v a t f s m h alive =
@@ -117,7 +117,7 @@ alike_fork p n w v a t f s m h alive =
     (forked f (routine p m).args h c) (forked g (routine p m).args h (length v.tasks))
     (ap lives (get_or_append_left w.tasks (x ∷ []) no_task t (born_alive w t alive)) ∙ alive)
     (ap (λ (k : ℕ). forked g (routine p m).args h k) same
-    ∙ ap (λ (xs : List Slot). record (steps g (routine p m).args []) { slots = xs }) (with_slot_named n f.slots h c))
+    ∙ ap (λ (xs : List Slot). record (steps g (routine p m).args []) { slots = xs }) (with_slot_named n f.slots h (Sub c)))
 
 alike_joined : (n : Names) (w v : World) → IsAlike n w v → (t s : ℕ) (f : Frame) → lives (task_at w t) ≡ true → IsAlike n (joined w t s f) (joined v (n.tasks t) (n.scopes s) (named_frame n f))
 alike_joined n w v a t s f alive = alike_frame n (with_phase w s Joined) (with_phase v (n.scopes s) Joined) (alike_phase n w v a s Joined) t f (named_frame n f) alive refl
@@ -264,10 +264,6 @@ alike_effect p n w v a t f (instr.Join s failed timeout interrupted) alive slots
     (alike_join n w v a t f (named (slot f s)) (unwrap_or failed 0) (unwrap_or timeout 0) interrupted alive)
 alike_effect p n w v a t f (instr.Close s) alive slots quiet =
     subst (λ (r : ℕ). IsAlike n (close_scope w t f (named (slot f s))) (close_scope v (n.tasks t) (named_frame n f) r)) (sym (scope_at_slot n f s _ _ slots)) (alike_close n w v a t f (named (slot f s)) alive)
-alike_effect p n w v a t f (instr.Forget h) alive slots quiet =
-    let g = named_frame n f in
-    alike_frame n w v a t (record (steps f 0 []) { slots = slice_set f.slots h Empty }) (record (steps g 0 []) { slots = slice_set g.slots h Empty }) alive
-    (ap (λ (xs : List Slot). record (steps g 0 []) { slots = xs }) (sym (map_set (named_slot n) f.slots h Empty)))
 alike_effect p n w v a t f (instr.Bind k) alive slots quiet = alike_frame n w v a t _ _ alive refl
 alike_effect p n w v a t f instr.Unbind alive slots quiet =
     let g = named_frame n f in

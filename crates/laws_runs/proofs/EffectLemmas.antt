@@ -8,7 +8,6 @@ use Rattle.std.specs.Prelude.{nat_lt, is_none}
 use Rattle.sts_code.specs.Program.{Program}
 use Rattle.sts_code.specs.declared.instr.Instr.{Instr}
 use Rattle.sts_code.specs.declared.instr.Instr.TheVariants.{Open, Fork, Join, Close}
-use Rattle.sts_code.specs.declared.instr.Instr.TheVariants.{Forget}
 use Rattle.sts_code.specs.declared.instr.Instr.TheVariants.{Bind, Unbind}
 use Rattle.sts_code.specs.declared.instr.Instr.TheVariants.{Interrupted, Ret, Fail}
 use Rattle.sts_model.specs.declared.event.End.{End}
@@ -44,7 +43,7 @@ use Rattle.laws_runs.proofs.StillLemmas.{Still, Fits, still-refl, still-trans, s
 use Rattle.laws_runs.proofs.StillLemmas.{still-task, still-frame, still-scope, still-phase}
 use Rattle.laws_runs.proofs.StillLemmas.{still-cancel}
 use Rattle.laws_runs.proofs.FrameLemmas.{fits-refl, fits-leaves, leaves-moved, fits-bind, fits-unbind, fits-close}
-use Rattle.laws_runs.proofs.FrameLemmas.{owns-forget, own_slot, at_own-is}
+use Rattle.laws_runs.proofs.FrameLemmas.{own_slot, at_own-is}
 use Rattle.laws_runs.proofs.SoundLemmas.{Sound, sound-kept}
 
 -- ---- join
@@ -266,9 +265,7 @@ still-effect p w t (Close x) o fine e =
     let mine : slot f x ≡ slots.Own (named (slot f x)) = own_slot (slot f x) (first_no _ _ (first_no _ _ fine.slots)) fine.own in
     let order : not (innermost (is_entry_of (named (slot f x))) f.entries) ≡ false = sym (at_own-is w (slot f x) (λ n scope. not (innermost (is_entry_of n) f.entries)) mine) ∙ fine.structure in
     still-close w t (named (slot f x)) o (owned_slot p w t (Close x) x o mine) order
-still-effect p w t (Forget h) o fine e =
-    still-frame w t _ (record { own = λ i r q. owns-forget (task_at w t).frame.slots h i r q; entries = λ r still q. q })
 still-effect p w t (Bind k) o fine e = still-frame w t _ (fits-bind w (task_at w t).frame k)
 still-effect p w t Unbind o fine e = still-frame w t _ (fits-unbind w (task_at w t).frame fine.structure)
 still-effect p w t Interrupted o fine e = still-task w t _ false (record { own = λ i r q. q; entries = λ r still q. q })
-still-effect p w t i o fine e = still-frame w t _ (fits-leaves w (task_at w t).frame _ (leaves-moved p w t (task_at w t).frame i))
+still-effect p w t i o fine e = still-frame w t _ (fits-leaves w (task_at w t).frame _ _ (leaves-moved p w t (task_at w t).frame i))

@@ -20,7 +20,7 @@ use Rattle.sts_model.specs.declared.record.Frame.{Frame}
 use Rattle.sts_model.specs.declared.record.Loop.{Loop}
 use Rattle.sts_model.specs.declared.record.Scope.{Scope}
 use Rattle.sts_model.specs.World.{World, scope_at, code}
-use Rattle.sts_model.specs.Local.{local, turns, enters, clipped, operand, goes, steps}
+use Rattle.sts_model.specs.Local.{local, emptied_slot, turns, enters, clipped, operand, goes, steps}
 use Rattle.sts_code.specs.Loops.{match_of}
 use Rattle.sts_model.specs.Living.{is_closed}
 use Rattle.sts_model.specs.Misuse.{is_scope, is_lent, is_binding, is_entry_of, innermost, at_own}
@@ -32,31 +32,31 @@ use Rattle.laws_runs.proofs.StillLemmas.{Fits}
 pub fits-refl : (w : World) (f : Frame) → Fits w f f
 fits-refl w f = record { own = λ i s e. e; entries = λ s still e. e }
 
--- the two frames have the same function, entries and slots
-pub record Leaves (f g : Frame) : Type 0 where
+-- the two frames have the same function, entries and slots, except for a slot that is emptied
+pub record Leaves (f g : Frame) (emptied : Option ℕ) : Type 0 where
   pub function : g.function ≡ f.function
   pub entries : g.entries ≡ f.entries
-  pub slots : g.slots ≡ f.slots
+  pub slots : g.slots ≡ with_slot f.slots emptied slots.Empty
 
-leaves-cond : (b : Bool) (f g h : Frame) → Leaves f g → Leaves f h → Leaves f (cond b g h)
+leaves-cond : (b : Bool) (f g h : Frame) → Leaves f g None → Leaves f h None → Leaves f (cond b g h) None
 leaves-cond true f g h x y = x
 leaves-cond false f g h x y = y
 
-leaves-turns : (f : Frame) (ls : List Loop) → Leaves f (turns f ls)
+leaves-turns : (f : Frame) (ls : List Loop) → Leaves f (turns f ls) None
 leaves-turns f [] = record { function = refl; entries = refl; slots = refl }
 leaves-turns f (l ∷ ls) =
     leaves-cond (nat_le l.left 1) f (record (steps f 0 []) { loops = ls }) (record f { pc = l.at + 1; loops = record l { left = l.left - 1 } ∷ ls })
     (record { function = refl; entries = refl; slots = refl })
     (record { function = refl; entries = refl; slots = refl })
 
-leaves-enters : (is : List Instr) (f : Frame) (n : ℕ) → Leaves f (enters is f n)
+leaves-enters : (is : List Instr) (f : Frame) (n : ℕ) → Leaves f (enters is f n) None
 leaves-enters is f n =
     leaves-cond (n == 0) f (goes f (unwrap_or (match_of is f.pc) 0 + 1) 1 []) (record (steps f 1 []) { loops = record { at = f.pc; left = n } ∷ f.loops })
     (record { function = refl; entries = refl; slots = refl })
     (record { function = refl; entries = refl; slots = refl })
 
--- a local instruction leaves the function, the entries and the slots
-pub leaves-local : (is : List Instr) (i : Instr) (f : Frame) → Leaves f (local is i f)
+-- an instruction in the frame leaves the function, the entries, and the slots, except for the one that it empties
+pub leaves-local : (is : List Instr) (i : Instr) (f : Frame) → Leaves f (local is i f) (emptied_slot i)
 leaves-local is (Div to) f =
     leaves-cond (int_eq (operand f 0) (pos 0)) f (goes f to 2 []) (steps f 2 (int_wrapping_div w64 (operand f 1) (operand f 0) ∷ []))
     (record { function = refl; entries = refl; slots = refl })
@@ -66,7 +66,7 @@ leaves-local is Next f = leaves-turns f f.loops
 leaves-local is _ f = record { function = refl; entries = refl; slots = refl }
 
 -- so does an instruction that reads
-pub leaves-moved : (p : Program) (w : World) (t : ℕ) (f : Frame) (i : Instr) → Leaves f (moved p w t f i)
+pub leaves-moved : (p : Program) (w : World) (t : ℕ) (f : Frame) (i : Instr) → Leaves f (moved p w t f i) (emptied_slot i)
 leaves-moved p w t f (Cancelled x) = record { function = refl; entries = refl; slots = refl }
 leaves-moved p w t f (Case x success failed) = record { function = refl; entries = refl; slots = refl }
 leaves-moved p w t f (Get x) = record { function = refl; entries = refl; slots = refl }
@@ -77,10 +77,6 @@ leaves-moved p w t f (Read k) = record { function = refl; entries = refl; slots 
 leaves-moved p w t f (Bound k) = record { function = refl; entries = refl; slots = refl }
 leaves-moved p w t f (OrElse k) = record { function = refl; entries = refl; slots = refl }
 leaves-moved p w t f i = leaves-local (code p f) i f
-
-pub fits-leaves : (w : World) (f g : Frame) → Leaves f g → Fits w f g
-fits-leaves w f g same =
-    record { own = λ j s e. ap (λ (xs : List Slot). get_or xs j slots.Empty) (sym same.slots) ∙ e; entries = λ s still e. subst (λ (es : List Entry). list_any (is_entry_of s) es ≡ true) (sym same.entries) e }
 
 -- ---- slots
 
@@ -97,12 +93,19 @@ owns-cleared w s (x ∷ xs) (suc i) r e = owns-cleared w s xs i r e
 pub owns-set : (xs : List Slot) (h : ℕ) (x : Slot) → ((r : ℕ) → x ≡ slots.Own r → ⊥) → (i r : ℕ) → get_or (set xs h x) i slots.Empty ≡ slots.Own r → get_or xs i slots.Empty ≡ slots.Own r
 owns-set xs h x never i r = at_set (λ (y : Slot). y ≡ slots.Own r → get_or xs i slots.Empty ≡ slots.Own r) xs h i x slots.Empty (λ e q. absurd (never r q)) (λ q. q)
 
-pub owns-forget : (xs : List Slot) (h i r : ℕ) → get_or (set xs h slots.Empty) i slots.Empty ≡ slots.Own r → get_or xs i slots.Empty ≡ slots.Own r
-owns-forget xs h = owns-set xs h slots.Empty (λ r e. cc)
+owns-put : (xs : List Slot) (h : Option ℕ) (x : Slot) → ((r : ℕ) → x ≡ slots.Own r → ⊥) → (i r : ℕ) → get_or (with_slot xs h x) i slots.Empty ≡ slots.Own r → get_or xs i slots.Empty ≡ slots.Own r
+owns-put xs None x never i r e = e
+owns-put xs (Some h) x never i r e = owns-set xs h x never i r e
 
 pub owns-with_slot : (xs : List Slot) (h : Option ℕ) (u i r : ℕ) → get_or (with_slot xs h (slots.Sub u)) i slots.Empty ≡ slots.Own r → get_or xs i slots.Empty ≡ slots.Own r
-owns-with_slot xs None u i r e = e
-owns-with_slot xs (Some h) u i r e = owns-set xs h (slots.Sub u) (λ r e. cc) i r e
+owns-with_slot xs h u = owns-put xs h (slots.Sub u) (λ r e. cc)
+
+pub fits-leaves : (w : World) (f g : Frame) (emptied : Option ℕ) → Leaves f g emptied → Fits w f g
+fits-leaves w f g emptied same =
+    record {
+      own = λ j s e. owns-put f.slots emptied slots.Empty (λ r q. cc) j s (ap (λ (xs : List Slot). get_or xs j slots.Empty) (sym same.slots) ∙ e);
+      entries = λ s still e. subst (λ (es : List Entry). list_any (is_entry_of s) es ≡ true) (sym same.entries) e;
+    }
 
 -- a slot with a scope that isn't lent owns it
 pub own_slot : (x : Slot) → not (is_scope x) ≡ false → is_lent x ≡ false → x ≡ slots.Own (named x)

@@ -7,11 +7,10 @@ use Rattle.std.proofs.Common.{get_or-set_other}
 use Rattle.std.proofs.lemmas.Bool.Decides.{nat_tests}
 use Rattle.std.proofs.lemmas.List.{get_or_append_left}
 use Rattle.std.proofs.Math.Seq.{get_or-append_seam}
-use Rattle.std.specs.Prelude.{is_some, slice_set, reverse, ℤ}
+use Rattle.std.specs.Prelude.{is_some, reverse, ℤ}
 use Rattle.sts_code.specs.Program.{Program, routine}
 use Rattle.sts_code.specs.declared.instr.Instr.{Instr}
 use Rattle.sts_code.specs.declared.instr.Instr.TheVariants.{Open, Fork, Join, Close}
-use Rattle.sts_code.specs.declared.instr.Instr.TheVariants.{Forget}
 use Rattle.sts_code.specs.declared.instr.Instr.TheVariants.{Bind, Unbind}
 use Rattle.sts_code.specs.declared.instr.Instr.TheVariants.{Interrupted, Ret, Fail}
 use Rattle.sts_code.specs.declared.instr.Joiner.{Joiner}
@@ -28,7 +27,7 @@ use Rattle.sts_model.specs.declared.record.Task.{Task}
 use Rattle.sts_model.specs.declared.record.Scope.{Scope}
 use Rattle.sts_model.specs.World.{World, task_at, scope_at, no_task, no_scope, entry_frame}
 use Rattle.sts_model.specs.World.{with_task, with_scope, with_frame, opening}
-use Rattle.sts_model.specs.Local.{operand, goes, steps}
+use Rattle.sts_model.specs.Local.{emptied_slot, operand, goes, steps}
 use Rattle.sts_model.specs.Joining.{cancels, result_of}
 use Rattle.sts_model.specs.Living.{lives, is_in, any_lives, is_closed, ends, subtask_count}
 use Rattle.sts_model.specs.Standing.{stands_in}
@@ -99,11 +98,19 @@ named-task w t x h scope names u i alive =
     })
     (at_set (λ (task : Task). lives task ≡ true → IsNamed w u (slot task.frame i)) w.tasks t u x no_task (λ e a. rw e (names a i)) (h u i) alive)
 
+-- one frame with the same slots, except for a slot that is emptied
+named-emptied : (w : World) (t : ℕ) (f : Frame) (flag : Bool) (emptied : Option ℕ) → Named w → f.slots ≡ with_slot (task_at w t).frame.slots emptied Empty → Named (with_task w t (record (task_at w t) { frame = f; flag = flag }))
+named-emptied w t f flag emptied h same =
+    named-task w t (record (task_at w t) { frame = f; flag = flag }) h refl
+    (λ alive i. subst (λ (l : List Slot). IsNamed w t (get_or l i Empty)) (sym same) (by emptied i (h t i alive)))
+  where
+    by : (o : Option ℕ) (i : ℕ) → IsNamed w t (get_or (task_at w t).frame.slots i Empty) → IsNamed w t (get_or (with_slot (task_at w t).frame.slots o Empty) i Empty)
+    by None i old = old
+    by (Some x) i old = at_set (IsNamed w t) (task_at w t).frame.slots x i Empty Empty (λ e. tt) old
+
 -- one frame with the same slots
 named-frame : (w : World) (t : ℕ) (f : Frame) (flag : Bool) → Named w → f.slots ≡ (task_at w t).frame.slots → Named (with_task w t (record (task_at w t) { frame = f; flag = flag }))
-named-frame w t f flag h same =
-    named-task w t (record (task_at w t) { frame = f; flag = flag }) h refl
-    (λ alive i. subst (λ (l : List Slot). IsNamed w t (get_or l i Empty)) (sym same) (h t i alive))
+named-frame w t f flag h same = named-emptied w t f flag None h same
 
 -- one scope
 named-scope : (w : World) (s : ℕ) (y : Scope) → Named w → y.owner ≡ (scope_at w s).owner → (is_closed (scope_at w s).phase ≡ false → is_closed y.phase ≡ false) → Named (with_scope w s y)
@@ -358,15 +365,12 @@ named-effect p w t (Close x) o h alive is =
     let f : Frame = (task_at w t).frame in
     let mine : slot f x ≡ Own (named (slot f x)) = own_slot (slot f x) (first_no _ _ (first_no _ _ is.slots)) is.own in
     named-close w t (named (slot f x)) o h alive (o.own t x (named (slot f x)) mine).owner
-named-effect p w t (Forget x) o h alive is =
-    named-task w t (record (task_at w t) { frame = record (steps (task_at w t).frame 0 []) { slots = slice_set (task_at w t).frame.slots x Empty } }) h refl
-    (λ a i. at_set (IsNamed w t) (task_at w t).frame.slots x i Empty Empty (λ e. tt) (h t i alive))
 named-effect p w t (Bind k) o h alive is = named-frame w t _ (task_at w t).flag h refl
 named-effect p w t Unbind o h alive is = named-frame w t _ (task_at w t).flag h refl
 named-effect p w t Interrupted o h alive is = named-frame w t _ false h refl
 named-effect p w t Ret o h alive is = named-end w t (task_at w t).frame (Success (operand (task_at w t).frame 0)) h
 named-effect p w t Fail o h alive is = named-end w t (task_at w t).frame (Failed (operand (task_at w t).frame 0)) h
-named-effect p w t i o h alive is = named-frame w t (moved p w t (task_at w t).frame i) (task_at w t).flag h (leaves-moved p w t (task_at w t).frame i).slots
+named-effect p w t i o h alive is = named-emptied w t (moved p w t (task_at w t).frame i) (task_at w t).flag (emptied_slot i) h (leaves-moved p w t (task_at w t).frame i).slots
 
 pub named-interrupt : (w : World) (t : ℕ) → Named w → Named (interrupt w t)
 named-interrupt w t h = named-cond (lives (task_at w t)) _ w (λ e. named-frame w t (task_at w t).frame true h refl) (λ e. h)

@@ -3,8 +3,9 @@ use Rattle.std.proofs.Common.{◌≡◌, ℕ, ◌+◌, inl, inr, List, [], ◌�
 use Rattle.std.proofs.lemmas.List.{length-set, length-map}
 use Rattle.sts_code.specs.Program.{Program, routine, instr_at}
 use Rattle.sts_code.specs.declared.instr.Instr.{Instr}
-use Rattle.sts_code.specs.declared.instr.Instr.TheVariants.{Div, Jmp, Jz, Times, Open, Fork, Join, Close, Case, Forget, Ret, Fail}
+use Rattle.sts_code.specs.declared.instr.Instr.TheVariants.{Div, Jmp, Jz, Times, Open, Fork, Join, Close, Case, Ret, Fail}
 use Rattle.sts_code.specs.Loops.{match_of}
+use Rattle.sts_model.specs.Local.{emptied_slot}
 use Rattle.sts_rules.specs.declared.typing.Cause.{Cause}
 use Rattle.sts_rules.specs.declared.typing.SlotKind.{SlotKind}
 use Rattle.sts_rules.specs.declared.typing.SlotKind.TheVariants.{Empty}
@@ -44,9 +45,9 @@ join_full None (Some t) i a b c f g h = (g, (h, tt))
 join_full (Some s) None i a b c f g h = (f, (h, tt))
 join_full (Some s) (Some t) i a b c f g h = (f, (g, (h, tt)))
 
-fork_full : (h : Option ℕ) (k : SlotKind) (s : TypeState) → IsFull s → IsFull (with_slot h k s)
-fork_full None k s e = e
-fork_full (Some x) k s e = length-set s.slots x k ∙ e
+slot_full : (h : Option ℕ) (k : SlotKind) (s : TypeState) → IsFull s → IsFull (with_slot h k s)
+slot_full None k s e = e
+slot_full (Some x) k s e = length-set s.slots x k ∙ e
 
 follow_full : (p : Program) (code : List Instr) (pc : ℕ) (i : Instr) (s : TypeState) → IsFull s → AreFull (follows p code pc i s)
 follow_full p code pc (Div to) s h = (h, (h, tt))
@@ -54,14 +55,13 @@ follow_full p code pc (Jmp to) s h = (h, tt)
 follow_full p code pc (Jz to) s h = (h, (h, tt))
 follow_full p code pc (Times n) s h = (h, skip_full (moved p (Times n) s) (match_of code pc) h)
 follow_full p code pc (Open x timed j) s h = (length-set s.slots x _ ∙ h, tt)
-follow_full p code pc (Fork x g t) s h = (fork_full t _ (moved p (Fork x g t) s) h, tt)
+follow_full p code pc (Fork x g t) s h = (slot_full t _ (moved p (Fork x g t) s) h, tt)
 follow_full p code pc (Join x failed timeout i) s h = (ok_full x s.slots (is_all_success (joiner_of (scope_in s.entries x))) h, join_full failed timeout i _ _ _ h h h)
 follow_full p code pc (Close x) s h = (length-set (map (λ k. cond (is_sub_of x k) Empty k) s.slots) x Empty ∙ length-map s.slots _ ∙ h, tt)
 follow_full p code pc (Case x a b) s h = (length-set s.slots x _ ∙ h, (length-set s.slots x _ ∙ h, (length-set s.slots x _ ∙ h, tt)))
-follow_full p code pc (Forget x) s h = (length-set s.slots x _ ∙ h, tt)
 follow_full p code pc Ret s h = tt
 follow_full p code pc Fail s h = tt
-follow_full p code pc _ s h = (h, tt)
+follow_full p code pc i s h = (slot_full (emptied_slot i) Empty (moved p i s) h, tt)
 
 followed : (o : Option Cause) (es out : List (ℕ × TypeState)) → or_cause o es ≡ Ok out → es ≡ out
 followed None es out e = cc

@@ -3,7 +3,7 @@
 use Rattle.std.specs.Prelude.{◌≡◌, ℕ, List, [], ◌∷◌, Bool, Option, Some, None, is_some}
 use Rattle.std.specs.Prelude.{if◌then◌else◌}
 use Rattle.sts_code.specs.Program.{Program, routine, instr_at}
-use Rattle.sts_code.specs.Facts.{can_fail, same}
+use Rattle.sts_code.specs.Facts.{owners_slot, subtask_slot, can_fail, same}
 use Rattle.sts_code.specs.declared.profile.Profile.{Profile}
 use Rattle.sts_code.specs.declared.instr.Instr.{Instr}
 use Rattle.sts_code.specs.declared.instr.Instr.TheVariants as i
@@ -48,18 +48,15 @@ no_subtask kind.Own = r.HoldsScope
 no_subtask kind.Lent = r.HoldsScope
 no_subtask _ = r.NoSubtask
 
+-- by the slots of a scope and of a subtask
+abbrev pub held_remedy : TypeState → Option ℕ → Option ℕ → Remedy
+held_remedy s (Some x) subtask = no_scope (kind s x)
+held_remedy s None (Some h) = no_subtask (kind s h)
+held_remedy s None None = r.NoScope
+
 abbrev pub slot_remedy : Instr → TypeState → Remedy
-slot_remedy (i.Case h success failed) s = no_subtask (kind s h)
-slot_remedy (i.Get h) s = no_subtask (kind s h)
-slot_remedy (i.Except h) s = no_subtask (kind s h)
-slot_remedy (i.Forget h) s = no_subtask (kind s h)
-slot_remedy (i.Fork x g h) s = no_scope (kind s x)
-slot_remedy (i.Join x failed timeout interrupted) s = no_scope (kind s x)
-slot_remedy (i.Close x) s = no_scope (kind s x)
 slot_remedy (i.Cancelled x) s = no_scope (kind s x)
-slot_remedy (i.Tally x state) s = no_scope (kind s x)
-slot_remedy (i.Total x) s = no_scope (kind s x)
-slot_remedy _ s = r.NoScope
+slot_remedy instr s = held_remedy s (owners_slot instr) (subtask_slot instr)
 
 -- a slot that should be empty
 abbrev pub not_empty : SlotKind → Remedy

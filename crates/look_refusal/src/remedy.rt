@@ -10,7 +10,7 @@ ghost use Rattle.look_refusal.specs.Remedies as def;
 
 use crate::ways::state_at;
 use std::alloc::{AllocError, Global};
-use sts_code::{Instr, MAX_INSTRUCTIONS, Profile, can_fail, code_of};
+use sts_code::{Instr, MAX_INSTRUCTIONS, Profile, can_fail, code_of, owners_slot, subtask_slot};
 use sts_output::Refusal;
 use sts_rules::{Cause, SlotKind, TypedEntry, TypedPhase, TypedScope};
 use sts_types::TypeState;
@@ -180,18 +180,10 @@ fn no_subtask(kind: SlotKind) -> Remedy
 fn slot_remedy(instr: Instr, state: &TypeState) -> Remedy
     ensures { result ≡ def.slot_remedy instr state.now }
 {
-    match instr {
-        Instr::Case { handle, .. }
-        | Instr::Get(handle)
-        | Instr::Except(handle)
-        | Instr::Forget(handle) => no_subtask(state.kind(handle)),
-        Instr::Fork { slot, .. }
-        | Instr::Join { slot, .. }
-        | Instr::Close(slot)
-        | Instr::Cancelled(slot)
-        | Instr::Tally(slot, _)
-        | Instr::Total(slot) => no_scope(state.kind(slot)),
-        _ => Remedy::NoScope,
+    match (instr, owners_slot(instr), subtask_slot(instr)) {
+        (Instr::Cancelled(slot), _, _) | (_, Some(slot), _) => no_scope(state.kind(slot)),
+        (_, None, Some(handle)) => no_subtask(state.kind(handle)),
+        (_, None, None) => Remedy::NoScope,
     }
 }
 

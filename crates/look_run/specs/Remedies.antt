@@ -4,7 +4,7 @@ use Rattle.std.specs.Prelude.{ℕ, ◌+◌, ◌-◌, List, [], ◌∷◌, length
 use Rattle.std.specs.Prelude.{is_some, is_none, if◌then◌else◌, nat_le, nat_lt}
 use Rattle.std.specs.List.{fold}
 use Rattle.sts_code.specs.Program.{Program}
-use Rattle.sts_code.specs.Facts.{can_fail}
+use Rattle.sts_code.specs.Facts.{owners_slot, subtask_slot, filled_slot, can_fail}
 use Rattle.sts_code.specs.Loops.{match_of}
 use Rattle.sts_code.specs.declared.limits.TheConstants.{MAX_ENTRIES, MAX_OPERANDS}
 use Rattle.sts_code.specs.declared.instr.Instr.{Instr}
@@ -66,24 +66,22 @@ not_empty (held.Own s) = r.FillsScope
 not_empty (held.Lent s) = r.FillsParentScope
 not_empty _ = r.FillsSubtask
 
--- the slots of a `fork`: that of the scope, then that of the subtask
-abbrev pub fork_remedy : Frame → ℕ → Option ℕ → Remedy
-fork_remedy f x None = no_scope (slot f x)
-fork_remedy f x (Some h) = if is_scope (slot f x) then not_empty (slot f h) else no_scope (slot f x)
+-- the slot of a scope, then the slot that is filled, if there is one
+abbrev pub scope_remedy : Frame → ℕ → Option ℕ → Remedy
+scope_remedy f x None = no_scope (slot f x)
+scope_remedy f x (Some h) =
+    if is_scope (slot f x) then not_empty (slot f h) else no_scope (slot f x)
+
+-- by the slots of a scope, of a subtask, and to be filled
+abbrev pub held_remedy : Frame → Option ℕ → Option ℕ → Option ℕ → Remedy
+held_remedy f (Some x) subtask filled = scope_remedy f x filled
+held_remedy f None (Some h) filled = no_subtask (slot f h)
+held_remedy f None None (Some x) = not_empty (slot f x)
+held_remedy f None None None = r.NoScope
 
 abbrev pub slot_remedy : Frame → Instr → Remedy
-slot_remedy f (i.Case h success failed) = no_subtask (slot f h)
-slot_remedy f (i.Get h) = no_subtask (slot f h)
-slot_remedy f (i.Except h) = no_subtask (slot f h)
-slot_remedy f (i.Forget h) = no_subtask (slot f h)
-slot_remedy f (i.Open x timed j) = not_empty (slot f x)
-slot_remedy f (i.Fork x g h) = fork_remedy f x h
-slot_remedy f (i.Join x failed timeout interrupted) = no_scope (slot f x)
-slot_remedy f (i.Close x) = no_scope (slot f x)
 slot_remedy f (i.Cancelled x) = no_scope (slot f x)
-slot_remedy f (i.Tally x state) = no_scope (slot f x)
-slot_remedy f (i.Total x) = no_scope (slot f x)
-slot_remedy f _ = r.NoScope
+slot_remedy f instr = held_remedy f (owners_slot instr) (subtask_slot instr) (filled_slot instr)
 
 -- a `join` that doesn't fit its scope, with a label for failed or not, for timeout or not
 abbrev pub join_remedy : World → Bool → Bool → Slot → Remedy

@@ -8,7 +8,10 @@ ghost use Rattle.sts_model.specs.World as model;
 ghost use Rattle.look_run.specs.Remedies as def;
 
 use look_refusal::{Remedy, label_remedy};
-use sts_code::{Instr, MAX_ENTRIES, MAX_OPERANDS, Profile, Program, can_fail, match_of};
+use sts_code::{
+    Instr, MAX_ENTRIES, MAX_OPERANDS, Profile, Program, can_fail, filled_slot, match_of,
+    owners_slot, subtask_slot,
+};
 use sts_frames::{code, instr_at, slot};
 use sts_model::{Entry, Fault, Frame, Phase, Slot};
 use sts_plain::frame_tests::{breaks_loop, has_wrong_slot, lacks_operands, overflows};
@@ -93,12 +96,12 @@ fn not_empty(held: Slot) -> Remedy
     }
 }
 
-fn fork_remedy(frame: &Frame, scope: u8, handle: Option<u8>) -> Remedy
-    ensures { result ≡ def.fork_remedy frame.now scope handle }
+fn scope_remedy(frame: &Frame, scope: u8, filled: Option<u8>) -> Remedy
+    ensures { result ≡ def.scope_remedy frame.now scope filled }
 {
     let held = slot(frame, scope);
-    match (held, handle) {
-        (Slot::Own(_) | Slot::Lent(_), Some(handle)) => not_empty(slot(frame, handle)),
+    match (held, filled) {
+        (Slot::Own(_) | Slot::Lent(_), Some(filled)) => not_empty(slot(frame, filled)),
         _ => no_scope(held),
     }
 }
@@ -106,23 +109,15 @@ fn fork_remedy(frame: &Frame, scope: u8, handle: Option<u8>) -> Remedy
 fn slot_remedy(frame: &Frame, instr: Instr) -> Remedy
     ensures { result ≡ def.slot_remedy frame.now instr }
 {
-    match instr {
-        Instr::Case { handle, .. }
-        | Instr::Get(handle)
-        | Instr::Except(handle)
-        | Instr::Forget(handle) => no_subtask(slot(frame, handle)),
-        Instr::Open { slot: x, .. } => not_empty(slot(frame, x)),
-        Instr::Fork {
-            slot: x,
-            handle,
-            ..
-        } => fork_remedy(frame, x, handle),
-        Instr::Join { slot: x, .. }
-        | Instr::Close(x)
-        | Instr::Cancelled(x)
-        | Instr::Tally(x, _)
-        | Instr::Total(x) => no_scope(slot(frame, x)),
-        _ => Remedy::NoScope,
+    let owners = owners_slot(instr);
+    let subtask = subtask_slot(instr);
+    let filled = filled_slot(instr);
+    match (instr, owners, subtask, filled) {
+        (Instr::Cancelled(x), _, _, _) => no_scope(slot(frame, x)),
+        (_, Some(x), _, filled) => scope_remedy(frame, x, filled),
+        (_, None, Some(handle), _) => no_subtask(slot(frame, handle)),
+        (_, None, None, Some(x)) => not_empty(slot(frame, x)),
+        (_, None, None, None) => Remedy::NoScope,
     }
 }
 

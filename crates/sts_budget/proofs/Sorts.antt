@@ -2,29 +2,25 @@
 -- instruction.
 use Rattle.std.proofs.Common.{◌≡◌, ℕ, ◌+◌, ◌-◌, ◌⊎◌, inl, inr, List, [], ◌∷◌, ◌++◌, drop, map, true}
 use Rattle.std.proofs.Common.{false, cond, ◌==◌, Option, Some, None, refl, sym, ap, ◌∙◌, subst}
-use Rattle.std.proofs.Common.{slice_set, zero, suc, ◌<◌, length, get_or, arith}
+use Rattle.std.proofs.Common.{zero, suc, ◌<◌, length, get_or, arith}
 use Rattle.sts_types.proofs.AmongLemmas.{among_left}
 use Rattle.sts_code.specs.Program.{Program}
 use Rattle.sts_code.specs.declared.instr.Instr.{Instr}
-use Rattle.sts_code.specs.declared.instr.Instr.TheVariants.{Push, Pop, Dup, Swap, Load, Store, Add}
-use Rattle.sts_code.specs.declared.instr.Instr.TheVariants.{Sub, Mul, Lt, Eq, Div, Jmp, Jz, Times}
-use Rattle.sts_code.specs.declared.instr.Instr.TheVariants.{Next, Open, Fork, Join, Close}
-use Rattle.sts_code.specs.declared.instr.Instr.TheVariants.{Cancelled, Case, Get, Except, Tally}
-use Rattle.sts_code.specs.declared.instr.Instr.TheVariants.{Total, Forget, Bind, Unbind, Read}
-use Rattle.sts_code.specs.declared.instr.Instr.TheVariants.{Bound, OrElse, Interrupted, Ret, Fail}
+use Rattle.sts_code.specs.declared.instr.Instr.TheVariants.{Div, Jmp, Jz, Times, Next, Fork, Join}
+use Rattle.sts_code.specs.declared.instr.Instr.TheVariants.{Close, Case, Unbind, Ret, Fail}
 use Rattle.sts_rules.specs.declared.typing.TypedEntry.{TypedEntry}
 use Rattle.sts_rules.specs.declared.typing.TypedEntry.TheVariants.{Scope, Binding}
 use Rattle.sts_rules.specs.declared.typing.TypedPhase.{TypedPhase}
-use Rattle.sts_rules.specs.declared.typing.TypedPhase.TheVariants.{Opened, Attempted, Joined, Late}
+use Rattle.sts_rules.specs.declared.typing.TypedPhase.TheVariants.{Attempted, Joined, Late}
 use Rattle.sts_rules.specs.declared.typing.Known.TheVariants.{Unknown, Success, Failed}
 use Rattle.sts_rules.specs.declared.typing.SlotKind.{SlotKind}
-use Rattle.sts_rules.specs.declared.typing.SlotKind.TheVariants.{Empty, Own, Sub}
+use Rattle.sts_rules.specs.declared.typing.SlotKind.TheVariants.{Sub}
 use Rattle.sts_rules.specs.TypeState.{TypeState, scope_in}
 use Rattle.sts_rules.specs.Flow.{Leads}
 use Rattle.sts_rules.specs.Around.{next_place, skipped_to, open_after}
 use Rattle.sts_code.specs.Facts.{goes_straight_on, targets}
 use Rattle.sts_rules.specs.Edges.{follows, moved, with_slot, with_known, with_phase, phase_set}
-use Rattle.sts_rules.specs.Edges.{raised, after_ok, joiner_of, cleared, join_follows}
+use Rattle.sts_rules.specs.Edges.{raised, after_ok, joiner_of, join_follows}
 use Rattle.sts_rules.specs.ControlPaths.{GoesTo, EndsPath, Among}
 use Rattle.sts_rules.specs.Budget.{shape_of}
 use Rattle.sts_budget.specs.Layout.{names_after}
@@ -221,6 +217,10 @@ join_of p code pc x failed timeout interrupted = record {
     back (Some f) (Some t) s q (inr (inr (inr (inl e)))) = (after_ok x (joiner_of (scope_in s.entries x)) s, inl (e, refl))
     back (Some f) (Some t) s q (inr (inr (inr (inr out_of)))) = absurd out_of
 
+-- the typestate at the first place that the instruction leads to
+abbrev next : Program → List Instr → ℕ → Instr → TypeState → TypeState
+next p code pc i s = (get_or (follows p code pc i s) 0 (pc, s)).1
+
 -- which sort of instruction it is
 pub sort : (p : Program) (code : List Instr) (pc : ℕ) (i : Instr) → Sort p code pc i
 sort p code pc (Times n) = is_times n
@@ -232,29 +232,7 @@ sort p code pc (Div to) = goes_on (branch p code pc to (Div to) (λ s. record s 
 sort p code pc (Jz to) = goes_on (branch p code pc to (Jz to) (λ s. moved p (Jz to) s) (λ s. moved p (Jz to) s) refl refl refl (λ hs. refl) (λ s. refl) (λ s. (refl, refl)) (λ s. (refl, refl)))
 sort p code pc (Case h success failed) = goes_on (cases_of p code pc h success failed)
 sort p code pc (Join x failed timeout interrupted) = goes_on (join_of p code pc x failed timeout interrupted)
-sort p code pc (Push k) = goes_on (single p code pc (Push k) (λ s. moved p (Push k) s) refl refl refl (λ hs. refl) (λ s. refl) (λ s. refl) (λ s. refl))
-sort p code pc Pop = goes_on (single p code pc Pop (λ s. moved p Pop s) refl refl refl (λ hs. refl) (λ s. refl) (λ s. refl) (λ s. refl))
-sort p code pc Dup = goes_on (single p code pc Dup (λ s. moved p Dup s) refl refl refl (λ hs. refl) (λ s. refl) (λ s. refl) (λ s. refl))
-sort p code pc Swap = goes_on (single p code pc Swap (λ s. moved p Swap s) refl refl refl (λ hs. refl) (λ s. refl) (λ s. refl) (λ s. refl))
-sort p code pc (Load x) = goes_on (single p code pc (Load x) (λ s. moved p (Load x) s) refl refl refl (λ hs. refl) (λ s. refl) (λ s. refl) (λ s. refl))
-sort p code pc (Store x) = goes_on (single p code pc (Store x) (λ s. moved p (Store x) s) refl refl refl (λ hs. refl) (λ s. refl) (λ s. refl) (λ s. refl))
-sort p code pc Add = goes_on (single p code pc Add (λ s. moved p Add s) refl refl refl (λ hs. refl) (λ s. refl) (λ s. refl) (λ s. refl))
-sort p code pc Sub = goes_on (single p code pc Sub (λ s. moved p Sub s) refl refl refl (λ hs. refl) (λ s. refl) (λ s. refl) (λ s. refl))
-sort p code pc Mul = goes_on (single p code pc Mul (λ s. moved p Mul s) refl refl refl (λ hs. refl) (λ s. refl) (λ s. refl) (λ s. refl))
-sort p code pc Lt = goes_on (single p code pc Lt (λ s. moved p Lt s) refl refl refl (λ hs. refl) (λ s. refl) (λ s. refl) (λ s. refl))
-sort p code pc Eq = goes_on (single p code pc Eq (λ s. moved p Eq s) refl refl refl (λ hs. refl) (λ s. refl) (λ s. refl) (λ s. refl))
-sort p code pc (Cancelled x) = goes_on (single p code pc (Cancelled x) (λ s. moved p (Cancelled x) s) refl refl refl (λ hs. refl) (λ s. refl) (λ s. refl) (λ s. refl))
-sort p code pc (Get x) = goes_on (single p code pc (Get x) (λ s. moved p (Get x) s) refl refl refl (λ hs. refl) (λ s. refl) (λ s. refl) (λ s. refl))
-sort p code pc (Except x) = goes_on (single p code pc (Except x) (λ s. moved p (Except x) s) refl refl refl (λ hs. refl) (λ s. refl) (λ s. refl) (λ s. refl))
-sort p code pc (Tally x k) = goes_on (single p code pc (Tally x k) (λ s. moved p (Tally x k) s) refl refl refl (λ hs. refl) (λ s. refl) (λ s. refl) (λ s. refl))
-sort p code pc (Total x) = goes_on (single p code pc (Total x) (λ s. moved p (Total x) s) refl refl refl (λ hs. refl) (λ s. refl) (λ s. refl) (λ s. refl))
-sort p code pc (Read x) = goes_on (single p code pc (Read x) (λ s. moved p (Read x) s) refl refl refl (λ hs. refl) (λ s. refl) (λ s. refl) (λ s. refl))
-sort p code pc (Bound x) = goes_on (single p code pc (Bound x) (λ s. moved p (Bound x) s) refl refl refl (λ hs. refl) (λ s. refl) (λ s. refl) (λ s. refl))
-sort p code pc (OrElse x) = goes_on (single p code pc (OrElse x) (λ s. moved p (OrElse x) s) refl refl refl (λ hs. refl) (λ s. refl) (λ s. refl) (λ s. refl))
-sort p code pc Interrupted = goes_on (single p code pc Interrupted (λ s. moved p Interrupted s) refl refl refl (λ hs. refl) (λ s. refl) (λ s. refl) (λ s. refl))
-sort p code pc (Open x timed j) = goes_on (single p code pc (Open x timed j) (λ s. record s { entries = Scope (record { slot = x; joiner = j; timed = timed; phase = Opened }) ∷ s.entries; slots = slice_set s.slots x Own }) refl refl refl (λ hs. refl) (λ s. refl) (λ s. refl) (λ s. refl))
-sort p code pc (Close x) = goes_on (single p code pc (Close x) (λ s. record s { entries = drop 1 s.entries; slots = cleared x s.slots }) refl refl refl (λ hs. refl) (λ s. refl) (λ s. refl) (λ s. names_dropped s.entries))
-sort p code pc (Forget h) = goes_on (single p code pc (Forget h) (λ s. with_slot (Some h) Empty s) refl refl refl (λ hs. refl) (λ s. refl) (λ s. refl) (λ s. refl))
-sort p code pc (Bind k) = goes_on (single p code pc (Bind k) (λ s. record (moved p (Bind k) s) { entries = Binding k ∷ s.entries }) refl refl refl (λ hs. refl) (λ s. refl) (λ s. refl) (λ s. refl))
-sort p code pc Unbind = goes_on (single p code pc Unbind (λ s. record s { entries = drop 1 s.entries }) refl refl refl (λ hs. refl) (λ s. refl) (λ s. refl) (λ s. names_dropped s.entries))
-sort p code pc (Fork x g h) = goes_on (single p code pc (Fork x g h) (λ s. with_slot h (Sub x Unknown) (moved p (Fork x g h) s)) refl refl refl (λ hs. refl) (λ s. refl) (λ s. slot_loops h (Sub x Unknown) (moved p (Fork x g h) s)) (λ s. slot_names h (Sub x Unknown) (moved p (Fork x g h) s)))
+sort p code pc (Close x) = goes_on (single p code pc (Close x) (next p code pc (Close x)) refl refl refl (λ hs. refl) (λ s. refl) (λ s. refl) (λ s. names_dropped s.entries))
+sort p code pc Unbind = goes_on (single p code pc Unbind (next p code pc Unbind) refl refl refl (λ hs. refl) (λ s. refl) (λ s. refl) (λ s. names_dropped s.entries))
+sort p code pc (Fork x g h) = goes_on (single p code pc (Fork x g h) (next p code pc (Fork x g h)) refl refl refl (λ hs. refl) (λ s. refl) (λ s. slot_loops h (Sub x Unknown) (moved p (Fork x g h) s)) (λ s. slot_names h (Sub x Unknown) (moved p (Fork x g h) s)))
+sort p code pc i = goes_on (single p code pc i (next p code pc i) refl refl refl (λ hs. refl) (λ s. refl) (λ s. refl) (λ s. refl))

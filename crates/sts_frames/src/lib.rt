@@ -3,7 +3,7 @@
 //! The records and their stacks are in `sts_model`. This crate has:
 //!
 //! - The first frame of a function, the next instruction, and the slots.
-//! - What each local instruction does.
+//! - What each instruction does that reads and changes the frame alone.
 //! - The change that each other instruction makes to its task's frame.
 //! - A copy of a frame that holds only the used parts.
 #![tactic(auto)]
@@ -21,8 +21,6 @@ pub use copies::{copy_frame, write_frame};
 pub use ends::{case_target, value_or_zero};
 pub use instructions::{code, instr_at};
 pub use local_steps::{local, run_local};
-pub use other_steps::{
-    enter_binding, enter_scope, forget, leave_entry, leave_fork, leave_scope, steps,
-};
+pub use other_steps::{enter_binding, enter_scope, leave_entry, leave_fork, leave_scope, steps};
 pub use slots::{is_empty, named, slot};
-pub use sts_model::is_local;
+pub use sts_model::{emptied_slot, is_local, stays_in_frame};

@@ -1,4 +1,4 @@
-//! What each local instruction does to the frame.
+//! What an instruction does that reads and changes the frame alone.
 
 ghost use Rattle.std.specs.Prelude.{◌≡◌, ◌<◌, ◌+◌, ◌^◌, length, true, false, pos, ◌+ℤ◌, ◌-ℤ◌, ◌*ℤ◌};
 ghost use Rattle.std.specs.Prelude.{slice_index_or, slice_set, ◌≤◌, ◌&&◌, Some, None, is_some};
@@ -10,6 +10,7 @@ ghost use Rattle.sts_model.specs.Local as def;
 ghost use Rattle.sts_model.specs.Misuse.{overflows, breaks_loop};
 ghost use Rattle.sts_model.specs.World as world;
 
+use crate::other_steps::empties;
 use sts_code::{Instr, LAST_SLOT, Program, match_of};
 use sts_model::{Frame, Loop};
 
@@ -158,11 +159,11 @@ fn done_at(
     Some(pc + 1)
 }
 
-/// Does a local instruction.
+/// Does an instruction that reads and changes the frame alone.
 #[inline(always)]
 pub fn local(frame: &mut Frame, program: &Program, code: &[Instr], instr: Instr)
     requires own_code { code.now ≡ world.code program.now frame.old }
-    requires is_local { def.is_local instr ≡ true }
+    requires stays { def.stays_in_frame instr ≡ true }
     requires room { overflows program.now frame.old instr ≡ false }
     requires more { frame.old.pc + 1 < 2 ^ 32 }
     requires inside { frame.old.pc < length code.now }
@@ -171,8 +172,9 @@ pub fn local(frame: &mut Frame, program: &Program, code: &[Instr], instr: Instr)
     ensures { frame.new ≡ def.local code.now instr frame.old }
 {
     let pc = frame.pc as usize;
-    if let Some(to) = done_at(frame, program, code, pc, &instr) {
-        frame.pc = to as u32;
+    match done_at(frame, program, code, pc, &instr) {
+        Some(to) => frame.pc = to as u32,
+        None => empties(frame, instr),
     }
 }
 

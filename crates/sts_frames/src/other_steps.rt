@@ -1,14 +1,17 @@
 //! The change that an instruction makes to its task's frame if it isn't local. The task goes on.
 
-ghost use Rattle.std.specs.Prelude.{◌≡◌, ◌<◌, ◌+◌, ◌^◌, length, [], ◌∷◌, drop, slice_set};
+ghost use Rattle.std.specs.Prelude.{◌≡◌, ◌<◌, ◌+◌, ◌^◌, length, List, [], ◌∷◌, drop, slice_set};
+ghost use Rattle.std.specs.Prelude.{true, false};
 ghost use Rattle.sts_code.specs.declared.limits.TheConstants.{MAX_ENTRIES};
+ghost use Rattle.sts_code.specs.declared.instr.Instr.{Instr};
 ghost use Rattle.sts_model.specs.Effect.{forked};
 ghost use Rattle.sts_model.specs.Local as def;
 ghost use Rattle.sts_model.specs.declared.record.Entry.TheVariants as entry;
-ghost use Rattle.sts_model.specs.declared.record.Slot.TheVariants.{Empty, Own};
+ghost use Rattle.sts_model.specs.declared.record.Slot.TheVariants.{Own};
 
 use crate::slots::set_slot;
-use sts_model::{Entry, Frame, KeptSlot, Slot};
+use sts_code::Instr;
+use sts_model::{Entry, Frame, KeptSlot, Slot, emptied_slot};
 
 /// Pops `n` operands.
 pub fn steps(frame: &mut Frame, n: usize)
@@ -67,15 +70,17 @@ pub fn leave_scope(frame: &mut Frame, slots: [KeptSlot; 16])
     frame.slots = slots;
 }
 
-/// Empties a slot.
-pub fn forget(frame: &mut Frame, slot: u8)
-    requires { frame.old.pc + 1 < 2 ^ 32 }
-    ensures { frame.new ≡ record (def.steps frame.old 0 []) {
-      slots = slice_set frame.old.slots slot Empty;
-    } }
+/// Empties the slot that the instruction empties, if it empties one.
+pub(crate) fn empties(frame: &mut Frame, instr: Instr)
+    requires more { frame.old.pc + 1 < 2 ^ 32 }
+    requires other { def.is_local instr ≡ false }
+    requires stays { def.stays_in_frame instr ≡ true }
+    ensures { (code : List Instr) → frame.new ≡ def.local code instr frame.old }
 {
-    steps(frame, 0);
-    set_slot(&mut frame.slots, slot, Slot::Empty);
+    if let Some(slot) = emptied_slot(instr) {
+        steps(frame, 0);
+        set_slot(&mut frame.slots, slot, Slot::Empty);
+    }
 }
 
 /// Pops the top operand. From now on a key is bound to it.

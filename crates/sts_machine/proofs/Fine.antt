@@ -5,12 +5,12 @@ use Rattle.std.proofs.lemmas.Bool.{not-false}
 use Rattle.sts_code.specs.Program.{Program}
 use Rattle.sts_code.specs.Facts.{is_await_all}
 use Rattle.sts_code.specs.declared.instr.Instr.{Instr}
-use Rattle.sts_code.specs.declared.instr.Instr.TheVariants.{Open, Fork, Join, Close, Cancelled, Case, Get, Except, Tally, Total, Forget, Bind, Unbind, Read, Bound, OrElse, Interrupted, Ret, Fail}
+use Rattle.sts_code.specs.declared.instr.Instr.TheVariants.{Open, Fork, Join, Close, Cancelled, Case, Get, Except, Tally, Total, Bind, Unbind, Read, Bound, OrElse, Interrupted, Ret, Fail}
 use Rattle.sts_code.specs.declared.instr.Kind.{Kind}
 use Rattle.sts_model.specs.declared.record.Slot.{Slot}
 use Rattle.sts_model.specs.declared.record.Slot.TheVariants.{Own}
 use Rattle.sts_model.specs.declared.record.Frame.{Frame}
-use Rattle.sts_model.specs.Local.{is_local, local}
+use Rattle.sts_model.specs.Local.{stays_in_frame, local}
 use Rattle.sts_model.specs.World.{code}
 use Rattle.sts_model.specs.Misuse.{slot, innermost, is_entry_of}
 use Rattle.sts_model.specs.Effect.{named}
@@ -78,8 +78,8 @@ module _ (p : Program) (v : Live) (t x : ℕ) (lives : lives_in v t ≡ true) (o
   pub total_stands : IsLiveFine p v t (frame_in v t) (Total x) → is_some (scope_in v (scope_at v t x)) ≡ true
   total_stands fine = stands (own_slot (slot (frame_in v t) x) (first_no _ _ (first_no _ _ fine.slots)) fine.own)
 
--- a local instruction
-pub local_effect : (p : Program) (v : Live) (t : ℕ) (f : Frame) (i : Instr) → is_local i ≡ true → live_effect p v t f i ≡ with_live_frame v t (local (code p f) i f)
+-- an instruction that reads and changes the frame alone
+pub local_effect : (p : Program) (v : Live) (t : ℕ) (f : Frame) (i : Instr) → stays_in_frame i ≡ true → live_effect p v t f i ≡ with_live_frame v t (local (code p f) i f)
 local_effect p v t f (Open x timed joiner) e = cc
 local_effect p v t f (Fork x g h) e = cc
 local_effect p v t f (Join x failed timeout interrupted) e = cc
@@ -90,7 +90,6 @@ local_effect p v t f (Get x) e = cc
 local_effect p v t f (Except x) e = cc
 local_effect p v t f (Tally x k) e = cc
 local_effect p v t f (Total x) e = cc
-local_effect p v t f (Forget x) e = cc
 local_effect p v t f (Bind k) e = cc
 local_effect p v t f Unbind e = cc
 local_effect p v t f (Read k) e = cc

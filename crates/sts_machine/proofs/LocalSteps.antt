@@ -12,6 +12,7 @@ use Rattle.sts_model.specs.declared.event.Event.TheVariants as event
 use Rattle.sts_model.specs.declared.event.Stand.TheVariants.{Free}
 use Rattle.sts_model.specs.declared.record.Frame.{Frame}
 use Rattle.sts_model.specs.World.{code, instr_at}
+use Rattle.sts_model.proofs.LocalLemmas.{local_stays}
 use Rattle.sts_model.specs.Local.{is_local, local}
 use Rattle.sts_model.specs.Live.{Live, LiveTask, Alive}
 use Rattle.laws_runs.specs.Runs.{In}
@@ -170,7 +171,7 @@ apply-local p v t f i h =
     ap (λ b. cond b (live_perform p v t (alive_at v t).frame (instr_at p (alive_at v t).frame)) v) (can-local p v t f i h)
     ∙ ap (λ (g : Frame). live_perform p v t g (instr_at p g)) h.frame
     ∙ ap (live_perform p v t f) h.at
-    ∙ local_effect p v t f i h.is_local
+    ∙ local_effect p v t f i (local_stays i h.is_local)
 
 pub step-local : (p : Program) (events : List Event) (v : Live) (n t : ℕ) (f : Frame) (i : Instr) → TurnsAreSeen p → StandsAt p events v n → AtLocal p v t f i → StandsAt p (events ++ event.Step t ∷ []) (with_live_frame v t (local (code p f) i f)) (n + 1)
 step-local p events v n t f i law stands h =

@@ -14,7 +14,7 @@ use Rattle.sts_model.specs.declared.event.Verdict.TheVariants as verdict
 use Rattle.sts_model.specs.declared.record.Frame.{Frame}
 use Rattle.sts_model.specs.World.{code}
 use Rattle.sts_model.specs.Living.{is_in}
-use Rattle.sts_model.specs.Local.{goes, is_local}
+use Rattle.sts_model.specs.Local.{goes, stays_in_frame}
 use Rattle.sts_model.specs.Misuse.{slot, is_binding}
 use Rattle.sts_model.specs.Effect.{named}
 use Rattle.sts_model.specs.Told.{tell, cancels_told, result_told}
@@ -204,7 +204,7 @@ quiet-effect p v t (Times n) e = quiet-frame v t _ (ap (λ es. count_by is_bindi
 quiet-effect p v t Next e = quiet-frame v t _ (ap (λ es. count_by is_binding es) (leaves-local (code p (alive_at v t).frame) Next (alive_at v t).frame).entries)
 quiet-effect p v t i e = quiet-frame v t _ refl
 
-pub local_quiet : (i : Instr) → is_local i ≡ true → is_quiet i ≡ true
+pub local_quiet : (i : Instr) → stays_in_frame i ≡ true → is_quiet i ≡ true
 local_quiet (Open x timed joiner) e = cc
 local_quiet (Fork x g h) e = cc
 local_quiet (Close x) e = cc
@@ -214,7 +214,7 @@ local_quiet Ret e = cc
 local_quiet Fail e = cc
 local_quiet i e = refl
 
-pub local_unwaiting : (i : Instr) → is_local i ≡ true → may_wait i ≡ false
+pub local_unwaiting : (i : Instr) → stays_in_frame i ≡ true → may_wait i ≡ false
 local_unwaiting (Join x failed timeout interrupted) e = cc
 local_unwaiting (Close x) e = cc
 local_unwaiting i e = refl

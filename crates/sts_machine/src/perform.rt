@@ -21,7 +21,7 @@ use crate::effect::effect;
 use crate::stands::{say_stand, say_stand_if_near};
 use laws_live::{effects_move_one, idle_stand_free};
 use sts_code::{Instr, Program};
-use sts_frames::is_local;
+use sts_frames::stays_in_frame;
 use sts_store::Store;
 
 /// May the task be recorded at a scope, before the instruction or after it?
@@ -48,8 +48,8 @@ fn ends_task(instr: &Instr) -> bool
     matches!(*instr, Instr::Ret | Instr::Fail)
 }
 
-/// Does the next instruction of a living task, a local one. Answers whether the task may be at a
-/// scope now.
+/// Does the next instruction of a living task, which reads and changes its frame alone. Answers
+/// whether the task may be at a scope now.
 #[inline(always)]
 fn local_step(store: &mut Store, program: &Program, code: &[Instr], t: u32, instr: &Instr) -> bool
     requires lives { lives_in (live_of store.old) t ≡ true }
@@ -57,7 +57,7 @@ fn local_step(store: &mut Store, program: &Program, code: &[Instr], t: u32, inst
     requires inside { (frame_of store.old t).pc < length code.now }
     requires short { length code.now ≤ MAX_INSTRUCTIONS }
     requires fine { IsLiveFine program.now (live_of store.old) t (frame_of store.old t) instr.now }
-    requires is_local { frames.is_local instr.now ≡ true }
+    requires stays { frames.stays_in_frame instr.now ≡ true }
     ensures live { live_of store.new
         ≡ live_effect program.now (live_of store.old) t (frame_of store.old t) instr.now }
     ensures rest { Changes (live_of store.old) (unseen_of store.old)
@@ -99,7 +99,7 @@ pub(crate) fn perform(
 {
     effects_move_one();
     idle_stand_free();
-    if is_local(*instr) {
+    if stays_in_frame(*instr) {
         let is_near = local_step(store, program, code, t, instr);
         return say_stand_if_near(store, program, t, is_near);
     }

@@ -9,7 +9,7 @@ use Rattle.std.specs.Prelude.{unwrap_or, ◌==◌, ◌||◌, not, if◌then◌el
 use Rattle.sts_code.specs.Program.{Program, routine}
 use Rattle.sts_code.specs.declared.instr.Instr.{Instr}
 use Rattle.sts_code.specs.declared.instr.Instr.TheVariants.{Open, Fork, Join, Close, Cancelled}
-use Rattle.sts_code.specs.declared.instr.Instr.TheVariants.{Case, Get, Except, Tally, Total, Forget}
+use Rattle.sts_code.specs.declared.instr.Instr.TheVariants.{Case, Get, Except, Tally, Total}
 use Rattle.sts_code.specs.declared.instr.Instr.TheVariants.{Bind, Unbind, Read, Bound, OrElse}
 use Rattle.sts_code.specs.declared.instr.Instr.TheVariants.{Interrupted, Ret, Fail}
 use Rattle.sts_code.specs.declared.instr.Joiner.{Joiner}
@@ -184,9 +184,6 @@ value_or_zero (Some (Failed c)) = c
 
 -- ---- the task alone
 
-abbrev pub forget : World → ℕ → Frame → ℕ → World
-forget w t f h = with_frame w t (record (steps f 0 []) { slots = slice_set f.slots h Empty })
-
 abbrev pub bind : World → ℕ → Frame → ℕ → World
 bind w t f k =
     with_frame w t (record (steps f 1 []) { entries = entry.Binding k (operand f 0) ∷ f.entries })
@@ -211,7 +208,7 @@ takes_memory Ret = true
 takes_memory Fail = true
 takes_memory _ = false
 
--- the frame after an instruction that reads what is around it, or only moves
+-- the frame after an instruction that changes the frame alone, and may read what is around it
 abbrev pub moved : Program → World → ℕ → Frame → Instr → Frame
 moved p w t f (Cancelled s) = steps f 0 (truth (scope_at w (named (slot f s))).cancelled ∷ [])
 moved p w t f (Case h success failed) =
@@ -234,7 +231,6 @@ effect p w t f (Fork s g h) = fork_task p w t f (named (slot f s)) g h
 effect p w t f (Join s failed timeout interrupted) =
     join_scope w t f (named (slot f s)) (unwrap_or failed 0) (unwrap_or timeout 0) interrupted
 effect p w t f (Close s) = close_scope w t f (named (slot f s))
-effect p w t f (Forget h) = forget w t f h
 effect p w t f (Bind k) = bind w t f k
 effect p w t f Unbind = unbind w t f
 effect p w t f Interrupted = take_flag w t f

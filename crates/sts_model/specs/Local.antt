@@ -1,17 +1,19 @@
--- Local instructions: they read and change only the frame (this project's own).
+-- Instructions that read and change the frame alone (this project's own). All of them but `forget` are
+-- local: they leave the slots.
 use Rattle.std.specs.Prelude.{ℕ, ◌+◌, ◌-◌, ℤ, pos, negsuc, ◌+ℤ◌, ◌-ℤ◌, ◌*ℤ◌, int_lt, List, [], ◌∷◌}
 use Rattle.std.specs.Prelude.{◌++◌, drop, min, Bool, true, false, Option, nat_le, ◌==◌}
 use Rattle.std.specs.Prelude.{if◌then◌else◌, slice_set, slice_index_or}
-use Rattle.std.specs.Prelude.{unwrap_or}
+use Rattle.std.specs.Prelude.{unwrap_or, is_some, Some, None, ◌||◌}
 use Rattle.std.specs.Int.{int_wrap, int_wrapping_div, w64}
 use Rattle.std.specs.Ordering.{int_eq}
 use Rattle.sts_code.specs.declared.instr.Instr.{Instr}
 use Rattle.sts_code.specs.declared.instr.Instr.TheVariants.{Push, Pop, Dup, Swap, Load, Store, Add}
 use Rattle.sts_code.specs.declared.instr.Instr.TheVariants.{Sub, Mul, Lt, Eq, Div, Jmp, Jz, Times}
-use Rattle.sts_code.specs.declared.instr.Instr.TheVariants.{Next}
+use Rattle.sts_code.specs.declared.instr.Instr.TheVariants.{Next, Forget}
 use Rattle.sts_code.specs.Loops.{match_of}
 use Rattle.sts_model.specs.declared.record.Frame.{Frame}
 use Rattle.sts_model.specs.declared.record.Loop.{Loop}
+use Rattle.sts_model.specs.declared.record.Slot.TheVariants.{Empty}
 
 -- is it a local instruction?
 abbrev pub is_local : Instr → Bool
@@ -32,6 +34,15 @@ is_local (Jz to) = true
 is_local (Times n) = true
 is_local Next = true
 is_local _ = false
+
+-- the slot that the instruction empties, if it empties one
+abbrev pub emptied_slot : Instr → Option ℕ
+emptied_slot (Forget h) = Some h
+emptied_slot i = None
+
+-- does the instruction read and change the frame alone?
+abbrev pub stays_in_frame : Instr → Bool
+stays_in_frame i = is_local i || is_some (emptied_slot i)
 
 -- an operand by its distance from the top
 abbrev pub operand : Frame → ℕ → ℤ
@@ -69,7 +80,7 @@ turns f (l ∷ ls) =
     then record (steps f 0 []) { loops = ls }
     else record f { pc = l.at + 1; loops = record l { left = l.left - 1 } ∷ ls }
 
--- a local instruction
+-- an instruction that reads and changes the frame alone
 abbrev pub local : List Instr → Instr → Frame → Frame
 local code (Push k) f = steps f 0 (k ∷ [])
 local code Pop f = steps f 1 []
@@ -90,4 +101,5 @@ local code (Jmp to) f = goes f to 0 []
 local code (Jz to) f = goes f (if int_eq (operand f 0) (pos 0) then to else f.pc + 1) 1 []
 local code (Times n) f = enters code f (clipped n (operand f 0))
 local code Next f = turns f f.loops
+local code (Forget h) f = record (steps f 0 []) { slots = slice_set f.slots h Empty }
 local code _ f = f

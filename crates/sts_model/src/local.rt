@@ -1,4 +1,4 @@
-//! Which instructions are local.
+//! Which instructions read and change the frame alone.
 
 ghost use Rattle.std.specs.Prelude.{◌≡◌};
 ghost use Rattle.sts_model.specs.Local as def;
@@ -28,4 +28,21 @@ pub fn is_local(instr: Instr) -> bool
             | Instr::Times(_)
             | Instr::Next
     )
+}
+
+/// The slot that the instruction empties, if it empties one.
+pub fn emptied_slot(instr: Instr) -> Option<u8>
+    ensures { result ≡ def.emptied_slot instr }
+{
+    match instr {
+        Instr::Forget(handle) => Some(handle),
+        _ => None,
+    }
+}
+
+/// Does the instruction read and change the frame alone?
+pub fn stays_in_frame(instr: Instr) -> bool
+    ensures { result ≡ def.stays_in_frame instr }
+{
+    is_local(instr) || emptied_slot(instr).is_some()
 }

@@ -1,4 +1,4 @@
-//! A local instruction that may not be one that can be done.
+//! An instruction that reads and changes the frame alone, if it can be done.
 
 ghost use Rattle.std.specs.Prelude.{◌≡◌, true};
 ghost use Rattle.sts_model.specs.Local as locals;
@@ -6,15 +6,19 @@ ghost use Rattle.sts_model.specs.World as world;
 
 use crate::frame_tests::{breaks_loop, overflows};
 use sts_code::{Instr, Program};
-use sts_frames::{code, is_local, local};
+use sts_frames::{code, local, stays_in_frame};
 use sts_model::Frame;
 
-/// Does a local instruction, if it can be done. Returns whether it did.
+/// Does an instruction that reads and changes the frame alone, if it can be done. Returns whether it
+/// did.
 pub fn does_local(frame: &mut Frame, program: &Program, instr: Instr) -> bool
     ensures { result ≡ true
         → frame.new ≡ locals.local (world.code program.now frame.old) instr frame.old }
 {
-    if !is_local(instr) || overflows(program, frame, instr) || breaks_loop(program, frame, instr) {
+    let can_be_done = stays_in_frame(instr)
+        && !overflows(program, frame, instr)
+        && !breaks_loop(program, frame, instr);
+    if !can_be_done {
         return false;
     }
     let code = code(program, frame);

@@ -14,7 +14,7 @@ ghost use Rattle.sts_plain.specs.Next.{IsNext};
 use std::alloc::{AllocError, Global};
 use sts_code::{Instr, Program};
 use sts_frames::{
-    case_target, code, enter_binding, forget, instr_at, is_local, leave_entry, local, named,
+    case_target, code, enter_binding, instr_at, leave_entry, local, named, stays_in_frame,
     value_or_zero,
 };
 use sts_model::End;
@@ -124,7 +124,7 @@ fn change(world: &mut World, program: &Program, t: u32, instr: Instr)
         (def.task_at world.old t).frame instr }
 {
     match instr {
-        _ if is_local(instr) => {
+        _ if stays_in_frame(instr) => {
             let frame = world.living(t);
             let instructions = code(program, frame);
             local(frame, program, instructions, instr);
@@ -174,7 +174,6 @@ fn change(world: &mut World, program: &Program, t: u32, instr: Instr)
             let sum = world.total(s);
             push_value(world, t, 0, sum);
         }
-        Instr::Forget(h) => forget(world.living(t), h),
         Instr::Bind(k) => enter_binding(world.living(t), k),
         Instr::Unbind => leave_entry(world.living(t)),
         Instr::Read(k) => {

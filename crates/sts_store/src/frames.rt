@@ -7,14 +7,14 @@ ghost use Rattle.sts_frames.specs.Locals.{AreSafe, local_at, locals};
 ghost use Rattle.sts_model.specs.Local as frames;
 ghost use Rattle.sts_model.specs.Misuse.{breaks_loop, overflows};
 ghost use Rattle.sts_model.specs.World as world;
-ghost use Rattle.laws_live.specs.Effect.{live_forget, live_take_flag};
+ghost use Rattle.laws_live.specs.Effect.{live_take_flag};
 ghost use Rattle.laws_live.specs.Outside.{live_interrupt};
 ghost use Rattle.laws_live.specs.Reading.{lives_in, with_live_frame};
 ghost use Rattle.sts_store.specs.Parts.{frame_of, live_of, unseen_of};
 
 use crate::store::Store;
 use sts_code::{Instr, Program};
-use sts_frames::{forget, local, run_local};
+use sts_frames::{local, run_local};
 
 /// The instruction at this place, if there is one.
 #[inline(always)]
@@ -25,8 +25,8 @@ fn instr_in(code: &[Instr], pc: u32) -> Option<&Instr>
 }
 
 impl Store {
-    /// Does a local instruction of a task, and answers the next one. `code` is the code of its
-    /// function.
+    /// Does an instruction that reads and changes the task's frame alone, and answers the next one.
+    /// `code` is the code of its function.
     #[inline(always)]
     pub fn local<'a>(
         &mut self,
@@ -37,7 +37,7 @@ impl Store {
     ) -> Option<&'a Instr>
         requires lives { lives_in (live_of self.old) t ≡ true }
         requires own_code { code.now ≡ world.code program.now (frame_of self.old t) }
-        requires is_local { frames.is_local instr ≡ true }
+        requires stays { frames.stays_in_frame instr ≡ true }
         requires room { overflows program.now (frame_of self.old t) instr ≡ false }
         requires more { (frame_of self.old t).pc + 1 < 2 ^ 32 }
         requires inside { (frame_of self.old t).pc < length code.now }
@@ -90,17 +90,6 @@ impl Store {
         ensures unseen { unseen_of self.new ≡ unseen_of self.old }
     {
         self.frames.at(t as usize).frame.goes_with(to, n, value);
-    }
-
-    /// Empties a slot, and goes on.
-    pub fn forget(&mut self, t: u32, slot: u8)
-        requires lives { lives_in (live_of self.old) t ≡ true }
-        requires more { (frame_of self.old t).pc + 1 < 2 ^ 32 }
-        ensures live { live_of self.new ≡ live_forget (live_of self.old) t
-            (frame_of self.old t) slot }
-        ensures unseen { unseen_of self.new ≡ unseen_of self.old }
-    {
-        forget(&mut self.frames.at(t as usize).frame, slot);
     }
 
     /// Pushes the task's flag and clears it.

@@ -29,12 +29,12 @@ say_stand_if_near-requires-clause-others c =
 
 pub say_stand_if_near-requires-clause-free : goal.say_stand_if_near-requires-clause-free
 say_stand_if_near-requires-clause-free c =
-    let unwaiting_now = local_unwaiting c.args.instr.now (sym c.is_local.ensures ∙ c.if-is_local.true) in
+    let unwaiting_now = local_unwaiting c.args.instr.now (sym c.stays_in_frame.ensures ∙ c.if-stays_in_frame.true) in
     c.local_step-is_near.ensures.own ∙ c.requires.standing c.args.t c.requires.lives
     ∙ unwaiting c.args.program.now (live_of c.args.store.now) c.args.t c.args.instr.now c.requires.at unwaiting_now
 
-pub returns-then-is_local-clause-room : goal.returns-then-is_local-clause-room
-returns-then-is_local-clause-room c = λ b h. c.say_stand_if_near.ensures.room b (room_kept _ _ _ _ _ b c.local_step-is_near.ensures.rest h)
+pub returns-then-stays_in_frame-clause-room : goal.returns-then-stays_in_frame-clause-room
+returns-then-stays_in_frame-clause-room c = λ b h. c.say_stand_if_near.ensures.room b (room_kept _ _ _ _ _ b c.local_step-is_near.ensures.rest h)
 
 pub effect-requires-clause-inside : goal.effect-requires-clause-inside
 effect-requires-clause-inside c = rw c.requires.own_code (slice_get_within _ _ _ c.requires.at)
