@@ -68,7 +68,8 @@ fn value_of(frame: &Frame, call: &Call, key: u8) -> Option<i64> {
     inherited(call.environment.as_slice(), key)
 }
 
-/// Does the instruction, if it is local or about scoped values, and returns whether it did.
+/// Does an instruction that a path does at once, and returns whether it did. (An
+/// instruction that empties a slot is none of them, since what is held changes, too.)
 fn does(frame: &mut Frame, program: &Program, call: &Call, instr: Instr) -> bool {
     let next = next_place(frame);
     match instr {

@@ -56,7 +56,7 @@ fn is_free(own: &Own, handle: Option<u8>) -> bool
     }
 }
 
-/// Does the slot hold a subtask that is emptied, if one is?
+/// Does the slot that is emptied hold a subtask? If none is emptied, the answer is yes.
 fn holds_subtask(own: &Own, handle: Option<u8>) -> bool
     ensures { result ≡ def.holds_subtask own.now handle }
 {
@@ -233,7 +233,7 @@ impl<'a> Around<'a> {
         }
     }
 
-    /// An instruction that asks for operands alone.
+    /// An instruction that asks for operands, and for a subtask in a slot that it empties.
     fn alone(&self, instr: Instr) -> Result<(), Stop>
         ensures { OnOk result (Allows self.now instr) }
     {

@@ -291,7 +291,7 @@ pub record IsRowOf (t : Table) (row : Row) (c : Call) : Type 0 where
 
 -- from a state of a call by an instruction to another state
 pub data Steps (p : Program) (outside : Outside) (c : Call) (own : Own) : Instr → Own → Type 0 where
-  -- the frame alone
+  -- the frame, and a slot that is emptied
   local_step : {i : Instr} → stays_in_frame i ≡ true → Steps p outside c own i (alone p own i)
   read_step : {k : ℕ}
       → Steps p outside c own (Read k)

@@ -196,7 +196,7 @@ live_read v t k = read (alive_at v t).environment k
 
 -- ---- an instruction
 
--- the frame after an instruction that reads what is around it, or only moves
+-- the frame after an instruction that changes the frame alone, and may read what is around it
 abbrev pub live_moved : Program → Live → ℕ → Frame → Instr → Frame
 live_moved p v t f (Cancelled s) =
     steps f 0 (truth (live_scope_at v (named (slot f s))).cancelled ∷ [])

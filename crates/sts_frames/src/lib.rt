@@ -3,7 +3,7 @@
 //! The records and their stacks are in `sts_model`. This crate has:
 //!
 //! - The first frame of a function, the next instruction, and the slots.
-//! - What each instruction does that reads and changes the frame alone.
+//! - The instructions that stay in the frame.
 //! - The change that each other instruction makes to its task's frame.
 //! - A copy of a frame that holds only the used parts.
 #![tactic(auto)]

@@ -1,4 +1,4 @@
-//! What an instruction does that reads and changes the frame alone.
+//! The instructions that stay in the frame.
 
 ghost use Rattle.std.specs.Prelude.{◌≡◌, ◌<◌, ◌+◌, ◌^◌, length, true, false, pos, ◌+ℤ◌, ◌-ℤ◌, ◌*ℤ◌};
 ghost use Rattle.std.specs.Prelude.{slice_index_or, slice_set, ◌≤◌, ◌&&◌, Some, None, is_some};
@@ -159,7 +159,7 @@ fn done_at(
     Some(pc + 1)
 }
 
-/// Does an instruction that reads and changes the frame alone.
+/// Does an instruction that stays in the frame.
 #[inline(always)]
 pub fn local(frame: &mut Frame, program: &Program, code: &[Instr], instr: Instr)
     requires own_code { code.now ≡ world.code program.now frame.old }

@@ -78,7 +78,7 @@ module _ (p : Program) (v : Live) (t x : ℕ) (lives : lives_in v t ≡ true) (o
   pub total_stands : IsLiveFine p v t (frame_in v t) (Total x) → is_some (scope_in v (scope_at v t x)) ≡ true
   total_stands fine = stands (own_slot (slot (frame_in v t) x) (first_no _ _ (first_no _ _ fine.slots)) fine.own)
 
--- an instruction that reads and changes the frame alone
+-- an instruction that stays in the frame
 pub local_effect : (p : Program) (v : Live) (t : ℕ) (f : Frame) (i : Instr) → stays_in_frame i ≡ true → live_effect p v t f i ≡ with_live_frame v t (local (code p f) i f)
 local_effect p v t f (Open x timed joiner) e = cc
 local_effect p v t f (Fork x g h) e = cc

@@ -18,8 +18,8 @@ use sts_code::{Instr, Program};
 use sts_model::End;
 use sts_store::Store;
 
-/// Does the next instruction of a living task, which reads or changes more than its frame. It must be
-/// no misuse, and there must be room for it.
+/// Does the next instruction of a living task, which doesn't stay in the frame. It must be no misuse,
+/// and there must be room for it.
 pub(crate) fn effect(store: &mut Store, program: &Program, code: &[Instr], t: u32, instr: &Instr)
     requires lives { lives_in (live_of store.old) t ≡ true }
     requires own_code { code.now ≡ world.code program.now (frame_of store.old t) }

@@ -48,8 +48,8 @@ fn ends_task(instr: &Instr) -> bool
     matches!(*instr, Instr::Ret | Instr::Fail)
 }
 
-/// Does the next instruction of a living task, which reads and changes its frame alone. Answers
-/// whether the task may be at a scope now.
+/// Does the next instruction of a living task, which stays in the frame. Answers whether the task may
+/// be at a scope now.
 #[inline(always)]
 fn local_step(store: &mut Store, program: &Program, code: &[Instr], t: u32, instr: &Instr) -> bool
     requires lives { lives_in (live_of store.old) t ≡ true }

@@ -1,5 +1,5 @@
--- Instructions that read and change the frame alone (this project's own). All of them but `forget` are
--- local: they leave the slots.
+-- Instructions that read and change their frame alone, and leave its entries (this project's own).
+-- All of them but `forget` are local: they leave the slots, too.
 use Rattle.std.specs.Prelude.{ℕ, ◌+◌, ◌-◌, ℤ, pos, negsuc, ◌+ℤ◌, ◌-ℤ◌, ◌*ℤ◌, int_lt, List, [], ◌∷◌}
 use Rattle.std.specs.Prelude.{◌++◌, drop, min, Bool, true, false, Option, nat_le, ◌==◌}
 use Rattle.std.specs.Prelude.{if◌then◌else◌, slice_set, slice_index_or}
@@ -35,12 +35,12 @@ is_local (Times n) = true
 is_local Next = true
 is_local _ = false
 
--- the slot that the instruction empties, if it empties one
+-- the slot that such an instruction empties, if it empties one (`close` changes a scope, too)
 abbrev pub emptied_slot : Instr → Option ℕ
 emptied_slot (Forget h) = Some h
 emptied_slot i = None
 
--- does the instruction read and change the frame alone?
+-- does the instruction read and change its frame alone, and leave its entries?
 abbrev pub stays_in_frame : Instr → Bool
 stays_in_frame i = is_local i || is_some (emptied_slot i)
 
@@ -80,7 +80,7 @@ turns f (l ∷ ls) =
     then record (steps f 0 []) { loops = ls }
     else record f { pc = l.at + 1; loops = record l { left = l.left - 1 } ∷ ls }
 
--- an instruction that reads and changes the frame alone
+-- an instruction that stays in the frame
 abbrev pub local : List Instr → Instr → Frame → Frame
 local code (Push k) f = steps f 0 (k ∷ [])
 local code Pop f = steps f 1 []

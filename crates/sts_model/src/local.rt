@@ -1,4 +1,4 @@
-//! Which instructions read and change the frame alone.
+//! Which instructions read and change their frame alone, and leave its entries.
 
 ghost use Rattle.std.specs.Prelude.{◌≡◌};
 ghost use Rattle.sts_model.specs.Local as def;
@@ -30,7 +30,7 @@ pub fn is_local(instr: Instr) -> bool
     )
 }
 
-/// The slot that the instruction empties, if it empties one.
+/// The slot that an instruction empties, if it stays in the frame and empties one.
 pub fn emptied_slot(instr: Instr) -> Option<u8>
     ensures { result ≡ def.emptied_slot instr }
 {
@@ -40,7 +40,8 @@ pub fn emptied_slot(instr: Instr) -> Option<u8>
     }
 }
 
-/// Does the instruction read and change the frame alone?
+/// Does the instruction read and change its frame alone, and leave its entries? The local ones and
+/// `forget` do.
 pub fn stays_in_frame(instr: Instr) -> bool
     ensures { result ≡ def.stays_in_frame instr }
 {

@@ -1,4 +1,4 @@
-//! An instruction that reads and changes the frame alone, if it can be done.
+//! An instruction that stays in the frame, if it can be done.
 
 ghost use Rattle.std.specs.Prelude.{◌≡◌, true};
 ghost use Rattle.sts_model.specs.Local as locals;
@@ -9,8 +9,7 @@ use sts_code::{Instr, Program};
 use sts_frames::{code, local, stays_in_frame};
 use sts_model::Frame;
 
-/// Does an instruction that reads and changes the frame alone, if it can be done. Returns whether it
-/// did.
+/// Does an instruction that stays in the frame, if it can be done. Returns whether it did.
 pub fn does_local(frame: &mut Frame, program: &Program, instr: Instr) -> bool
     ensures { result ≡ true
         → frame.new ≡ locals.local (world.code program.now frame.old) instr frame.old }

@@ -25,8 +25,8 @@ fn instr_in(code: &[Instr], pc: u32) -> Option<&Instr>
 }
 
 impl Store {
-    /// Does an instruction that reads and changes the task's frame alone, and answers the next one.
-    /// `code` is the code of its function.
+    /// Does an instruction of a task that stays in the frame, and answers the next one. `code` is the
+    /// code of its function.
     #[inline(always)]
     pub fn local<'a>(
         &mut self,
