@@ -21,6 +21,8 @@ pub use copies::{copy_frame, write_frame};
 pub use ends::{case_target, value_or_zero};
 pub use instructions::{code, instr_at};
 pub use local_steps::{local, run_local};
-pub use other_steps::{enter_binding, enter_scope, leave_entry, leave_fork, leave_scope, steps};
+pub use other_steps::{
+    empties, enter_binding, enter_scope, leave_entry, leave_fork, leave_scope, steps,
+};
 pub use slots::{is_empty, named, slot};
 pub use sts_model::{emptied_slot, is_local, stays_in_frame};

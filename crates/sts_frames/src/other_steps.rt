@@ -71,7 +71,7 @@ pub fn leave_scope(frame: &mut Frame, slots: [KeptSlot; 16])
 }
 
 /// Empties the slot that the instruction empties, if it empties one.
-pub(crate) fn empties(frame: &mut Frame, instr: Instr)
+pub fn empties(frame: &mut Frame, instr: Instr)
     requires more { frame.old.pc + 1 < 2 ^ 32 }
     requires other { def.is_local instr ≡ false }
     requires stays { def.stays_in_frame instr ≡ true }

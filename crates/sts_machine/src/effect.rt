@@ -5,7 +5,7 @@ ghost use Rattle.std.specs.Prelude.{◌≡◌, ◌<◌, ◌≤◌, ◌+◌, ◌^
 ghost use Rattle.sts_code.specs.declared.limits.TheConstants.{MAX_INSTRUCTIONS};
 ghost use Rattle.sts_machine.specs.Changing.{Changes, ends_task, is_quiet, may_wait};
 ghost use Rattle.sts_machine.specs.Room.{HasRoomLeft};
-ghost use Rattle.sts_model.specs.Local.{stays_in_frame};
+ghost use Rattle.sts_model.specs.Local.{is_local};
 ghost use Rattle.sts_model.specs.World as world;
 ghost use Rattle.laws_live.specs.Effect.{live_effect};
 ghost use Rattle.laws_live.specs.Reading.{lives_in};
@@ -18,8 +18,8 @@ use sts_code::{Instr, Program};
 use sts_model::End;
 use sts_store::Store;
 
-/// Does the next instruction of a living task, which doesn't stay in the frame. It must be no misuse,
-/// and there must be room for it.
+/// Does the next instruction of a living task, which isn't a local one. It must be no misuse, and
+/// there must be room for it.
 pub(crate) fn effect(store: &mut Store, program: &Program, code: &[Instr], t: u32, instr: &Instr)
     requires lives { lives_in (live_of store.old) t ≡ true }
     requires own_code { code.now ≡ world.code program.now (frame_of store.old t) }
@@ -28,7 +28,7 @@ pub(crate) fn effect(store: &mut Store, program: &Program, code: &[Instr], t: u3
     requires fine { IsLiveFine program.now (live_of store.old) t (frame_of store.old t) instr.now }
     requires room { HasRoomLeft (unseen_of store.old) (frame_of store.old t) instr.now }
     requires order { InOrder (live_of store.old) }
-    requires other { stays_in_frame instr.now ≡ false }
+    requires other { is_local instr.now ≡ false }
     ensures live { live_of store.new
         ≡ live_effect program.now (live_of store.old) t (frame_of store.old t) instr.now }
     ensures rest { Changes (live_of store.old) (unseen_of store.old)
@@ -78,8 +78,8 @@ fn quiet(store: &mut Store, program: &Program, code: &[Instr], t: u32, instr: &I
     requires short { length code.now ≤ MAX_INSTRUCTIONS }
     requires fine { IsLiveFine program.now (live_of store.old) t (frame_of store.old t) instr.now }
     requires order { InOrder (live_of store.old) }
+    requires other { is_local instr.now ≡ false }
     requires is_quiet { is_quiet instr.now ≡ true }
-    requires other { stays_in_frame instr.now ≡ false }
     ensures live { live_of store.new
         ≡ live_effect program.now (live_of store.old) t (frame_of store.old t) instr.now }
     ensures unseen { unseen_of store.new ≡ unseen_of store.old }
@@ -110,7 +110,7 @@ fn quiet(store: &mut Store, program: &Program, code: &[Instr], t: u32, instr: &I
         Instr::Bound(k) => store.push_is_bound(t, k),
         Instr::OrElse(k) => store.or_else(t, k),
         Instr::Interrupted => store.take_flag(t),
-        // `effect` does the instructions that aren't quiet, and `perform` those that stay in the frame.
-        _ => {}
+        // `effect` does the instructions that aren't quiet, and `perform` does the local ones.
+        _ => store.empties(t, *instr),
     }
 }

@@ -21,7 +21,7 @@ use crate::effect::effect;
 use crate::stands::{say_stand, say_stand_if_near};
 use laws_live::{effects_move_one, idle_stand_free};
 use sts_code::{Instr, Program};
-use sts_frames::stays_in_frame;
+use sts_frames::is_local;
 use sts_store::Store;
 
 /// May the task be recorded at a scope, before the instruction or after it?
@@ -57,7 +57,7 @@ fn local_step(store: &mut Store, program: &Program, code: &[Instr], t: u32, inst
     requires inside { (frame_of store.old t).pc < length code.now }
     requires short { length code.now ≤ MAX_INSTRUCTIONS }
     requires fine { IsLiveFine program.now (live_of store.old) t (frame_of store.old t) instr.now }
-    requires stays { frames.stays_in_frame instr.now ≡ true }
+    requires in_frame { frames.stays_in_frame instr.now ≡ true }
     ensures live { live_of store.new
         ≡ live_effect program.now (live_of store.old) t (frame_of store.old t) instr.now }
     ensures rest { Changes (live_of store.old) (unseen_of store.old)
@@ -99,7 +99,7 @@ pub(crate) fn perform(
 {
     effects_move_one();
     idle_stand_free();
-    if stays_in_frame(*instr) {
+    if is_local(*instr) {
         let is_near = local_step(store, program, code, t, instr);
         return say_stand_if_near(store, program, t, is_near);
     }

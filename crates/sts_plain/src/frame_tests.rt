@@ -46,6 +46,7 @@ fn closes_loop(code: &[Instr], frame: &Frame) -> bool
 
 /// Is a `times` without a match or one loop too many, or a `next` that isn't the match of the
 /// innermost loop?
+#[inline(always)]
 pub fn breaks_loop(program: &Program, frame: &Frame, instr: Instr) -> bool
     ensures { result ≡ misuse.breaks_loop program.now frame.now instr }
 {

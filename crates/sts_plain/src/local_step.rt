@@ -1,6 +1,6 @@
 //! An instruction that stays in the frame, if it can be done.
 
-ghost use Rattle.std.specs.Prelude.{◌≡◌, true};
+ghost use Rattle.std.specs.Prelude.{◌≡◌, true, false};
 ghost use Rattle.sts_model.specs.Local as locals;
 ghost use Rattle.sts_model.specs.World as world;
 
@@ -11,8 +11,10 @@ use sts_model::Frame;
 
 /// Does an instruction that stays in the frame, if it can be done. Returns whether it did.
 pub fn does_local(frame: &mut Frame, program: &Program, instr: Instr) -> bool
-    ensures { result ≡ true
+    ensures which { result ≡ true → locals.stays_in_frame instr ≡ true }
+    ensures does { result ≡ true
         → frame.new ≡ locals.local (world.code program.now frame.old) instr frame.old }
+    ensures unchanged { result ≡ false → frame.new ≡ frame.old }
 {
     let can_be_done = stays_in_frame(instr)
         && !overflows(program, frame, instr)

@@ -1,8 +1,9 @@
 //! Changes of a task's frame and of its flag.
 
-ghost use Rattle.std.specs.Prelude.{◌≡◌, ◌<◌, ◌+◌, ◌-◌, ◌^◌, [], ◌∷◌, length};
+ghost use Rattle.std.specs.Prelude.{◌≡◌, ◌<◌, ◌+◌, ◌-◌, ◌^◌, List, [], ◌∷◌, length};
 ghost use Rattle.std.specs.Prelude.{true, false, ◌≤◌, Some, None, slice_get, option_copied};
 ghost use Rattle.sts_code.specs.declared.limits.TheConstants.{MAX_INSTRUCTIONS};
+ghost use Rattle.sts_code.specs.declared.instr.Instr.{Instr};
 ghost use Rattle.sts_frames.specs.Locals.{AreSafe, local_at, locals};
 ghost use Rattle.sts_model.specs.Local as frames;
 ghost use Rattle.sts_model.specs.Misuse.{breaks_loop, overflows};
@@ -14,7 +15,7 @@ ghost use Rattle.sts_store.specs.Parts.{frame_of, live_of, unseen_of};
 
 use crate::store::Store;
 use sts_code::{Instr, Program};
-use sts_frames::{local, run_local};
+use sts_frames::{empties, local, run_local};
 
 /// The instruction at this place, if there is one.
 #[inline(always)]
@@ -52,6 +53,19 @@ impl Store {
         let frame = &mut self.frames.at(t as usize).frame;
         local(frame, program, code, instr);
         instr_in(code, frame.pc)
+    }
+
+    /// Does an instruction of a task that empties a slot and stays in the frame.
+    pub fn empties(&mut self, t: u32, instr: Instr)
+        requires lives { lives_in (live_of self.old) t ≡ true }
+        requires other { frames.is_local instr ≡ false }
+        requires stays { frames.stays_in_frame instr ≡ true }
+        requires more { (frame_of self.old t).pc + 1 < 2 ^ 32 }
+        ensures live { (code : List Instr) → live_of self.new ≡ with_live_frame (live_of self.old) t
+            (frames.local code instr (frame_of self.old t)) }
+        ensures unseen { unseen_of self.new ≡ unseen_of self.old }
+    {
+        empties(&mut self.frames.at(t as usize).frame, instr);
     }
 
     /// Does local instructions of a task until the limit or the first other instruction, and answers

@@ -1,33 +1,32 @@
-use Rattle.std.proofs.Common.{◌≡◌, ℕ, true, false, Option, refl, sym, ◌∙◌, ap}
-use Rattle.sts_code.specs.Program.{Program}
+use Rattle.std.proofs.Common.{◌≡◌, ℕ, true, Option, refl, sym, ◌∙◌, ap}
 use Rattle.sts_code.specs.declared.instr.Instr.{Instr}
 use Rattle.sts_code.specs.declared.instr.Instr.TheVariants.{Join, Cancelled, Case, Get, Except, Tally, Total, Read, Bound, OrElse, Interrupted}
 use Rattle.sts_code.specs.declared.instr.Kind.{Kind}
-use Rattle.sts_model.specs.Live.{Live}
 use Rattle.sts_model.specs.Local.{stays_in_frame}
-use Rattle.sts_model.specs.declared.record.Frame.{Frame}
+use Rattle.sts_model.specs.World.{code}
 use Rattle.laws_live.specs.Effect.{live_effect}
 use Rattle.sts_store.specs.Parts.{frame_of, live_of}
 use Rattle.sts_machine.specs.Changing.{is_quiet}
+use Rattle.sts_machine.proofs.Fine.{local_effect}
 use Rattle.sts_machine.proofs.effect.quiet.Goals as goal
 
--- no other instruction is left
-no_other : (p : Program) (v : Live) (t : ℕ) (f : Frame) (i : Instr) → is_quiet i ≡ true → stays_in_frame i ≡ false
+-- each other instruction stays in the frame
+others_stay : (i : Instr) → is_quiet i ≡ true
     → ((a : ℕ) (b c : Option ℕ) (d : ℕ) → i ≡ Join a b c d → ⊥) → ((a : ℕ) → i ≡ Cancelled a → ⊥) → ((a b c : ℕ) → i ≡ Case a b c → ⊥) → ((a : ℕ) → i ≡ Get a → ⊥) → ((a : ℕ) → i ≡ Except a → ⊥) → ((a : ℕ) (b : Kind) → i ≡ Tally a b → ⊥)
     → ((a : ℕ) → i ≡ Total a → ⊥) → ((a : ℕ) → i ≡ Read a → ⊥) → ((a : ℕ) → i ≡ Bound a → ⊥) → ((a : ℕ) → i ≡ OrElse a → ⊥) → (i ≡ Interrupted → ⊥)
-    → v ≡ live_effect p v t f i
-no_other p v t f (Join a b c d) q l n1 n2 n3 n4 n5 n6 n7 n8 n9 n10 n11 = absurd (n1 a b c d refl)
-no_other p v t f (Cancelled a) q l n1 n2 n3 n4 n5 n6 n7 n8 n9 n10 n11 = absurd (n2 a refl)
-no_other p v t f (Case a b c) q l n1 n2 n3 n4 n5 n6 n7 n8 n9 n10 n11 = absurd (n3 a b c refl)
-no_other p v t f (Get a) q l n1 n2 n3 n4 n5 n6 n7 n8 n9 n10 n11 = absurd (n4 a refl)
-no_other p v t f (Except a) q l n1 n2 n3 n4 n5 n6 n7 n8 n9 n10 n11 = absurd (n5 a refl)
-no_other p v t f (Tally a b) q l n1 n2 n3 n4 n5 n6 n7 n8 n9 n10 n11 = absurd (n6 a b refl)
-no_other p v t f (Total a) q l n1 n2 n3 n4 n5 n6 n7 n8 n9 n10 n11 = absurd (n7 a refl)
-no_other p v t f (Read a) q l n1 n2 n3 n4 n5 n6 n7 n8 n9 n10 n11 = absurd (n8 a refl)
-no_other p v t f (Bound a) q l n1 n2 n3 n4 n5 n6 n7 n8 n9 n10 n11 = absurd (n9 a refl)
-no_other p v t f (OrElse a) q l n1 n2 n3 n4 n5 n6 n7 n8 n9 n10 n11 = absurd (n10 a refl)
-no_other p v t f Interrupted q l n1 n2 n3 n4 n5 n6 n7 n8 n9 n10 n11 = absurd (n11 refl)
-no_other p v t f i q l n1 n2 n3 n4 n5 n6 n7 n8 n9 n10 n11 = cc
+    → stays_in_frame i ≡ true
+others_stay (Join a b c d) q n1 n2 n3 n4 n5 n6 n7 n8 n9 n10 n11 = absurd (n1 a b c d refl)
+others_stay (Cancelled a) q n1 n2 n3 n4 n5 n6 n7 n8 n9 n10 n11 = absurd (n2 a refl)
+others_stay (Case a b c) q n1 n2 n3 n4 n5 n6 n7 n8 n9 n10 n11 = absurd (n3 a b c refl)
+others_stay (Get a) q n1 n2 n3 n4 n5 n6 n7 n8 n9 n10 n11 = absurd (n4 a refl)
+others_stay (Except a) q n1 n2 n3 n4 n5 n6 n7 n8 n9 n10 n11 = absurd (n5 a refl)
+others_stay (Tally a b) q n1 n2 n3 n4 n5 n6 n7 n8 n9 n10 n11 = absurd (n6 a b refl)
+others_stay (Total a) q n1 n2 n3 n4 n5 n6 n7 n8 n9 n10 n11 = absurd (n7 a refl)
+others_stay (Read a) q n1 n2 n3 n4 n5 n6 n7 n8 n9 n10 n11 = absurd (n8 a refl)
+others_stay (Bound a) q n1 n2 n3 n4 n5 n6 n7 n8 n9 n10 n11 = absurd (n9 a refl)
+others_stay (OrElse a) q n1 n2 n3 n4 n5 n6 n7 n8 n9 n10 n11 = absurd (n10 a refl)
+others_stay Interrupted q n1 n2 n3 n4 n5 n6 n7 n8 n9 n10 n11 = absurd (n11 refl)
+others_stay i q n1 n2 n3 n4 n5 n6 n7 n8 n9 n10 n11 = cc
 
 pub returns-in-Cancelled-clause-live : goal.returns-in-Cancelled-clause-live
 returns-in-Cancelled-clause-live c = c.push_cancelled.ensures.live c.args.program.now ∙ ap
@@ -65,8 +64,18 @@ pub returns-in-Except-clause-live : goal.returns-in-Except-clause-live
 returns-in-Except-clause-live c = c.push_value-in-Except.ensures.except c.args.program.now ∙ ap
     (live_effect c.args.program.now (live_of c.args.store.now) c.args.t (frame_of c.args.store.now c.args.t)) (sym c.in-Except.is)
 
+pub empties-requires-clause-stays : goal.empties-requires-clause-stays
+empties-requires-clause-stays c =
+    let n = c.in_default in
+    others_stay c.args.instr.now c.requires.is_quiet
+    n.not-Join n.not-Cancelled n.not-Case n.not-Get n.not-Except n.not-Tally n.not-Total n.not-Read n.not-Bound n.not-OrElse n.not-Interrupted
+
 pub returns-in_default-clause-live : goal.returns-in_default-clause-live
 returns-in_default-clause-live c =
     let n = c.in_default in
-    no_other c.args.program.now (live_of c.args.store.now) c.args.t (frame_of c.args.store.now c.args.t) c.args.instr.now c.requires.is_quiet c.requires.other
-    n.not-Join n.not-Cancelled n.not-Case n.not-Get n.not-Except n.not-Tally n.not-Total n.not-Read n.not-Bound n.not-OrElse n.not-Interrupted
+    let p = c.args.program.now in
+    let f = frame_of c.args.store.now c.args.t in
+    let stays =
+    others_stay c.args.instr.now c.requires.is_quiet
+    n.not-Join n.not-Cancelled n.not-Case n.not-Get n.not-Except n.not-Tally n.not-Total n.not-Read n.not-Bound n.not-OrElse n.not-Interrupted in
+    c.empties.ensures.live (code p f) ∙ sym (local_effect p (live_of c.args.store.now) c.args.t f c.args.instr.now stays)

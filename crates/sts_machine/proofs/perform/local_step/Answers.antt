@@ -17,7 +17,7 @@ returns-clause-live c =
     let f = frame_of c.args.store.now c.args.t in
     c.local-next.ensures.live
     ∙ ap (λ (is : List Instr). with_live_frame v c.args.t (local is c.args.instr.now f)) c.requires.own_code
-    ∙ sym (local_effect c.args.program.now v c.args.t f c.args.instr.now c.requires.stays)
+    ∙ sym (local_effect c.args.program.now v c.args.t f c.args.instr.now c.requires.in_frame)
 
 pub returns-clause-rest : goal.returns-clause-rest
 returns-clause-rest c =
@@ -28,9 +28,9 @@ returns-clause-rest c =
     let live =
     c.local-next.ensures.live
     ∙ ap (λ (is : List Instr). with_live_frame v t (local is c.args.instr.now f)) c.requires.own_code
-    ∙ sym (local_effect c.args.program.now v t f c.args.instr.now c.requires.stays) in
+    ∙ sym (local_effect c.args.program.now v t f c.args.instr.now c.requires.in_frame) in
     as_are v _ _ (unseen_of m) _ _ t live c.local-next.ensures.unseen
-    (changes-quiet v _ (unseen_of m) t (quiet-effect c.args.program.now v t c.args.instr.now (local_quiet c.args.instr.now c.requires.stays)))
+    (changes-quiet v _ (unseen_of m) t (quiet-effect c.args.program.now v t c.args.instr.now (local_quiet c.args.instr.now c.requires.in_frame)))
 
 pub returns-clause-own : goal.returns-clause-own
 returns-clause-own c = ap (λ (u : Unseen). stand_in u c.args.t) c.local-next.ensures.unseen
@@ -42,8 +42,8 @@ returns-clause-stays c =
     let f = frame_of c.args.store.now t in
     ap (λ (x : Live). lives_in x t) (c.local-next.ensures.live
     ∙ ap (λ (is : List Instr). with_live_frame v t (local is c.args.instr.now f)) c.requires.own_code
-    ∙ sym (local_effect c.args.program.now v t f c.args.instr.now c.requires.stays))
-    ∙ lives_quiet v _ t (quiet-effect c.args.program.now v t c.args.instr.now (local_quiet c.args.instr.now c.requires.stays))
+    ∙ sym (local_effect c.args.program.now v t f c.args.instr.now c.requires.in_frame))
+    ∙ lives_quiet v _ t (quiet-effect c.args.program.now v t c.args.instr.now (local_quiet c.args.instr.now c.requires.in_frame))
     ∙ c.requires.lives
 
 pub returns-clause-free : goal.returns-clause-free

@@ -1,5 +1,6 @@
 use Rattle.std.proofs.Common.{◌≡◌, ◌==◌, ℕ, false, true, sym, ◌∙◌, subst}
 use Rattle.std.proofs.lemmas.Option.{slice_get_within}
+use Rattle.sts_model.proofs.LocalLemmas.{local_stays}
 use Rattle.sts_store.specs.Parts.{frame_of, live_of, unseen_of}
 use Rattle.laws_live.specs.Effect.{live_effect}
 use Rattle.laws_live.specs.Order.{InOrder}
@@ -15,6 +16,9 @@ unmoved c i other =
     c.effects_move_one.ensures c.args.program.now (live_of c.args.store.now) c.requires.order c.args.t i c.args.instr.now
     c.requires.lives c.requires.fine other
 
+pub local_step-is_near-requires-clause-in_frame : goal.local_step-is_near-requires-clause-in_frame
+local_step-is_near-requires-clause-in_frame c = local_stays c.args.instr.now (sym c.is_local.ensures ∙ c.if-is_local.true)
+
 pub local_step-is_near-requires-clause-inside : goal.local_step-is_near-requires-clause-inside
 local_step-is_near-requires-clause-inside c = rw c.requires.own_code (slice_get_within _ _ _ c.requires.at)
 
@@ -29,12 +33,12 @@ say_stand_if_near-requires-clause-others c =
 
 pub say_stand_if_near-requires-clause-free : goal.say_stand_if_near-requires-clause-free
 say_stand_if_near-requires-clause-free c =
-    let unwaiting_now = local_unwaiting c.args.instr.now (sym c.stays_in_frame.ensures ∙ c.if-stays_in_frame.true) in
+    let unwaiting_now = local_unwaiting c.args.instr.now (local_stays c.args.instr.now (sym c.is_local.ensures ∙ c.if-is_local.true)) in
     c.local_step-is_near.ensures.own ∙ c.requires.standing c.args.t c.requires.lives
     ∙ unwaiting c.args.program.now (live_of c.args.store.now) c.args.t c.args.instr.now c.requires.at unwaiting_now
 
-pub returns-then-stays_in_frame-clause-room : goal.returns-then-stays_in_frame-clause-room
-returns-then-stays_in_frame-clause-room c = λ b h. c.say_stand_if_near.ensures.room b (room_kept _ _ _ _ _ b c.local_step-is_near.ensures.rest h)
+pub returns-then-is_local-clause-room : goal.returns-then-is_local-clause-room
+returns-then-is_local-clause-room c = λ b h. c.say_stand_if_near.ensures.room b (room_kept _ _ _ _ _ b c.local_step-is_near.ensures.rest h)
 
 pub effect-requires-clause-inside : goal.effect-requires-clause-inside
 effect-requires-clause-inside c = rw c.requires.own_code (slice_get_within _ _ _ c.requires.at)
