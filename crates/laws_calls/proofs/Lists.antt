@@ -1,5 +1,5 @@
 -- Two lists element by element, places, and filters.
-use Rattle.std.proofs.Common.{◌≡◌, ℕ, zero, suc, ◌+◌, ◌<◌, ◌≤◌, inl, inr, List, [], ◌∷◌, ◌++◌}
+use Rattle.std.proofs.Common.{◌≡◌, ℕ, zero, suc, ◌+◌, ◌<◌, inl, inr, List, [], ◌∷◌, ◌++◌}
 use Rattle.std.proofs.Common.{Bool, true, false, Some, refl, sym, ◌∙◌, ap, subst, length}
 use Rattle.std.proofs.Common.{arith, get_or, set, cond, map, drop, ◌||◌}
 use Rattle.std.specs.Prelude.{◌==◌, slice_get}
@@ -224,13 +224,10 @@ get_front [] ys i x e = cc
 get_front (a ∷ xs) ys zero x e = e
 get_front (a ∷ xs) ys (suc i) x e = get_front xs ys i x e
 
-pub among_range : (a n u : ℕ) → a ≤ u → u < a + n → Among (range_with_len a n) u
-among_range a zero u low high = absurd (omega (arith, low, high))
-among_range a (suc n) u low high = by (a == u) refl (λ more. among_range (a + 1) n u more (omega (arith, high)))
-  where
-    by : (b : Bool) → (a == u) ≡ b → (a + 1 ≤ u → Among (range_with_len (a + 1) n) u) → Among (a ∷ range_with_len (a + 1) n) u
-    by true e rest = inl (grind (arith, nat_tests))
-    by false e rest = let other : a ≡ u → ⊥ = λ d. grind (arith, nat_tests) in inr (rest (omega (arith, low, other)))
+pub got_among : {X : Type 0} (xs : List X) (n : ℕ) (d : X) → n < length xs → Among xs (get_or xs n d)
+got_among [] n d short = absurd (omega (arith, short))
+got_among (a ∷ xs) zero d short = inl refl
+got_among (a ∷ xs) (suc n) d short = inr (got_among xs n d (omega (arith, short)))
 
 pub range_among : (a n u : ℕ) → Among (range_with_len a n) u → u < a + n
 range_among a zero u h = absurd h

@@ -1,11 +1,12 @@
 -- What a step of one task leaves of the states of the others.
 use Rattle.std.proofs.Common.{◌≡◌, ℕ, zero, suc, ◌+◌, ◌<◌, ◌≤◌, ◌⊎◌, inl, inr, List, [], ◌∷◌}
 use Rattle.std.proofs.Common.{Bool, true, false, Option, Some, None, refl, sym, ◌∙◌, ap, subst, length}
-use Rattle.std.proofs.Common.{arith, cond, nat_eq, ◌||◌}
+use Rattle.std.proofs.Common.{arith, cond, get_or, nat_eq, ◌||◌}
 use Rattle.std.specs.Prelude.{◌==◌, slice_get, count_by, nat_lt, map}
 use Rattle.std.specs.List.{list_any}
 use Rattle.std.proofs.lemmas.Bool.Decides.{nat_tests}
 use Rattle.std.proofs.lemmas.Bool.{or_right}
+use Rattle.std.proofs.lemmas.List.FromFn.{get_or-range_with_len, length-range_with_len}
 use Rattle.laws_words.proofs.ListLemmas.{count-cons}
 use Rattle.sts_model.specs.declared.record.Entry.{Entry}
 use Rattle.sts_model.specs.declared.record.Entry.TheVariants as entry
@@ -37,7 +38,7 @@ use Rattle.laws_calls.specs.Triggers.{triggers}
 use Rattle.laws_calls.specs.Steps.{Row}
 use Rattle.laws_calls.specs.Covers.{subs, PartFits, ScopeFits, SeenFits, HeldFits, FrameFits, TaskFits}
 use Rattle.laws_calls.specs.Covers.{FlagMayBe, IsCovered, Watched, watched_root, watched_sub, alive_in, IsRight, IsAsked, InOrder}
-use Rattle.laws_calls.proofs.Lists.{all_map, among_filter, filter_among, among_range, range_among, Apart, at_among, no}
+use Rattle.laws_calls.proofs.Lists.{all_map, among_filter, filter_among, got_among, range_among, Apart, at_among, no}
 use Rattle.laws_calls.proofs.WatchedLemmas.{watched_before, never}
 
 -- what is known of every state of a run
@@ -114,7 +115,11 @@ sub_born w s u at =
 pub sub_listed : (w : World) (s u : ℕ) → (task_at w u).scope ≡ Some s → Among (subs w s) u
 sub_listed w s u inside =
     let born : u < length w.tasks = within (λ (y : Task). is_in s y.scope) w.tasks u no_task refl (is_in-some s (task_at w u).scope inside) in
-    filter_among (λ q. is_subtask s (task_at w q)) (births w) u (among_range 0 (length w.tasks) u (omega arith) (omega (arith, born))) (is_in-some s (task_at w u).scope inside)
+    let long : length (births w) ≡ length w.tasks = length-range_with_len 0 (length w.tasks) in
+    let place = get_or-range_with_len 0 (length w.tasks) u 0 born in
+    let here : get_or (births w) u 0 ≡ u = omega (arith, place) in
+    let listed : Among (births w) u = subst (Among (births w)) here (got_among (births w) u 0 (omega (arith, long, born))) in
+    filter_among (λ q. is_subtask s (task_at w q)) (births w) u listed (is_in-some s (task_at w u).scope inside)
 
 -- a subtask that is listed is in the scope
 pub listed_inside : (w : World) (s u : ℕ) → Among (subs w s) u → (task_at w u).scope ≡ Some s
