@@ -224,11 +224,6 @@ get_front [] ys i x e = cc
 get_front (a ∷ xs) ys zero x e = e
 get_front (a ∷ xs) ys (suc i) x e = get_front xs ys i x e
 
-pub got_among : {X : Type 0} (xs : List X) (n : ℕ) (d : X) → n < length xs → Among xs (get_or xs n d)
-got_among [] n d short = absurd (omega (arith, short))
-got_among (a ∷ xs) zero d short = inl refl
-got_among (a ∷ xs) (suc n) d short = inr (got_among xs n d (omega (arith, short)))
-
 pub range_among : (a n u : ℕ) → Among (range_with_len a n) u → u < a + n
 range_among a zero u h = absurd h
 range_among a (suc n) u (inl same) = omega (arith, same)

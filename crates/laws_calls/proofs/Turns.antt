@@ -7,6 +7,7 @@ use Rattle.std.specs.List.{list_any}
 use Rattle.std.proofs.lemmas.Bool.Decides.{nat_tests}
 use Rattle.std.proofs.lemmas.Bool.{or_right}
 use Rattle.std.proofs.lemmas.List.FromFn.{get_or-range_with_len, length-range_with_len}
+use Rattle.std.proofs.lemmas.Option.{slice_get-get_or}
 use Rattle.laws_words.proofs.ListLemmas.{count-cons}
 use Rattle.sts_model.specs.declared.record.Entry.{Entry}
 use Rattle.sts_model.specs.declared.record.Entry.TheVariants as entry
@@ -38,7 +39,7 @@ use Rattle.laws_calls.specs.Triggers.{triggers}
 use Rattle.laws_calls.specs.Steps.{Row}
 use Rattle.laws_calls.specs.Covers.{subs, PartFits, ScopeFits, SeenFits, HeldFits, FrameFits, TaskFits}
 use Rattle.laws_calls.specs.Covers.{FlagMayBe, IsCovered, Watched, watched_root, watched_sub, alive_in, IsRight, IsAsked, InOrder}
-use Rattle.laws_calls.proofs.Lists.{all_map, among_filter, filter_among, got_among, range_among, Apart, at_among, no}
+use Rattle.laws_calls.proofs.Lists.{all_map, among_filter, filter_among, get_among, range_among, Apart, at_among, no}
 use Rattle.laws_calls.proofs.WatchedLemmas.{watched_before, never}
 
 -- what is known of every state of a run
@@ -118,7 +119,8 @@ sub_listed w s u inside =
     let long : length (births w) ≡ length w.tasks = length-range_with_len 0 (length w.tasks) in
     let place = get_or-range_with_len 0 (length w.tasks) u 0 born in
     let here : get_or (births w) u 0 ≡ u = omega (arith, place) in
-    let listed : Among (births w) u = subst (Among (births w)) here (got_among (births w) u 0 (omega (arith, long, born))) in
+    let at : slice_get (births w) u ≡ Some u = slice_get-get_or (births w) u 0 (omega (arith, long, born)) ∙ ap Some here in
+    let listed : Among (births w) u = get_among (births w) u u at in
     filter_among (λ q. is_subtask s (task_at w q)) (births w) u listed (is_in-some s (task_at w u).scope inside)
 
 -- a subtask that is listed is in the scope
