@@ -1,7 +1,6 @@
 -- While the close of a scope waits, its owner is at this `close`.
-use Rattle.std.proofs.Common.{◌≡◌, ℕ, suc, ◌<◌, ◌≤◌, [], ◌∷◌, Bool, true, false, Option, Some, None}
-use Rattle.std.proofs.Common.{refl, sym, ◌∙◌, ap, subst, length, arith, nat_eq, not, ◌||◌, unwrap_or, cond}
-use Rattle.std.proofs.Common.{drop, length-set, length-append, get_or-set_same, get_or-set_other}
+use Rattle.std.proofs.Common.{◌≡◌, ℕ, suc, ◌<◌, ◌≤◌, [], ◌∷◌, Bool, true, false, Option, Some, None, refl, sym, ◌∙◌, ap, subst, length, arith, nat_eq, not}
+use Rattle.std.proofs.Common.{◌||◌, unwrap_or, cond, drop, length-set, length-append, get_or-set_same, get_or-set_other}
 use Rattle.std.proofs.lemmas.Bool.{cond_both}
 use Rattle.std.proofs.lemmas.Bool.Decides.{nat_tests}
 use Rattle.std.proofs.lemmas.List.{length-map, get_or_append_left}
@@ -18,17 +17,15 @@ use Rattle.sts_model.specs.declared.record.Frame.{Frame}
 use Rattle.sts_model.specs.declared.record.Task.{Task}
 use Rattle.sts_model.specs.declared.record.Scope.{Scope}
 use Rattle.sts_model.specs.declared.record.Slot.TheVariants as slots
-use Rattle.sts_model.specs.World.{World, task_at, scope_at, no_task, no_scope, with_task, instr_at}
-use Rattle.sts_model.specs.World.{with_scope, with_frame}
+use Rattle.sts_model.specs.World.{World, task_at, scope_at, no_task, no_scope, with_task, instr_at, with_scope, with_frame}
 use Rattle.sts_model.specs.Local.{goes, steps, operand}
 use Rattle.sts_model.specs.Living.{lives, any_lives, ends, subtask_count, is_closed}
 use Rattle.sts_model.specs.Joining.{cancels, result_of}
 use Rattle.sts_model.specs.Cancelling.{raised, marked, cancel}
 use Rattle.sts_model.specs.Misuse.{slot}
 use Rattle.sts_model.specs.Waiting.{is_closing}
-use Rattle.sts_model.specs.Effect.{effect, named, with_phase, joined, join_verdict, join_scope}
-use Rattle.sts_model.specs.Effect.{close_scope, cleared, told, decide, tell, ended, end_task, open_scope}
-use Rattle.sts_model.specs.Effect.{fork_task, subtask_of, forked}
+use Rattle.sts_model.specs.Effect.{effect, named, with_phase, joined, join_verdict, join_scope, close_scope, cleared, told, decide, tell, ended, end_task}
+use Rattle.sts_model.specs.Effect.{open_scope, fork_task, subtask_of, forked}
 use Rattle.sts_model.specs.Effect as def
 use Rattle.sts_model.specs.Outside.{interrupt, can_expire, expire}
 use Rattle.laws_runs.specs.Runs.{Does, Leads}

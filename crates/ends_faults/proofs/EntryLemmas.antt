@@ -1,12 +1,8 @@
 -- The structure list, entry by entry.
-use Rattle.std.proofs.Common.{◌≡◌, ℕ, suc, ◌+◌, ◌<◌, List, ◌∷◌, Bool, true, false, refl, ◌∙◌, ap, arith, length, get_or, drop, cond, is_some, drop-cons}
+use Rattle.std.proofs.Common.{◌≡◌, ℕ, suc, ◌+◌, ◌<◌, List, ◌∷◌, ◌∙◌, ap, arith, length, get_or, drop, cond, is_some, drop-cons}
 use Rattle.sts_model.specs.declared.record.Entry.{Entry}
 use Rattle.sts_model.specs.declared.record.Entry.TheVariants as entry
 use Rattle.laws_calls.specs.Tasks.{births_in, scope_of_entry}
-
--- is it a scope?
-abbrev pub is_scope_entry : Entry → Bool
-is_scope_entry e = is_some (scope_of_entry e)
 
 split : (es : List Entry) (i : ℕ) (d : Entry) → i < length es → drop i es ≡ get_or es i d ∷ drop (i + 1) es
 split es i d less = let next : suc i ≡ i + 1 = omega arith in drop-cons es i d less ∙ ap (λ n. get_or es i d ∷ drop n es) next

@@ -1,6 +1,5 @@
 -- A subtask whose state passes a test in each pick that fits.
-use Rattle.std.proofs.Common.{◌≡◌, ℕ, zero, suc, List, [], ◌∷◌, Bool, true, false, Option, Some, None}
-use Rattle.std.proofs.Common.{refl, sym, ◌∙◌, ap, subst, not, get_or, set}
+use Rattle.std.proofs.Common.{◌≡◌, ℕ, zero, suc, List, [], ◌∷◌, Bool, true, false, Option, Some, None, refl, sym, ◌∙◌, ap, subst, not, get_or, set}
 use Rattle.std.specs.Prelude.{slice_get}
 use Rattle.sts_model.specs.declared.event.End.{End}
 use Rattle.laws_calls.specs.declared.table.Part.{Part}

@@ -1,6 +1,6 @@
 //! Whether a scope is as an instruction needs it.
 
-ghost use Rattle.std.specs.Prelude.{◌≡◌, true, false, [], OnOk};
+ghost use Rattle.std.specs.Prelude.{◌≡◌, true, []};
 ghost use Rattle.ends_faults.specs.Safe as def;
 ghost use Rattle.sts_model.specs.Misuse as misuse;
 ghost use Rattle.sts_code.specs.Facts as facts;

@@ -2,7 +2,6 @@
 //! owner asked for, and the sum.
 
 ghost use Rattle.std.specs.Prelude.{◌≡◌, [], ◌∷◌, ◌++◌, List, Option, IfOk, OnOk, true};
-ghost use Rattle.ends_picks.specs.Groups as groups;
 ghost use Rattle.ends_picks.specs.Outcomes as def;
 ghost use Rattle.ends_picks.specs.declared.outcomes.Outcome.{Outcome};
 ghost use Rattle.laws_calls.specs.Fitting.{Fits};

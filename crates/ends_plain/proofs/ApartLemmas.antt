@@ -1,8 +1,7 @@
 -- A task's frame is its own. With another frame of one task, the state answers the same about other
 -- tasks and scopes, and changes of them leave that frame there.
-use Rattle.std.proofs.Common.{◌≡◌, ℕ, zero, suc, ◌+◌, ◌<◌, List, [], ◌∷◌, ◌++◌, Bool, true, false, Option, Some, None}
-use Rattle.std.proofs.Common.{refl, sym, ◌∙◌, ap, length, arith, get_or, set, cond, ◌||◌, count_by}
-use Rattle.std.proofs.Common.{length-set, get_or-set_other}
+use Rattle.std.proofs.Common.{◌≡◌, ℕ, zero, suc, ◌+◌, ◌<◌, List, [], ◌∷◌, ◌++◌, Bool, true, false, Option, Some, None, refl, sym, ◌∙◌, ap, length, arith}
+use Rattle.std.proofs.Common.{get_or, set, cond, ◌||◌, count_by, length-set, get_or-set_other}
 use Rattle.std.specs.List.{list_any}
 use Rattle.std.specs.Prelude.{◌-◌}
 use Rattle.std.proofs.lemmas.List.Sums.{sum_by-cons}
@@ -14,8 +13,7 @@ use Rattle.sts_model.specs.declared.record.Slot.{Slot}
 use Rattle.sts_model.specs.declared.record.Slot.TheVariants.{Empty, Own, Lent, Sub}
 use Rattle.sts_model.specs.declared.record.Task.{Task}
 use Rattle.sts_model.specs.World.{World, task_at, scope_at, no_task, with_task, with_scope, with_frame}
-use Rattle.sts_model.specs.Living.{is_in, is_subtask, is_living_subtask, any_lives, subtask_count}
-use Rattle.sts_model.specs.Living.{parent, scope_of, sub_state, completion_of}
+use Rattle.sts_model.specs.Living.{is_in, is_subtask, is_living_subtask, any_lives, subtask_count, parent, scope_of, sub_state, completion_of}
 use Rattle.sts_model.specs.Cancelling.{raise, raised, marked, cancel}
 use Rattle.sts_model.specs.Environment.{environment_of, own_bindings}
 use Rattle.sts_model.specs.Standing.{standing_tasks, is_standing_task, stands_in}

@@ -1,8 +1,7 @@
 -- The ends that a search lists: each is an end, and if the search is closed, each end is listed.
 use Rattle.std.proofs.Common.{◌≡◌, ℕ, zero, suc, ◌+◌, ◌<◌, ◌⊎◌, List, [], ◌∷◌, ◌++◌, length, refl, ap, sym, ◌∙◌, arith, inl, inr, subst, Bool, true, false, not}
-use Rattle.std.specs.Prelude.{slice_index_or}
+use Rattle.std.specs.Prelude.{slice_index_or, Option}
 use Rattle.std.specs.List.{Contains, list_any}
-use Rattle.std.specs.Prelude.{Option}
 use Rattle.std.proofs.lemmas.Bool.{or_parts}
 use Rattle.std.proofs.lemmas.List.{get_or_default, map-append}
 use Rattle.std.proofs.lemmas.List.Elements.{Contains-append_left, Contains-append_right}
@@ -20,8 +19,7 @@ use Rattle.ends_plain.specs.declared.config.Setting.{Setting}
 use Rattle.ends_plain.specs.Configs.{next, next_kept, can, tries, start, is_last, IsLike}
 use Rattle.ends_plain.specs.Explored.{IsExplored}
 use Rattle.ends_plain.specs.Ends.{is_end, AreAll}
-use Rattle.ends_plain.specs.Listed.{is_fault_end, is_faulty}
-use Rattle.ends_plain.specs.Listed.{ends_of, AreShown, AreEnds, HasShown, IsEndOf, IsShownBy}
+use Rattle.ends_plain.specs.Listed.{is_fault_end, is_faulty, ends_of, AreShown, AreEnds, HasShown, IsEndOf, IsShownBy}
 use Rattle.ends_plain.proofs.EventLemmas.{split, each_push}
 use Rattle.ends_plain.proofs.WayLemmas.{position_after, allowed}
 use Rattle.ends_plain.proofs.OwnLemmas.{IsRun}
@@ -81,9 +79,6 @@ end_of_way g config f way shows ends =
       comes = ap shown (sym at) ∙ shows;
       ends = ends;
     }
-
-pub no_ends : (g : Setting) → AreEnds g []
-no_ends g f c = let less : c.0 < 0 = c.1 in absurd (omega arith)
 
 pub ends_more : (g : Setting) (found : List Found) (f : Found) → AreEnds g found → IsEndOf g f → AreEnds g (found ++ f ∷ [])
 ends_more g found f all here = each_push (IsEndOf g) found f all here

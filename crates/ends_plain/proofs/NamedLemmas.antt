@@ -1,6 +1,6 @@
 -- Names that are kept as lists lead from one state to another that is alike.
-use Rattle.std.proofs.Common.{◌≡◌, ℕ, zero, suc, ◌<◌, ◌≤◌, ◌+◌, List, [], ◌∷◌, ◌++◌, Bool, true, false, refl, sym, ◌∙◌, ap, length, arith, cond, map, reverse}
-use Rattle.std.specs.Prelude.{Option, Some, slice_get, option_map}
+use Rattle.std.proofs.Common.{◌≡◌, ℕ, zero, suc, ◌<◌, ◌≤◌, ◌+◌, List, [], ◌∷◌, ◌++◌, Bool, true, false, refl, sym, ◌∙◌, ap, length, arith, map, reverse}
+use Rattle.std.specs.Prelude.{Some, slice_get}
 use Rattle.std.proofs.lemmas.List.{reverse-append, get_or_past}
 use Rattle.std.specs.List.{list_any}
 use Rattle.std.proofs.Math.Dec.{ltb}
@@ -8,14 +8,10 @@ use Rattle.std.proofs.lemmas.Bool.{ltb-true, or_parts}
 use Rattle.std.proofs.lemmas.Bool.Decides.{nat_tests}
 use Rattle.sts_code.specs.Program.{Program, Routine, routine, no_routine}
 use Rattle.sts_code.specs.declared.instr.Instr.{Instr}
-use Rattle.sts_model.specs.declared.event.End.{End}
 use Rattle.sts_model.specs.declared.record.Frame.{Frame}
 use Rattle.sts_model.specs.declared.record.Scope.{Scope}
-use Rattle.sts_model.specs.declared.record.Task.{Task}
-use Rattle.sts_model.specs.Living.{lives}
 use Rattle.sts_model.specs.World.{World, State, Running}
-use Rattle.laws_names.specs.Names.{Names, IsOneToOne, IsSameTask, IsSameScope, ReadsNothing, is_reading, named_task, named_frame, named_slot, named_entry, named_completion}
-use Rattle.laws_names.proofs.AlikeLemmas.{part_alive}
+use Rattle.laws_names.specs.Names.{Names, IsOneToOne, IsSameScope, ReadsNothing, is_reading, named_frame, named_slot, named_entry, named_completion}
 use Rattle.laws_names.proofs.MadeLemmas.{AreSame, alike_made}
 use Rattle.laws_names.proofs.NameLemmas.{map_push}
 use Rattle.ends_plain.specs.declared.names.NameLists.{NameLists}
@@ -88,18 +84,6 @@ reads_nothing p h f i e = by (ltb f.function (length p.routines)) refl
         none_there is_reading (routine p f.function).code (ap (list_any is_reading) none) f.pc i e
 
 -- ---- tasks and states
-
-pub same_living : (n : Names) (x y : Task) → lives x ≡ true → lives y ≡ true → option_map n.scopes x.scope ≡ y.scope → x.started ≡ y.started → x.outcome ≡ y.outcome → x.flag ≡ y.flag → y.frame ≡ named_frame n x.frame → IsSameTask n x y
-same_living n x y alive living scope started outcome flag frame =
-    part_alive y living ∙ parts ∙ ap (named_task n) (sym (part_alive x alive))
-  where
-    parts : y ≡ named_task n x
-    parts =
-        ap (λ (o : Option ℕ). record y { scope = o }) (sym scope)
-        ∙ ap (λ (b : Bool). record y { scope = option_map n.scopes x.scope; started = b }) (sym started)
-        ∙ ap (λ (b : Bool). record y { scope = option_map n.scopes x.scope; started = x.started; flag = b }) (sym flag)
-        ∙ ap (λ (f : Frame). record y { scope = option_map n.scopes x.scope; started = x.started; flag = x.flag; frame = f }) frame
-        ∙ ap (λ (o : Option End). record { frame = named_frame n x.frame; started = x.started; flag = x.flag; scope = option_map n.scopes x.scope; outcome = o }) (sym outcome)
 
 pub same_frame : (n : Names) (f g : Frame) → f.function ≡ g.function → f.pc ≡ g.pc → f.operands ≡ g.operands → f.locals ≡ g.locals → f.loops ≡ g.loops → g.entries ≡ map (named_entry n) f.entries → g.slots ≡ map (named_slot n) f.slots → g ≡ named_frame n f
 same_frame n f g function pc operands locals loops entries slots =

@@ -30,9 +30,8 @@ use Rattle.sts_model.specs.Local.{steps, goes, truth, operand}
 use Rattle.sts_model.specs.Joining.{cancels, result_of}
 use Rattle.sts_model.specs.Cancelling.{cancel}
 use Rattle.sts_model.specs.Environment.{environment_of, read}
-use Rattle.sts_model.specs.Effect.{with_phase, open_scope, fork_task, subtask_of, forked, joined, join_verdict, join_scope}
-use Rattle.sts_model.specs.Effect.{closed, close_scope, cleared, told, decide, complete, tell, ended, end_task, effect}
-use Rattle.sts_model.specs.Effect.{named, case_target, value_or_zero, moved}
+use Rattle.sts_model.specs.Effect.{with_phase, open_scope, fork_task, subtask_of, forked, joined, join_verdict, join_scope, closed, close_scope, cleared, told}
+use Rattle.sts_model.specs.Effect.{decide, complete, tell, ended, end_task, effect, named, case_target, value_or_zero, moved}
 use Rattle.sts_model.specs.Misuse.{slot, at_own, at_sub, misjoins, has_no_room, is_illegal, breaks_structure, is_unbound, misuse}
 use Rattle.sts_model.specs.Misuse.{fault_of, fault_at, is_opened, is_readable, has_succeeded, has_failed, is_crowded}
 use Rattle.sts_model.specs.Standing.{standing_tasks}

@@ -24,8 +24,7 @@ use Rattle.sts_model.specs.World.{World, State, Running, Faulted, task_at, no_ta
 use Rattle.sts_model.specs.Living.{lives, parent}
 use Rattle.sts_model.specs.Local.{operand, goes, steps, clipped, turns}
 use Rattle.sts_model.specs.Effect.{effect}
-use Rattle.sts_model.specs.Misuse.{misuse, fault_at, fault_of, breaks_loop, misuses_operand, lacks_operands, overflows}
-use Rattle.sts_model.specs.Misuse.{has_wrong_slot, misjoins, has_no_room}
+use Rattle.sts_model.specs.Misuse.{misuse, fault_at, fault_of, breaks_loop, misuses_operand, lacks_operands, overflows, has_wrong_slot, misjoins, has_no_room}
 use Rattle.sts_model.specs.Waiting.{can_step, can_go, stand_at, stand_at_instr}
 use Rattle.sts_model.specs.Run.{apply, step, stepped, perform, after}
 use Rattle.laws_runs.specs.Runs.{In, Between}

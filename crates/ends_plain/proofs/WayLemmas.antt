@@ -1,7 +1,6 @@
 -- Each way by events that can come is a list of allowed events. An allowed event that can't come
 -- changes nothing.
-use Rattle.std.proofs.Common.{◌≡◌, ℕ, ◌<◌, List, [], ◌∷◌, ◌++◌, fold, refl, ap, ◌∙◌, arith, count_by}
-use Rattle.std.proofs.Common.{Bool, true, false}
+use Rattle.std.proofs.Common.{◌≡◌, ℕ, ◌<◌, List, [], ◌∷◌, ◌++◌, fold, refl, ap, ◌∙◌, arith, count_by, Bool, true, false}
 use Rattle.std.proofs.Math.Dec.{ltb}
 use Rattle.std.proofs.lemmas.Bool.{ltb-true, lt-ltb, and_parts}
 use Rattle.laws_words.proofs.BoolLemmas.{other_false}

@@ -1,8 +1,6 @@
 //! A number that the same states share, and most others don't: only a hint, with no contract.
 
-ghost use Rattle.std.specs.Prelude.{◌≡◌, ◌<◌, length, true};
-ghost use Rattle.sts_model.specs.Living as living;
-ghost use Rattle.sts_model.specs.World as def;
+ghost use Rattle.std.specs.Prelude.{◌<◌, length};
 
 use ends_search::hash::{mixed, mixed_entries, mixed_values};
 use sts_model::{End, Frame, KeptSlot, Slot};

@@ -1,7 +1,6 @@
 //! Whether two states differ only by the birth numbers of tasks and scopes.
 
-ghost use Rattle.std.specs.Prelude.{◌≡◌, ◌<◌, ℕ, true, IfOk, map, length, slice_index_or};
-ghost use Rattle.std.specs.Prelude.{option_map};
+ghost use Rattle.std.specs.Prelude.{◌≡◌, ◌<◌, true, IfOk, map, length, option_map};
 ghost use Rattle.sts_model.specs.World as def;
 ghost use Rattle.laws_names.specs.Names as law;
 ghost use Rattle.ends_plain.specs.Named.{names_of, name_in, IsNaming, AreRenamed};

@@ -2,8 +2,7 @@
 -- `can` says whether the event can come there. The search keeps one of two states that are `alike`.
 -- It is for the states that are `last` (this project's own).
 use Rattle.std.specs.Prelude.{◌≡◌, ℕ, ◌<◌, ◌≤◌, ◌⊎◌, List, [], ◌∷◌, ◌++◌, fold, length}
-use Rattle.std.specs.Prelude.{slice_index_or}
-use Rattle.std.specs.Prelude.{Bool, true, false, drop, Option, Some, None}
+use Rattle.std.specs.Prelude.{slice_index_or, Bool, true, false, drop, Option, Some, None}
 use Rattle.std.specs.List.{Contains}
 use Rattle.sts_model.specs.declared.event.Event.{Event}
 use Rattle.sts_model.specs.declared.event.Event.TheVariants.{Step}

@@ -1,7 +1,7 @@
 //! The search.
 
-ghost use Rattle.std.specs.Prelude.{◌≡◌, ◌<◌, length, true, IfOk, IfSome, IsNone, OnOk, fold};
-ghost use Rattle.std.specs.Prelude.{slice_index_or, None, [], ◌∷◌};
+ghost use Rattle.std.specs.Prelude.{◌≡◌, ◌<◌, length, true, IfOk, IfSome, IsNone, OnOk};
+ghost use Rattle.std.specs.Prelude.{None, [], ◌∷◌};
 ghost use Rattle.ends_search.specs.Search.{IsAmong, IsSpace, IsKept, Grows, LeadsInto, Follows};
 ghost use Rattle.ends_search.specs.Search.{CanAt, FoundMore, IsWay, no_origin, state_at, states_of};
 

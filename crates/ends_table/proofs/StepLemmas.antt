@@ -1,13 +1,10 @@
 -- The states to which each instruction leads.
-use Rattle.std.proofs.Common.{◌≡◌, ℕ, pos, List, [], ◌∷◌, Bool, true, false, Option, Some}
-use Rattle.std.proofs.Common.{refl, sym, ◌∙◌, subst, is_some}
+use Rattle.std.proofs.Common.{◌≡◌, ℕ, pos, List, [], ◌∷◌, Bool, true, false, Option, Some, refl, sym, ◌∙◌, subst, is_some}
 use Rattle.std.specs.Prelude.{unwrap_or, slice_get, drop}
 use Rattle.sts_code.specs.Program.{Program}
 use Rattle.sts_code.specs.declared.instr.Instr.{Instr}
-use Rattle.sts_code.specs.declared.instr.Instr.TheVariants.{Open, Fork, Join, Close, Cancelled}
-use Rattle.sts_code.specs.declared.instr.Instr.TheVariants.{Case, Get, Except, Tally, Total}
-use Rattle.sts_code.specs.declared.instr.Instr.TheVariants.{Bind, Unbind, Read, Bound, OrElse}
-use Rattle.sts_code.specs.declared.instr.Instr.TheVariants.{Interrupted, Ret, Fail}
+use Rattle.sts_code.specs.declared.instr.Instr.TheVariants.{Open, Fork, Join, Close, Cancelled, Case, Get, Except, Tally, Total, Bind, Unbind, Read, Bound}
+use Rattle.sts_code.specs.declared.instr.Instr.TheVariants.{OrElse, Interrupted, Ret, Fail}
 use Rattle.sts_code.specs.declared.instr.Joiner.{Joiner}
 use Rattle.sts_code.specs.declared.instr.Kind.{Kind}
 use Rattle.sts_model.specs.declared.event.End.TheVariants.{Success, Failed}
@@ -22,16 +19,11 @@ use Rattle.laws_calls.specs.declared.table.Call.{Call}
 use Rattle.laws_calls.specs.declared.table.Own.{Own}
 use Rattle.laws_calls.specs.declared.table.Seen.{Seen}
 use Rattle.laws_calls.specs.declared.table.Part.{Part}
-use Rattle.laws_calls.specs.Steps.{Table, Leads, LeadsBy, Forks, born_by, Owns, Knows, to, alone, pushes, forked, opened, closed}
-use Rattle.laws_calls.specs.Steps.{local_step, read_step, bound_step, or_else_step, bind_step}
-use Rattle.laws_calls.specs.Steps.{unbind_step, calm_step, interrupted_step, lent_step}
-use Rattle.laws_calls.specs.Steps.{lent_cancelled_step, going_step, cancelled_step, expired_step, open_step}
-use Rattle.laws_calls.specs.Steps.{unstarted_step, close_step, attempted_step, timeout_step}
-use Rattle.laws_calls.specs.Steps.{by_one_step, by_count_step, heard_step, none_step, success_step}
-use Rattle.laws_calls.specs.Steps.{failure_step, missed_step, get_step, except_step}
-use Rattle.laws_calls.specs.Steps.{tally_step, total_step}
-use Rattle.laws_calls.specs.Steps.{is_cancelled, may_decide, may_be_late}
-use Rattle.laws_calls.specs.Steps.{with_seen, after_cancel, after_expiry}
+use Rattle.laws_calls.specs.Steps.{Table, Leads, LeadsBy, Forks, born_by, Owns, Knows, to, alone, pushes, forked, opened, closed, local_step, read_step}
+use Rattle.laws_calls.specs.Steps.{bound_step, or_else_step, bind_step, unbind_step, calm_step, interrupted_step, lent_step, lent_cancelled_step, going_step}
+use Rattle.laws_calls.specs.Steps.{cancelled_step, expired_step, open_step, unstarted_step, close_step, attempted_step, timeout_step, by_one_step}
+use Rattle.laws_calls.specs.Steps.{by_count_step, heard_step, none_step, success_step, failure_step, missed_step, get_step, except_step, tally_step, total_step}
+use Rattle.laws_calls.specs.Steps.{is_cancelled, may_decide, may_be_late, with_seen, after_cancel, after_expiry}
 use Rattle.ends_table.specs.Answered.{TalliesLead, TotalsLead}
 use Rattle.ends_table.specs.Led.{AllLead, LooksLead, AttemptLeads, JoinsLead, CasesLead, ReadsLead, read_of}
 

@@ -1,8 +1,7 @@
 -- In each state the numbers that count and the room that is left add up to what the root was given.
 -- This follows from who owns what.
-use Rattle.std.proofs.Common.{◌≡◌, ℕ, zero, suc, ◌+◌, ◌-◌, ◌<◌, ◌≤◌, List, [], ◌∷◌, Bool, true}
-use Rattle.std.proofs.Common.{false, Option, Some, None, refl, sym, ◌∙◌, length, arith, get_or}
-use Rattle.std.proofs.Common.{cond, not, ◌||◌, is_none}
+use Rattle.std.proofs.Common.{◌≡◌, ℕ, zero, suc, ◌+◌, ◌-◌, ◌<◌, ◌≤◌, List, [], ◌∷◌, Bool, true, false, Option, Some, None, refl, sym, ◌∙◌, length, arith}
+use Rattle.std.proofs.Common.{get_or, cond, not, ◌||◌, is_none}
 use Rattle.std.specs.Prelude.{sum_by, filter_map, ◌==◌}
 use Rattle.std.specs.List.{list_any}
 use Rattle.std.proofs.lemmas.Bool.Decides.{nat_tests}
@@ -18,17 +17,14 @@ use Rattle.sts_model.specs.World.{World, task_at, scope_at, no_task, no_scope}
 use Rattle.sts_model.specs.Living.{lives, is_closed, is_subtask}
 use Rattle.sts_model.specs.Misuse.{is_entry_of}
 use Rattle.sts_model.specs.Environment.{bound_of}
-use Rattle.sts_model.specs.Standing.{is_standing_scope, is_standing_task, standing_tasks}
-use Rattle.sts_model.specs.Standing.{standing_scopes, standing_bindings}
+use Rattle.sts_model.specs.Standing.{is_standing_scope, is_standing_task, standing_tasks, standing_scopes, standing_bindings}
 use Rattle.laws_runs.proofs.SoundLemmas.{Sound}
 use Rattle.laws_runs.proofs.BirthLemmas.{born_alive}
 use Rattle.laws_runs.proofs.EntryLemmas.{Has, times_in}
 use Rattle.laws_accepted.proofs.Points.{has-rest}
 use Rattle.laws_runs.proofs.EnteredLemmas.{Entered, some_times, times_none}
-use Rattle.laws_accepted.specs.Costs.{Peak, tasks_peak, scopes_peak, binds_peak, share}
-use Rattle.laws_accepted.specs.Costs.{subtask_shares, entry_use, use_of, slack, room}
-use Rattle.laws_accepted.proofs.Sums.{upto, upto-same, upto-none, upto-only, sum-same, sum-none}
-use Rattle.laws_accepted.proofs.Sums.{sum-only, sum-add, sum-upto, sum-times, sum-once, sum-places}
+use Rattle.laws_accepted.specs.Costs.{Peak, tasks_peak, scopes_peak, binds_peak, share, subtask_shares, entry_use, use_of, slack, room}
+use Rattle.laws_accepted.proofs.Sums.{upto, upto-same, upto-none, upto-only, sum-same, sum-none, sum-only, sum-add, sum-upto, sum-times, sum-once, sum-places}
 use Rattle.laws_accepted.proofs.Sums.{sum-cond}
 
 -- ---- what is known of a state

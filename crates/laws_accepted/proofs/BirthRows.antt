@@ -1,7 +1,6 @@
 -- The places after `open` and `fork`, and how a task begins.
-use Rattle.std.proofs.Common.{◌≡◌, ℕ, zero, suc, ◌+◌, ◌<◌, ◌⊎◌, inl, inr, List, [], ◌∷◌, length}
-use Rattle.std.proofs.Common.{replicate, Bool, true, false, Option, Some, None, refl, sym, ◌∙◌, not}
-use Rattle.std.proofs.Common.{arith, get_or, set, length-set, get_or-set_same, subst, ◌||◌}
+use Rattle.std.proofs.Common.{◌≡◌, ℕ, zero, suc, ◌+◌, ◌<◌, ◌⊎◌, inl, inr, List, [], ◌∷◌, length, replicate, Bool, true, false, Option, Some, None, refl, sym}
+use Rattle.std.proofs.Common.{◌∙◌, not, arith, get_or, set, length-set, get_or-set_same, subst, ◌||◌}
 use Rattle.std.specs.Prelude.{ℤ, slice_set, ◌==◌}
 use Rattle.std.specs.List.{list_any}
 use Rattle.std.proofs.Math.Seq.{get_or-append_seam}

@@ -1,6 +1,5 @@
 -- Each task but the root and each scope was born by a step.
-use Rattle.std.proofs.Common.{ℕ, ◌+◌, ◌≤◌, [], ◌∷◌, ◌++◌, Bool, Option, refl, length, arith}
-use Rattle.std.proofs.Common.{length-set, length-append}
+use Rattle.std.proofs.Common.{ℕ, ◌+◌, ◌≤◌, [], ◌∷◌, ◌++◌, Bool, Option, refl, length, arith, length-set, length-append}
 use Rattle.sts_code.specs.Program.{Program, routine}
 use Rattle.sts_code.specs.declared.instr.Instr.{Instr}
 use Rattle.sts_code.specs.declared.instr.Instr.TheVariants.{Open, Fork, Ret, Fail}

@@ -1,6 +1,5 @@
 -- The place after `close`, at its first step and at its last.
-use Rattle.std.proofs.Common.{◌≡◌, ℕ, ◌<◌, inl, List, [], ◌∷◌, length, map, drop, Bool, true}
-use Rattle.std.proofs.Common.{false, Some, refl, sym, ◌∙◌, ap, subst, cond, get_or, arith, not}
+use Rattle.std.proofs.Common.{◌≡◌, ℕ, ◌<◌, inl, List, [], ◌∷◌, length, map, drop, Bool, true, false, Some, refl, sym, ◌∙◌, ap, subst, cond, get_or, arith, not}
 use Rattle.std.proofs.Common.{◌||◌, length-set, get_or-set_same, get_or-set_other}
 use Rattle.std.specs.Prelude.{◌==◌}
 use Rattle.std.specs.List.{list_any}

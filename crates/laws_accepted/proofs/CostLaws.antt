@@ -1,6 +1,5 @@
 -- The laws of costs.
-use Rattle.std.proofs.Common.{◌≡◌, ℕ, ◌+◌, ◌-◌, ◌<◌, ◌≤◌, inl, List, [], ◌∷◌, Bool, true, false}
-use Rattle.std.proofs.Common.{Some, refl, ◌∙◌, ap, length, arith, take, get_or}
+use Rattle.std.proofs.Common.{◌≡◌, ℕ, ◌+◌, ◌-◌, ◌<◌, ◌≤◌, inl, List, [], ◌∷◌, Bool, true, false, Some, refl, ◌∙◌, ap, length, arith, take, get_or}
 use Rattle.std.specs.Prelude.{sum_by}
 use Rattle.std.proofs.lemmas.List.{get_or-take}
 use Rattle.std.proofs.lemmas.List.Sums.{sum_by-cons, get_or-le-sum_by}
@@ -16,10 +15,8 @@ use Rattle.sts_model.specs.Living.{lives}
 use Rattle.sts_model.specs.Misuse.{slot}
 use Rattle.sts_model.specs.Standing.{is_standing_task}
 use Rattle.sts_model.specs.Waiting.{stand_at}
-use Rattle.sts_rules.specs.ControlPaths.{GoesTo, OpenEntry, OpenScope, OpenBinding, Loops, Comes}
-use Rattle.sts_rules.specs.ControlPaths.{start, step}
-use Rattle.sts_rules.specs.Budget.{shape_of, skeleton, budget_at, no_budget, entry_sum, entries_sum}
-use Rattle.sts_rules.specs.Budget.{entries_of, steps_of, tasks_sum, scopes_sum, binds_sum}
+use Rattle.sts_rules.specs.ControlPaths.{GoesTo, OpenEntry, OpenScope, OpenBinding, Loops, Comes, start, step}
+use Rattle.sts_rules.specs.Budget.{shape_of, skeleton, budget_at, no_budget, entry_sum, entries_sum, entries_of, steps_of, tasks_sum, scopes_sum, binds_sum}
 use Rattle.sts_model.specs.Run.{after, taken}
 use Rattle.laws_runs.specs.Runs.{In}
 use Rattle.laws_runs.proofs.BirthLemmas.{born_alive}
@@ -27,16 +24,11 @@ use Rattle.laws_runs.proofs.EventLemmas.{Also}
 use Rattle.laws_accepted.proofs.TimelyLemmas.{Timely, timely-after}
 use Rattle.sts_budget.proofs.PathLemmas.{are_within}
 use Rattle.sts_budget.proofs.CheckedLemmas.{is_checked}
-use Rattle.laws_accepted.specs.Points.{TasksFollowPaths, IdleHaveNoEntries, LoopsHaveTurns}
-use Rattle.laws_accepted.specs.Points.{HasTurns, Point, loops_of}
-use Rattle.laws_accepted.specs.Costs.{HasBudgets, Costs, AreTyped, TypedCosts, main_budget}
-use Rattle.laws_accepted.specs.Costs.{StepsAreWithin, LeavesSteps, StepsAreLeft, LeavesAStep}
-use Rattle.laws_accepted.specs.Costs.{AStepIsLeft, steps_begun, TasksAreWithin, ScopesAreWithin}
-use Rattle.laws_accepted.specs.Costs.{BindsAreWithin, Peak, tasks_peak, scopes_peak, binds_peak}
-use Rattle.laws_accepted.specs.Costs.{share, use_of, entry_use, slack, room, RoomAddsUp}
-use Rattle.laws_accepted.specs.Costs.{RoomIsSlack, HasRoomFor, HasRoom, RoomIsLeft}
-use Rattle.laws_accepted.proofs.Balance.{Thrifty, not_standing, balance_tasks, balance_scopes}
-use Rattle.laws_accepted.proofs.Balance.{balance_binds}
+use Rattle.laws_accepted.specs.Points.{TasksFollowPaths, IdleHaveNoEntries, LoopsHaveTurns, HasTurns, Point, loops_of}
+use Rattle.laws_accepted.specs.Costs.{HasBudgets, Costs, AreTyped, TypedCosts, main_budget, StepsAreWithin, LeavesSteps, StepsAreLeft, LeavesAStep, AStepIsLeft}
+use Rattle.laws_accepted.specs.Costs.{steps_begun, TasksAreWithin, ScopesAreWithin, BindsAreWithin, Peak, tasks_peak, scopes_peak, binds_peak, share, use_of}
+use Rattle.laws_accepted.specs.Costs.{entry_use, slack, room, RoomAddsUp, RoomIsSlack, HasRoomFor, HasRoom, RoomIsLeft}
+use Rattle.laws_accepted.proofs.Balance.{Thrifty, not_standing, balance_tasks, balance_scopes, balance_binds}
 use Rattle.laws_accepted.proofs.Flow.{Positive, positive, goes_to}
 use Rattle.laws_accepted.proofs.Points.{measure_of, zips_use, sum_forked}
 use Rattle.laws_accepted.proofs.Turns.{waits-few}

@@ -1,7 +1,6 @@
 -- Costs over whole runs.
-use Rattle.std.proofs.Common.{◌≡◌, ℕ, zero, suc, ◌+◌, ◌-◌, ◌<◌, List, [], ◌∷◌, ◌++◌, Bool, true}
-use Rattle.std.proofs.Common.{false, Option, Some, None, refl, sym, subst, length, arith, cond}
-use Rattle.std.proofs.Common.{◌&&◌, append_assoc}
+use Rattle.std.proofs.Common.{◌≡◌, ℕ, zero, suc, ◌+◌, ◌-◌, ◌<◌, List, [], ◌∷◌, ◌++◌, Bool, true, false, Option, Some, None, refl, sym, subst, length, arith}
+use Rattle.std.proofs.Common.{cond, ◌&&◌, append_assoc}
 use Rattle.std.specs.Prelude.{slice_index_or}
 use Rattle.std.proofs.lemmas.List.{append-nil}
 use Rattle.std.proofs.lemmas.Bool.{cond_both, and_parts}
@@ -12,8 +11,7 @@ use Rattle.sts_model.specs.declared.event.Event.{Event}
 use Rattle.sts_model.specs.declared.event.Event.TheVariants as event
 use Rattle.sts_model.specs.declared.event.Fault.{Fault}
 use Rattle.sts_model.specs.declared.record.Slot.TheVariants as slots
-use Rattle.sts_model.specs.World.{World, State, Running, Faulted, task_at, scope_at, no_task}
-use Rattle.sts_model.specs.World.{instr_at, with_task, with_scope}
+use Rattle.sts_model.specs.World.{World, State, Running, Faulted, task_at, scope_at, no_task, instr_at, with_task, with_scope}
 use Rattle.sts_model.specs.Living.{lives}
 use Rattle.sts_model.specs.Misuse.{misuse}
 use Rattle.sts_model.proofs.FineLemmas.{fine}
@@ -33,8 +31,7 @@ use Rattle.laws_accepted.proofs.TimelyLemmas.{Timely, timely-after}
 use Rattle.laws_accepted.specs.Points.{Point}
 use Rattle.laws_accepted.specs.Costs.{steps_begun, main_budget}
 use Rattle.laws_accepted.proofs.RangeLemmas.{some_function}
-use Rattle.laws_accepted.proofs.Turns.{IsLike, Alike, alike-refl, alike-trans, alike-scope}
-use Rattle.laws_accepted.proofs.Turns.{alike-cancel, turned-frame, each-task, waits-stay}
+use Rattle.laws_accepted.proofs.Turns.{IsLike, Alike, alike-refl, alike-trans, alike-scope, alike-cancel, turned-frame, each-task, waits-stay}
 use Rattle.laws_accepted.proofs.Good.{IsCosted, Good, Placed, good_alike}
 use Rattle.laws_accepted.proofs.Effects.{good_effect}
 

@@ -1,8 +1,6 @@
 -- Every instruction that is no misuse keeps the facts about costs, with one step more.
-use Rattle.std.proofs.Common.{◌≡◌, ℕ, ◌+◌, ◌<◌, ◌≤◌, inl, List, [], ◌∷◌, ◌++◌, Bool, true, false}
-use Rattle.std.proofs.Common.{Option, Some, None, refl, sym, ◌∙◌, ap, subst, length, arith, cond}
-use Rattle.std.proofs.Common.{take, not, ◌&&◌, drop, get_or-set_same, get_or-set_other}
-use Rattle.std.proofs.Common.{length-set}
+use Rattle.std.proofs.Common.{◌≡◌, ℕ, ◌+◌, ◌<◌, ◌≤◌, inl, List, [], ◌∷◌, ◌++◌, Bool, true, false, Option, Some, None, refl, sym, ◌∙◌, ap, subst, length, arith}
+use Rattle.std.proofs.Common.{cond, take, not, ◌&&◌, drop, get_or-set_same, get_or-set_other, length-set}
 use Rattle.std.specs.Prelude.{nat_lt, unwrap_or, pos, is_some}
 use Rattle.std.proofs.lemmas.Bool.{cond_both, or_parts, and_parts, not-false}
 use Rattle.std.proofs.lemmas.Bool.Decides.{nat_tests}
@@ -10,10 +8,8 @@ use Rattle.std.proofs.lemmas.Option.{get_or_from_slice_get}
 use Rattle.std.proofs.lemmas.List.{length-map, get_or_append_left}
 use Rattle.sts_code.specs.Program.{Program, routine}
 use Rattle.sts_code.specs.declared.instr.Instr.{Instr}
-use Rattle.sts_code.specs.declared.instr.Instr.TheVariants.{Open, Fork, Join, Close, Cancelled}
-use Rattle.sts_code.specs.declared.instr.Instr.TheVariants.{Case, Get, Except, Tally, Total}
-use Rattle.sts_code.specs.declared.instr.Instr.TheVariants.{Bind, Unbind, Read, Bound, OrElse}
-use Rattle.sts_code.specs.declared.instr.Instr.TheVariants.{Interrupted, Ret, Fail}
+use Rattle.sts_code.specs.declared.instr.Instr.TheVariants.{Open, Fork, Join, Close, Cancelled, Case, Get, Except, Tally, Total, Bind, Unbind, Read, Bound}
+use Rattle.sts_code.specs.declared.instr.Instr.TheVariants.{OrElse, Interrupted, Ret, Fail}
 use Rattle.sts_code.specs.declared.instr.Joiner.{Joiner}
 use Rattle.sts_rules.specs.declared.budget.Budgets.{Budgets}
 use Rattle.sts_model.specs.declared.event.End.{End}
@@ -27,21 +23,17 @@ use Rattle.sts_model.specs.declared.record.Slot.TheVariants as slots
 use Rattle.sts_model.specs.declared.record.Frame.{Frame}
 use Rattle.sts_model.specs.declared.record.Task.{Task}
 use Rattle.sts_model.specs.declared.record.Scope.{Scope}
-use Rattle.sts_model.specs.World.{World, task_at, scope_at, no_task, no_scope, code, with_scope}
-use Rattle.sts_model.specs.World.{with_frame, instr_at}
+use Rattle.sts_model.specs.World.{World, task_at, scope_at, no_task, no_scope, code, with_scope, with_frame, instr_at}
 use Rattle.sts_code.specs.Program as program
 use Rattle.sts_model.specs.Local.{local, emptied_slot, stays_in_frame, goes, steps, operand, truth}
 use Rattle.sts_model.specs.Environment.{environment_of, read}
 use Rattle.sts_model.specs.Living.{lives, any_lives, sub_state, ends}
 use Rattle.sts_model.specs.Joining.{cancels}
 use Rattle.sts_model.specs.Cancelling.{cancel}
-use Rattle.sts_model.specs.Misuse.{slot, is_scope, is_lent, is_sub, is_empty, at_slot}
-use Rattle.sts_model.specs.Misuse.{is_entry_of, innermost, joins_wrongly}
+use Rattle.sts_model.specs.Misuse.{slot, is_scope, is_lent, is_sub, is_empty, at_slot, is_entry_of, innermost, joins_wrongly}
 use Rattle.sts_model.specs.Waiting.{stand_at, stand_at_instr, can_go, stands_at_close, is_closing}
-use Rattle.sts_model.specs.Effect.{effect, named, with_phase, close_scope, closed, cleared, is_of}
-use Rattle.sts_model.specs.Effect.{open_scope, fork_task, subtask_of, forked, bind, unbind}
-use Rattle.sts_model.specs.Effect.{value_or_zero, tally, total, told, decide, tell, ended, end_task}
-use Rattle.sts_model.specs.Effect.{case_target}
+use Rattle.sts_model.specs.Effect.{effect, named, with_phase, close_scope, closed, cleared, is_of, open_scope, fork_task, subtask_of, forked, bind, unbind}
+use Rattle.sts_model.specs.Effect.{value_or_zero, tally, total, told, decide, tell, ended, end_task, case_target}
 use Rattle.sts_rules.specs.ControlPaths.{OpenEntry, GoesTo, Follows}
 use Rattle.sts_rules.specs.Budget.{budget_at, entries_of, steps_of, shape_of}
 use Rattle.laws_runs.specs.Later.{Later}
@@ -57,14 +49,11 @@ use Rattle.laws_accepted.specs.Points.{loops_of, skeleton_of}
 use Rattle.laws_accepted.specs.Costs.{steps_begun}
 use Rattle.laws_accepted.proofs.Flow.{GoesOn, positive, goes_to}
 use Rattle.laws_accepted.proofs.Points.{zips_map}
-use Rattle.laws_accepted.proofs.Turns.{Alike, Turned, like-refl, like-lives, alike-refl}
-use Rattle.laws_accepted.proofs.Turns.{alike-trans, alike-scope, alike-cancel, turned-task}
-use Rattle.laws_accepted.proofs.Turns.{turned-then, turned-frame, waits-few, waits-stay}
-use Rattle.laws_accepted.proofs.Good.{IsCosted, Good, point_next, point_map, steps_left}
-use Rattle.laws_accepted.proofs.Good.{turned_lent, good_turn}
-use Rattle.laws_accepted.proofs.Moves.{Moves, moves_same, moves_next, case_among}
-use Rattle.laws_accepted.proofs.Moves.{moves_join, entering_bind, entering_unbind, entering_write}
-use Rattle.laws_accepted.proofs.Moves.{entering_open, entering_close}
+use Rattle.laws_accepted.proofs.Turns.{Alike, Turned, like-refl, like-lives, alike-refl, alike-trans, alike-scope, alike-cancel, turned-task, turned-then}
+use Rattle.laws_accepted.proofs.Turns.{turned-frame, waits-few, waits-stay}
+use Rattle.laws_accepted.proofs.Good.{IsCosted, Good, point_next, point_map, steps_left, turned_lent, good_turn}
+use Rattle.laws_accepted.proofs.Moves.{Moves, moves_same, moves_next, case_among, moves_join, entering_bind, entering_unbind, entering_write, entering_open}
+use Rattle.laws_accepted.proofs.Moves.{entering_close}
 use Rattle.laws_accepted.proofs.Forks.{good_fork}
 use Rattle.laws_accepted.proofs.FrameRows.{emptied-sub, in_frame_goes}
 use Rattle.laws_accepted.proofs.RangeLemmas.{opens_in_range}

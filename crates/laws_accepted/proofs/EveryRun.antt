@@ -10,8 +10,7 @@ use Rattle.sts_rules.specs.Refusal.{IsAccepted, IsBudgetOf}
 use Rattle.sts_model.specs.Run.{after, taken}
 use Rattle.laws_runs.specs.States.{ClosedIsEmpty, RootEndsLast, GoesOn, SomeTaskSteps}
 use Rattle.laws_runs.specs.Runs.{In, NeverFaults}
-use Rattle.laws_accepted.specs.Costs.{main_budget, StepsAreWithin, AStepIsLeft, LeavesAStep}
-use Rattle.laws_accepted.specs.Costs.{TasksAreWithin, ScopesAreWithin, BindsAreWithin}
+use Rattle.laws_accepted.specs.Costs.{main_budget, StepsAreWithin, AStepIsLeft, LeavesAStep, TasksAreWithin, ScopesAreWithin, BindsAreWithin}
 use Rattle.laws_accepted.specs.Accepted as accepted
 use Rattle.laws_accepted.specs.Accepted.{main_of, AllFine, LivingTasksAreFine, HasStepsLeft}
 use Rattle.laws_accepted.specs.EveryRun.{RunsWell, ClosedAreEmpty, RootIsLast}

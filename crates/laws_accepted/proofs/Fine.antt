@@ -1,16 +1,14 @@
 -- A typed task misuses nothing, if there is room.
-use Rattle.std.proofs.Common.{◌≡◌, ℕ, ◌+◌, ◌-◌, List, [], ◌∷◌, length, map, Bool, true, false}
-use Rattle.std.proofs.Common.{Option, Some, None, refl, sym, ◌∙◌, ap, subst, cond, arith, not, ◌||◌}
-use Rattle.std.proofs.Common.{◌&&◌}
+use Rattle.std.proofs.Common.{◌≡◌, ℕ, ◌+◌, ◌-◌, List, [], ◌∷◌, length, map, Bool, true, false, Option, Some, None, refl, sym, ◌∙◌, ap, subst, cond, arith, not}
+use Rattle.std.proofs.Common.{◌||◌, ◌&&◌}
 use Rattle.std.specs.Prelude.{◌==◌, nat_le, nat_lt, is_some, is_none}
 use Rattle.std.proofs.lemmas.Bool.Decides.{nat_tests}
 use Rattle.std.proofs.lemmas.List.{length-map}
 use Rattle.sts_code.specs.Checks.{program_fault}
 use Rattle.sts_code.specs.Program.{Program}
 use Rattle.sts_code.specs.declared.instr.Instr.{Instr}
-use Rattle.sts_code.specs.declared.instr.Instr.TheVariants.{Times, Next, Open, Fork, Join, Close}
-use Rattle.sts_code.specs.declared.instr.Instr.TheVariants.{Cancelled, Get, Except, Tally, Total}
-use Rattle.sts_code.specs.declared.instr.Instr.TheVariants.{Bind, Unbind, Read, Ret, Fail}
+use Rattle.sts_code.specs.declared.instr.Instr.TheVariants.{Times, Next, Open, Fork, Join, Close, Cancelled, Get, Except, Tally, Total, Bind, Unbind, Read, Ret}
+use Rattle.sts_code.specs.declared.instr.Instr.TheVariants.{Fail}
 use Rattle.sts_code.specs.declared.profile.Profile.{Profile}
 use Rattle.sts_code.specs.declared.profile.Profile.TheVariants.{One, Two}
 use Rattle.sts_model.specs.declared.event.End.{End}
@@ -48,8 +46,7 @@ use Rattle.std.proofs.lemmas.Bool.{or_parts, not-false, and_from, not_from_true,
 use Rattle.laws_words.proofs.BoolLemmas.{other_false}
 use Rattle.laws_runs.proofs.FrameLemmas.{own_slot, at_own-is}
 use Rattle.laws_runs.proofs.EffectLemmas.{first_no}
-use Rattle.laws_accepted.specs.Typed.{closes, fits_phase, crowds, is_due, Covers, FitsEntry}
-use Rattle.laws_accepted.specs.Typed.{FitsSlot, Zips, is_known}
+use Rattle.laws_accepted.specs.Typed.{closes, fits_phase, crowds, is_due, Covers, FitsEntry, FitsSlot, Zips, is_known}
 use Rattle.laws_accepted.proofs.Zips.{zips-length}
 use Rattle.laws_accepted.proofs.Stands.{Stands, not_closing}
 use Rattle.laws_accepted.proofs.Checked.{instr_checked}

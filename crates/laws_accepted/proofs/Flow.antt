@@ -1,6 +1,5 @@
 -- A task goes on as the control paths of its function do.
-use Rattle.std.proofs.Common.{◌≡◌, ℕ, suc, ◌+◌, ◌-◌, ◌<◌, ◌≤◌, inl, inr, List, [], ◌∷◌, Bool}
-use Rattle.std.proofs.Common.{true, false, refl, sym, ◌∙◌, ap, subst, arith, cond, not}
+use Rattle.std.proofs.Common.{◌≡◌, ℕ, suc, ◌+◌, ◌-◌, ◌<◌, ◌≤◌, inl, inr, List, [], ◌∷◌, Bool, true, false, refl, sym, ◌∙◌, ap, subst, arith, cond, not}
 use Rattle.std.specs.Prelude.{nat_le, ◌==◌, unwrap_or, pos}
 use Rattle.std.specs.Int.{int_wrapping_div, w64}
 use Rattle.std.specs.Ordering.{int_eq}
@@ -9,9 +8,7 @@ use Rattle.std.proofs.lemmas.Bool.Decides.{nat_tests}
 use Rattle.std.proofs.Math.Nat.{pos_of_ne-zero}
 use Rattle.sts_code.specs.Program.{Program, instr_at}
 use Rattle.sts_code.specs.declared.instr.Instr.{Instr}
-use Rattle.sts_code.specs.declared.instr.Instr.TheVariants.{Push, Pop, Dup, Swap, Load, Store, Add}
-use Rattle.sts_code.specs.declared.instr.Instr.TheVariants.{Sub, Mul, Lt, Eq, Div, Jmp, Jz, Times}
-use Rattle.sts_code.specs.declared.instr.Instr.TheVariants.{Next}
+use Rattle.sts_code.specs.declared.instr.Instr.TheVariants.{Push, Pop, Dup, Swap, Load, Store, Add, Sub, Mul, Lt, Eq, Div, Jmp, Jz, Times, Next}
 use Rattle.sts_rules.specs.declared.budget.Budgets.{Budgets}
 use Rattle.sts_model.specs.declared.record.Frame.{Frame}
 use Rattle.sts_model.specs.declared.record.Loop.{Loop}
@@ -20,9 +17,8 @@ use Rattle.sts_model.specs.Local.{local, is_local, turns, enters, clipped, opera
 use Rattle.sts_code.specs.Loops.{match_of}
 use Rattle.sts_model.specs.Misuse.{breaks_loop, closes_loop}
 use Rattle.laws_accepted.specs.Points.{loops_of, skeleton_of}
-use Rattle.sts_rules.specs.ControlPaths.{GoesTo, Repeats, EndsTurn, Skeleton, OpenEntry, Among}
-use Rattle.sts_rules.specs.ControlPaths.{Loops, Follows, go, skip, enter, again, leave, Comes}
-use Rattle.sts_rules.specs.ControlPaths.{start, step}
+use Rattle.sts_rules.specs.ControlPaths.{GoesTo, Repeats, EndsTurn, Skeleton, OpenEntry, Among, Loops, Follows, go, skip, enter, again, leave, Comes, start}
+use Rattle.sts_rules.specs.ControlPaths.{step}
 use Rattle.sts_rules.specs.Budget.{shape_of}
 use Rattle.sts_model.proofs.LocalLemmas.{clipped_few}
 

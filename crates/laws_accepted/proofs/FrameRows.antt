@@ -1,6 +1,5 @@
 -- The places after instructions that only change the frame.
-use Rattle.std.proofs.Common.{◌≡◌, ℕ, ◌+◌, ◌-◌, inl, inr, List, [], ◌∷◌, drop, true, false}
-use Rattle.std.proofs.Common.{Option, Some, None, refl, sym, ◌∙◌, not, arith, get_or, set}
+use Rattle.std.proofs.Common.{◌≡◌, ℕ, ◌+◌, ◌-◌, inl, inr, List, [], ◌∷◌, drop, true, false, Option, Some, None, refl, sym, ◌∙◌, not, arith, get_or, set}
 use Rattle.std.proofs.Common.{length-set}
 use Rattle.std.specs.Prelude.{ℤ, slice_set}
 use Rattle.sts_code.specs.Program.{Program, routine, instr_at}

@@ -1,8 +1,7 @@
 -- Facts of every state of a run of a program with budgets. Each living task is at a point of a
 -- control path. The steps that are left to all tasks together are part of the root's.
-use Rattle.std.proofs.Common.{◌≡◌, ℕ, ◌+◌, ◌-◌, ◌<◌, ◌≤◌, List, [], true, false, None, sym, ◌∙◌, ap}
-use Rattle.std.proofs.Common.{subst, length, arith, get_or, set, take, length-set, get_or-set_same}
-use Rattle.std.proofs.Common.{get_or-set_other}
+use Rattle.std.proofs.Common.{◌≡◌, ℕ, ◌+◌, ◌-◌, ◌<◌, ◌≤◌, List, [], true, false, None, sym, ◌∙◌, ap, subst, length, arith, get_or, set, take, length-set}
+use Rattle.std.proofs.Common.{get_or-set_same, get_or-set_other}
 use Rattle.std.specs.Prelude.{sum_by}
 use Rattle.std.proofs.lemmas.List.Sums.{sum_by-set}
 use Rattle.sts_code.specs.Program.{Program, routine, instr_at}

@@ -1,8 +1,6 @@
 -- The place after `join`.
-use Rattle.std.proofs.Common.{◌≡◌, ℕ, ◌+◌, ◌<◌, inl, inr, List, [], ◌∷◌, ◌++◌, length, Bool, true}
-use Rattle.std.proofs.Common.{false, Option, Some, None, refl, sym, ◌∙◌, ap, subst, cond, get_or}
-use Rattle.std.proofs.Common.{arith, not, ◌||◌, unwrap_or, length-append, get_or-set_same}
-use Rattle.std.proofs.Common.{get_or-set_other}
+use Rattle.std.proofs.Common.{◌≡◌, ℕ, ◌+◌, ◌<◌, inl, inr, List, [], ◌∷◌, ◌++◌, length, Bool, true, false, Option, Some, None, refl, sym, ◌∙◌, ap, subst, cond}
+use Rattle.std.proofs.Common.{get_or, arith, not, ◌||◌, unwrap_or, length-append, get_or-set_same, get_or-set_other}
 use Rattle.std.specs.Prelude.{ℤ, pos, ◌==◌, is_some, find, option_map}
 use Rattle.std.specs.List.{list_any}
 use Rattle.std.proofs.lemmas.Bool.{cond_both, or_parts, not-false}
@@ -15,8 +13,7 @@ use Rattle.sts_code.specs.Program.{Program, routine}
 use Rattle.sts_code.specs.declared.instr.Instr.{Instr}
 use Rattle.sts_code.specs.declared.instr.Instr.TheVariants.{Join}
 use Rattle.sts_code.specs.declared.instr.Joiner.{Joiner}
-use Rattle.sts_code.specs.declared.instr.Joiner.TheVariants.{AllSucceed, AnySucceeds, AwaitOk}
-use Rattle.sts_code.specs.declared.instr.Joiner.TheVariants.{AwaitAll, Until}
+use Rattle.sts_code.specs.declared.instr.Joiner.TheVariants.{AllSucceed, AnySucceeds, AwaitOk, AwaitAll, Until}
 use Rattle.sts_model.specs.declared.event.End.{End}
 use Rattle.sts_model.specs.declared.event.End.TheVariants.{Success, Failed}
 use Rattle.sts_model.specs.declared.event.Phase.{Phase}
@@ -39,15 +36,13 @@ use Rattle.sts_model.specs.World.{World, task_at, scope_at, no_task, no_scope, w
 use Rattle.sts_model.specs.Local.{goes, steps}
 use Rattle.sts_model.specs.Joining as joining
 use Rattle.sts_model.specs.Joining.{cancels, result_of, verdict_or}
-use Rattle.sts_model.specs.Living.{any_lives, completion_of, ends, ends_of, subtask_count}
-use Rattle.sts_model.specs.Living.{sub_state}
+use Rattle.sts_model.specs.Living.{any_lives, completion_of, ends, ends_of, subtask_count, sub_state}
 use Rattle.sts_model.specs.Misuse.{slot, can_join, has_succeeded, joins_wrongly}
 use Rattle.sts_code.specs.Facts.{can_fail, same}
 use Rattle.sts_rules.specs.TypeState.{TypeState, kind, scope_in}
 use Rattle.sts_rules.specs.Causes as cause
 use Rattle.sts_rules.specs.Edges as edges
-use Rattle.sts_rules.specs.Edges.{follows, phase_set, joiner_of, ok_pushes, is_all_success}
-use Rattle.sts_rules.specs.Edges.{is_sub_of, succeeded, after_ok, raised, to_optional, join_follows}
+use Rattle.sts_rules.specs.Edges.{follows, phase_set, joiner_of, ok_pushes, is_all_success, is_sub_of, succeeded, after_ok, raised, to_optional, join_follows}
 use Rattle.sts_model.specs.Effect.{with_phase, joined, join_verdict, join_scope}
 use Rattle.sts_rules.specs.Flow.{Leads}
 use Rattle.laws_runs.specs.Later.{Later}

@@ -1,7 +1,6 @@
 -- Keys that are bound for certain are bound.
-use Rattle.std.proofs.Common.{◌≡◌, ◌≢◌, ℕ, zero, suc, ◌<◌, ◌≤◌, ◌+◌, List, [], ◌∷◌, ◌++◌, Bool}
-use Rattle.std.proofs.Common.{true, false, Some, refl, sym, ◌∙◌, cond, not, arith, subst, ◌||◌}
-use Rattle.std.proofs.Common.{◌&&◌}
+use Rattle.std.proofs.Common.{◌≡◌, ◌≢◌, ℕ, zero, suc, ◌<◌, ◌≤◌, ◌+◌, List, [], ◌∷◌, ◌++◌, Bool, true, false, Some, refl, sym, ◌∙◌, cond, not, arith, subst}
+use Rattle.std.proofs.Common.{◌||◌, ◌&&◌}
 use Rattle.std.specs.Prelude.{◌==◌, is_some, option_map, find, filter_map}
 use Rattle.std.specs.List.{list_any, range_with_len}
 use Rattle.std.proofs.lemmas.Bool.Decides.{nat_tests}

@@ -1,6 +1,5 @@
 -- The places after local instructions.
-use Rattle.std.proofs.Common.{◌≡◌, ℕ, ◌+◌, ◌-◌, ◌≤◌, inl, inr, List, [], ◌∷◌, ◌++◌, length}
-use Rattle.std.proofs.Common.{map, drop, true, false, Option, Some, None, refl, sym, ◌∙◌, ap}
+use Rattle.std.proofs.Common.{◌≡◌, ℕ, ◌+◌, ◌-◌, ◌≤◌, inl, inr, List, [], ◌∷◌, ◌++◌, length, map, drop, true, false, Option, Some, None, refl, sym, ◌∙◌, ap}
 use Rattle.std.proofs.Common.{arith, unwrap_or, length-append, length-drop}
 use Rattle.std.specs.Prelude.{ℤ, pos, is_none, nat_le, option_map, option_to_list, ◌==◌}
 use Rattle.std.specs.Int.{int_wrapping_div, w64}
@@ -9,9 +8,7 @@ use Rattle.std.proofs.lemmas.Bool.{cond_both, or_parts, not-false}
 use Rattle.std.proofs.lemmas.Bool.Decides.{nat_tests}
 use Rattle.sts_code.specs.Program.{Program, routine}
 use Rattle.sts_code.specs.declared.instr.Instr.{Instr}
-use Rattle.sts_code.specs.declared.instr.Instr.TheVariants.{Push, Pop, Dup, Swap, Load, Store, Add}
-use Rattle.sts_code.specs.declared.instr.Instr.TheVariants.{Sub, Mul, Lt, Eq, Div, Jmp, Jz, Times}
-use Rattle.sts_code.specs.declared.instr.Instr.TheVariants.{Next}
+use Rattle.sts_code.specs.declared.instr.Instr.TheVariants.{Push, Pop, Dup, Swap, Load, Store, Add, Sub, Mul, Lt, Eq, Div, Jmp, Jz, Times, Next}
 use Rattle.sts_model.specs.declared.record.Frame.{Frame}
 use Rattle.sts_model.specs.declared.record.Loop.{Loop}
 use Rattle.sts_rules.specs.declared.typing.TypedLoop.{TypedLoop}
@@ -25,8 +22,7 @@ use Rattle.sts_rules.specs.Edges.{follows, moved}
 use Rattle.sts_rules.specs.Flow.{Leads}
 use Rattle.sts_code.proofs.LoopLemmas.{match_of_bound, at_match}
 use Rattle.laws_accepted.specs.Typed.{closes}
-use Rattle.laws_accepted.proofs.Stands.{Stands, Lands, Keeps, lands-operands, fits-onward}
-use Rattle.laws_accepted.proofs.Stands.{not_closing}
+use Rattle.laws_accepted.proofs.Stands.{Stands, Lands, Keeps, lands-operands, fits-onward, not_closing}
 
 -- ---- operands
 

@@ -1,9 +1,7 @@
 -- The effect of an instruction on its own task: it goes on along a control path, with the entries
 -- of the next point.
-use Rattle.std.proofs.Common.{◌≡◌, ℕ, zero, suc, ◌+◌, ◌<◌, ◌≤◌, ◌⊎◌, inl, inr, List, [], ◌∷◌, ◌++◌}
-use Rattle.std.proofs.Common.{Bool, true, false, Option, Some, None, refl, sym, ◌∙◌, ap, subst}
-use Rattle.std.proofs.Common.{length, arith, cond, get_or, set, drop, take, not, ◌||◌}
-use Rattle.std.proofs.Common.{get_or-set_same}
+use Rattle.std.proofs.Common.{◌≡◌, ℕ, zero, suc, ◌+◌, ◌<◌, ◌≤◌, ◌⊎◌, inl, inr, List, [], ◌∷◌, ◌++◌, Bool, true, false, Option, Some, None, refl, sym, ◌∙◌, ap}
+use Rattle.std.proofs.Common.{subst, length, arith, cond, get_or, set, drop, take, not, ◌||◌, get_or-set_same}
 use Rattle.std.specs.Prelude.{◌==◌, is_some, unwrap_or, option_to_list, slice_index_or}
 use Rattle.std.proofs.lemmas.Bool.{cond_both, or_parts, not-false}
 use Rattle.std.proofs.lemmas.Bool.Decides.{nat_tests}
@@ -28,11 +26,9 @@ use Rattle.sts_model.specs.World.{World, task_at, scope_at, no_task, code}
 use Rattle.sts_model.specs.Local.{goes, steps, operand}
 use Rattle.sts_model.specs.Joining.{result_of}
 use Rattle.sts_model.specs.Living.{any_lives, ends, subtask_count, is_in, is_subtask}
-use Rattle.sts_model.specs.Misuse.{slot, is_empty, is_binding, is_entry_of, innermost}
-use Rattle.sts_model.specs.Misuse.{joins_wrongly}
+use Rattle.sts_model.specs.Misuse.{slot, is_empty, is_binding, is_entry_of, innermost, joins_wrongly}
 use Rattle.sts_code.specs.Facts.{can_fail, same}
-use Rattle.sts_model.specs.Effect.{with_phase, joined, join_verdict, join_scope, cleared, is_of}
-use Rattle.sts_model.specs.Effect.{case_target}
+use Rattle.sts_model.specs.Effect.{with_phase, joined, join_verdict, join_scope, cleared, is_of, case_target}
 use Rattle.sts_rules.specs.ControlPaths.{OpenEntry, OpenScope, OpenBinding, Among, Follows}
 use Rattle.sts_rules.specs.Budget.{entries_of}
 use Rattle.laws_runs.proofs.ListLemmas.{at_set}

@@ -1,7 +1,6 @@
 -- Accepted programs: their budgets are within the limits, and so is every state of every run.
-use Rattle.std.proofs.Common.{Some, ◌≡◌, ℕ, ◌+◌, ◌-◌, ◌<◌, ◌≤◌, ◌⊎◌, inl, inr, List, []}
-use Rattle.std.proofs.Common.{◌∷◌, ◌++◌, true, false, None, refl, sym, ◌∙◌, ap, subst, length}
-use Rattle.std.proofs.Common.{arith, take, get_or}
+use Rattle.std.proofs.Common.{Some, ◌≡◌, ℕ, ◌+◌, ◌-◌, ◌<◌, ◌≤◌, ◌⊎◌, inl, inr, List, [], ◌∷◌, ◌++◌, true, false, None, refl, sym, ◌∙◌, ap, subst, length, arith}
+use Rattle.std.proofs.Common.{take, get_or}
 use Rattle.std.specs.Prelude.{nat_le}
 use Rattle.std.proofs.lemmas.Bool.{cases_lt}
 use Rattle.std.proofs.lemmas.Bool.Decides.{nat_tests}
@@ -13,8 +12,7 @@ use Rattle.sts_code.specs.declared.instr.Instr.{Instr}
 use Rattle.sts_code.specs.declared.instr.Instr.TheVariants.{Open, Fork, Close}
 use Rattle.sts_rules.specs.declared.budget.Budgets.{Budgets}
 use Rattle.sts_model.specs.declared.event.Event.{Event}
-use Rattle.sts_rules.specs.declared.typing.Cause.TheVariants.{TooManySteps, TooManyTasks}
-use Rattle.sts_rules.specs.declared.typing.Cause.TheVariants.{TooManyScopes, TooManyBinds}
+use Rattle.sts_rules.specs.declared.typing.Cause.TheVariants.{TooManySteps, TooManyTasks, TooManyScopes, TooManyBinds}
 use Rattle.sts_model.specs.World.{World, State, Running, Faulted, task_at, instr_at}
 use Rattle.sts_code.specs.Program as program
 use Rattle.sts_model.specs.Living.{lives}
@@ -31,8 +29,7 @@ use Rattle.laws_accepted.proofs.TimelyLemmas.{Timely, timely-after}
 use Rattle.sts_budget.specs.Laws.{PointsAreWithin}
 use Rattle.sts_budget.proofs.PathLemmas.{are_within, lie_on_paths}
 use Rattle.sts_budget.proofs.CheckedLemmas.{is_checked}
-use Rattle.laws_accepted.specs.Costs.{AreTyped, main_budget, Accepted, IsModest, AcceptedIsModest}
-use Rattle.laws_accepted.specs.Costs.{HasPlaceFor, AcceptedHasPlace}
+use Rattle.laws_accepted.specs.Costs.{AreTyped, main_budget, Accepted, IsModest, AcceptedIsModest, HasPlaceFor, AcceptedHasPlace}
 use Rattle.laws_accepted.proofs.RangeLemmas.{some_function, not_more}
 use Rattle.laws_accepted.proofs.Printed.{all_typed}
 use Rattle.laws_accepted.proofs.Turns.{waits-few, waits-fork}

@@ -1,7 +1,6 @@
 -- A step of one task, or an event from outside, leaves the frames of the others and the phases of
 -- their scopes alone.
-use Rattle.std.proofs.Common.{◌≡◌, ℕ, ◌<◌, ◌≤◌, [], ◌∷◌, Bool, true, false, Option, Some, None}
-use Rattle.std.proofs.Common.{refl, sym, ◌∙◌, ap, length, arith, ◌||◌, ◌&&◌, not, unwrap_or}
+use Rattle.std.proofs.Common.{◌≡◌, ℕ, ◌<◌, ◌≤◌, [], ◌∷◌, Bool, true, false, Option, Some, None, refl, sym, ◌∙◌, ap, length, arith, ◌||◌, ◌&&◌, not, unwrap_or}
 use Rattle.std.proofs.Common.{length-set, length-append}
 use Rattle.std.proofs.lemmas.Bool.{cond_both, and_parts}
 use Rattle.std.proofs.lemmas.List.{length-map, get_or_append_left}
@@ -19,15 +18,13 @@ use Rattle.sts_model.specs.declared.record.Frame.{Frame}
 use Rattle.sts_model.specs.declared.record.Task.{Task}
 use Rattle.sts_model.specs.declared.record.Scope.{Scope}
 use Rattle.sts_model.specs.declared.record.Slot.TheVariants as slots
-use Rattle.sts_model.specs.World.{World, task_at, scope_at, no_task, no_scope, with_task}
-use Rattle.sts_model.specs.World.{with_scope, with_frame}
+use Rattle.sts_model.specs.World.{World, task_at, scope_at, no_task, no_scope, with_task, with_scope, with_frame}
 use Rattle.sts_model.specs.Local.{goes, steps, operand}
 use Rattle.sts_model.specs.Living.{lives, any_lives, ends, subtask_count}
 use Rattle.sts_model.specs.Joining.{cancels, result_of}
 use Rattle.sts_model.specs.Cancelling.{raised, marked, cancel}
 use Rattle.sts_model.specs.Misuse.{slot, IsFine}
-use Rattle.sts_model.specs.Effect.{effect, named, with_phase, joined, join_verdict, join_scope}
-use Rattle.sts_model.specs.Effect.{close_scope, told, decide, tell, ended, end_task, open_scope}
+use Rattle.sts_model.specs.Effect.{effect, named, with_phase, joined, join_verdict, join_scope, close_scope, told, decide, tell, ended, end_task, open_scope}
 use Rattle.sts_model.specs.Effect.{fork_task, subtask_of, forked}
 use Rattle.sts_model.specs.Outside.{interrupt, can_expire, expire}
 use Rattle.laws_runs.proofs.ListLemmas.{at_set, at_more}

@@ -1,6 +1,5 @@
 -- The program checks bound the slot of an `open`.
-use Rattle.std.proofs.Common.{◌≡◌, ℕ, ◌<◌, List, [], ◌∷◌, length, Bool}
-use Rattle.std.proofs.Common.{◌≤◌, ◌⊎◌, inl, inr, None, arith}
+use Rattle.std.proofs.Common.{◌≡◌, ℕ, ◌<◌, List, [], ◌∷◌, length, Bool, ◌≤◌, ◌⊎◌, inl, inr, None, arith}
 use Rattle.std.proofs.lemmas.Bool.{cases_lt, ltb-false, or_parts}
 use Rattle.sts_code.specs.Checks as def
 use Rattle.sts_code.specs.Program.{Program, Routine, routine, instr_at}

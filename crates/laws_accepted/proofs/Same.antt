@@ -24,8 +24,7 @@ use Rattle.sts_model.specs.World.{World, task_at, scope_at, instr_at}
 use Rattle.sts_model.specs.Living.{sub_state}
 use Rattle.sts_model.specs.Misuse.{slot, can_join}
 use Rattle.sts_rules.specs.TypeState.{TypeState, kind}
-use Rattle.laws_accepted.specs.Typed.{closes, fits_phase, FitsScope, FitsEntry, FitsSlot, Fits}
-use Rattle.laws_accepted.specs.Typed.{is_known}
+use Rattle.laws_accepted.specs.Typed.{closes, fits_phase, FitsScope, FitsEntry, FitsSlot, Fits, is_known}
 use Rattle.laws_accepted.proofs.Zips.{zips-map}
 
 -- ---- another world

@@ -1,6 +1,5 @@
 -- The place after each step, and that every task stays typed.
-use Rattle.std.proofs.Common.{◌≡◌, ℕ, ◌<◌, inl, List, [], ◌∷◌, length, Bool, true, false, Option}
-use Rattle.std.proofs.Common.{Some, None, refl, sym, ◌∙◌, ap, subst, get_or, arith, not}
+use Rattle.std.proofs.Common.{◌≡◌, ℕ, ◌<◌, inl, List, [], ◌∷◌, length, Bool, true, false, Option, Some, None, refl, sym, ◌∙◌, ap, subst, get_or, arith, not}
 use Rattle.std.proofs.Common.{length-append, get_or-set_same}
 use Rattle.std.specs.Prelude.{nat_lt}
 use Rattle.std.proofs.lemmas.Bool.Decides.{nat_tests}
@@ -10,10 +9,8 @@ use Rattle.std.proofs.lemmas.Bool.{not_from_true}
 use Rattle.sts_code.specs.Checks.{program_fault}
 use Rattle.sts_code.specs.Program.{Program, routine}
 use Rattle.sts_code.specs.declared.instr.Instr.{Instr}
-use Rattle.sts_code.specs.declared.instr.Instr.TheVariants.{Open, Fork, Join, Close, Cancelled}
-use Rattle.sts_code.specs.declared.instr.Instr.TheVariants.{Case, Get, Except, Tally, Total}
-use Rattle.sts_code.specs.declared.instr.Instr.TheVariants.{Bind, Unbind, Read, Bound, OrElse}
-use Rattle.sts_code.specs.declared.instr.Instr.TheVariants.{Interrupted, Ret, Fail}
+use Rattle.sts_code.specs.declared.instr.Instr.TheVariants.{Open, Fork, Join, Close, Cancelled, Case, Get, Except, Tally, Total, Bind, Unbind, Read, Bound}
+use Rattle.sts_code.specs.declared.instr.Instr.TheVariants.{OrElse, Interrupted, Ret, Fail}
 use Rattle.sts_code.specs.declared.instr.Joiner.{Joiner}
 use Rattle.sts_model.specs.declared.record.Frame.{Frame}
 use Rattle.sts_model.specs.declared.record.Scope.{Scope}
@@ -30,8 +27,7 @@ use Rattle.laws_runs.proofs.ListLemmas.{at_set}
 use Rattle.laws_runs.proofs.FrameLemmas.{own_slot, at_own-is}
 use Rattle.laws_runs.proofs.EffectLemmas.{first_no}
 use Rattle.laws_runs.proofs.SoundLemmas.{Sound}
-use Rattle.laws_runs.proofs.BirthLemmas.{more_tasks, more_scopes, new_scope, opener}
-use Rattle.laws_runs.proofs.BirthLemmas.{later-more_scopes, later-more_tasks, IsFresh, born_alive}
+use Rattle.laws_runs.proofs.BirthLemmas.{more_tasks, more_scopes, new_scope, opener, later-more_scopes, later-more_tasks, IsFresh, born_alive}
 use Rattle.laws_runs.proofs.EventLemmas.{Also}
 use Rattle.laws_accepted.specs.Typed.{Covers, AllTyped}
 use Rattle.laws_accepted.proofs.Same.{Knows, Same, samescope-refl}
@@ -40,8 +36,7 @@ use Rattle.laws_accepted.proofs.Others.{knows-later}
 use Rattle.laws_accepted.proofs.Stands.{Stands, Lands, lands-same}
 use Rattle.laws_accepted.proofs.Keys.{covers-own}
 use Rattle.laws_accepted.proofs.Checked.{instr_checked}
-use Rattle.laws_accepted.proofs.FrameRows.{lands-reading, lands-case, lands-in_frame, lands-bind}
-use Rattle.laws_accepted.proofs.FrameRows.{lands-unbind, lands-orelse}
+use Rattle.laws_accepted.proofs.FrameRows.{lands-reading, lands-case, lands-in_frame, lands-bind, lands-unbind, lands-orelse}
 use Rattle.laws_accepted.proofs.BirthRows.{lands-open, lands-fork}
 use Rattle.laws_accepted.proofs.JoinRows.{Landed, lands-join, at-join}
 use Rattle.laws_accepted.proofs.CloseRows.{lands-close}

@@ -1,6 +1,5 @@
 -- The laws: living tasks are typed, and misuse nothing if there is room.
-use Rattle.std.proofs.Common.{◌≡◌, ℕ, zero, suc, ◌<◌, List, [], ◌∷◌, length, true, false, Some}
-use Rattle.std.proofs.Common.{refl, arith, slice_get}
+use Rattle.std.proofs.Common.{◌≡◌, ℕ, zero, suc, ◌<◌, List, [], ◌∷◌, length, true, false, Some, refl, arith, slice_get}
 use Rattle.sts_code.specs.Program.{Program, routine}
 use Rattle.sts_model.specs.declared.record.Frame.{Frame}
 use Rattle.sts_model.specs.World.{World, State, Running, Faulted, task_at}
@@ -8,8 +7,7 @@ use Rattle.sts_model.specs.Living.{lives}
 use Rattle.sts_model.specs.Run.{after}
 use Rattle.laws_runs.specs.Runs.{In}
 use Rattle.laws_runs.proofs.EventLemmas.{Also}
-use Rattle.laws_accepted.specs.Typed.{is_crowding, AllTyped, IsFineAt, WantsRoomAlone}
-use Rattle.laws_accepted.specs.Typed.{LivingTasksAreTyped, OnlyRoomIsWanted}
+use Rattle.laws_accepted.specs.Typed.{is_crowding, AllTyped, IsFineAt, WantsRoomAlone, LivingTasksAreTyped, OnlyRoomIsWanted}
 use Rattle.laws_accepted.proofs.Stands.{stands-typed}
 use Rattle.laws_accepted.proofs.Steps.{Sure}
 use Rattle.laws_accepted.proofs.TypedRuns.{Accepted, sure-after}

@@ -1,8 +1,6 @@
 -- In every state of every run of an accepted program each living task is typed.
-use Rattle.std.proofs.Common.{◌≡◌, ℕ, zero, suc, ◌+◌, ◌-◌, ◌<◌, ◌≤◌, List, [], ◌∷◌, length, Bool}
-use Rattle.std.proofs.Common.{true, false, Option, Some, None, refl, sym, ◌∙◌, ap, subst, cond}
-use Rattle.std.proofs.Common.{get_or, arith, nat_lt, length-set, length-append}
-use Rattle.std.proofs.Common.{get_or-set_same, get_or-set_other}
+use Rattle.std.proofs.Common.{◌≡◌, ℕ, zero, suc, ◌+◌, ◌-◌, ◌<◌, ◌≤◌, List, [], ◌∷◌, length, Bool, true, false, Option, Some, None, refl, sym, ◌∙◌, ap, subst}
+use Rattle.std.proofs.Common.{cond, get_or, arith, nat_lt, length-set, length-append, get_or-set_same, get_or-set_other}
 use Rattle.std.specs.Prelude.{ℤ, ◌==◌, reverse, take}
 use Rattle.std.proofs.lemmas.Bool.Decides.{nat_tests}
 use Rattle.std.proofs.Math.Seq.{get_or-append_seam}
@@ -26,8 +24,7 @@ use Rattle.sts_model.specs.Living.{lives}
 use Rattle.sts_model.specs.Misuse.{slot}
 use Rattle.sts_rules.specs.TypeState.{TypeState, kind, entry, first_slot}
 use Rattle.sts_rules.specs.Causes as cause
-use Rattle.sts_model.specs.Effect.{effect, named, open_scope, fork_task, subtask_of, ended}
-use Rattle.sts_model.specs.Effect.{end_task}
+use Rattle.sts_model.specs.Effect.{effect, named, open_scope, fork_task, subtask_of, ended, end_task}
 use Rattle.sts_rules.specs.Flow.{first}
 use Rattle.sts_model.specs.Outside.{interrupt, expire}
 use Rattle.sts_rules.specs.Promises.{TypingPromises}
@@ -37,8 +34,7 @@ use Rattle.laws_runs.specs.Runs.{In, Does, Leads}
 use Rattle.laws_runs.specs.Later.{Later}
 use Rattle.laws_runs.proofs.KeptLemmas.{dead_later}
 use Rattle.laws_runs.proofs.FrameLemmas.{own_slot}
-use Rattle.laws_runs.proofs.EffectLemmas.{first_no, still-effect, kept-tell, kept-end}
-use Rattle.laws_runs.proofs.EffectLemmas.{still-interrupt, still-expire}
+use Rattle.laws_runs.proofs.EffectLemmas.{first_no, still-effect, kept-tell, kept-end, still-interrupt, still-expire}
 use Rattle.laws_runs.proofs.SoundLemmas.{Sound}
 use Rattle.laws_runs.proofs.BirthLemmas.{more_tasks, born_alive}
 use Rattle.laws_runs.proofs.EventLemmas.{Also, next-leads, main, also-kept}

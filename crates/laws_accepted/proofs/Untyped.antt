@@ -1,7 +1,6 @@
 -- A program with more steps than its budget: a path of it ends at a `next` of no loop, so it is
 -- part of no whole path.
-use Rattle.std.proofs.Common.{◌≡◌, ℕ, zero, suc, ◌+◌, ◌<◌, ◌≤◌, inl, inr, List, [], ◌∷◌, refl, sym}
-use Rattle.std.proofs.Common.{◌∙◌, ap, subst, arith}
+use Rattle.std.proofs.Common.{◌≡◌, ℕ, zero, suc, ◌+◌, ◌<◌, ◌≤◌, inl, inr, List, [], ◌∷◌, refl, sym, ◌∙◌, ap, subst, arith}
 use Rattle.std.specs.Prelude.{codes, pos}
 use Rattle.sts_code.specs.Program.{Program}
 use Rattle.sts_code.specs.declared.instr.Instr.{Instr}
@@ -10,9 +9,8 @@ use Rattle.sts_code.specs.declared.profile.Profile.TheVariants.{One}
 use Rattle.sts_rules.specs.declared.budget.Budgets.{Budgets}
 use Rattle.sts_model.specs.declared.event.Event.{Event}
 use Rattle.sts_model.specs.declared.event.Event.TheVariants.{Step}
-use Rattle.sts_rules.specs.ControlPaths.{GoesTo, Repeats, EndsPath, Skeleton, OpenEntry, Among}
-use Rattle.sts_rules.specs.ControlPaths.{Loops, Follows, go, skip, enter, again, leave, Comes}
-use Rattle.sts_rules.specs.ControlPaths.{start, step, PathCounts, PointHolds}
+use Rattle.sts_rules.specs.ControlPaths.{GoesTo, Repeats, EndsPath, Skeleton, OpenEntry, Among, Loops, Follows, go, skip, enter, again, leave, Comes, start}
+use Rattle.sts_rules.specs.ControlPaths.{step, PathCounts, PointHolds}
 use Rattle.sts_rules.specs.Budget.{skeleton, tasks_sum, scopes_sum, binds_sum, IsBudget, AreBudgets}
 use Rattle.laws_accepted.specs.Costs.{StepsNeedTypes}
 

@@ -1,6 +1,5 @@
 -- The view has what counts in its world, so the laws of costs hold for the view.
-use Rattle.std.proofs.Common.{◌≡◌, ℕ, zero, suc, ◌<◌, ◌≤◌, List, [], ◌∷◌, Bool, true, false, Some}
-use Rattle.std.proofs.Common.{None, refl, sym, ◌∙◌, ap, subst, length, arith, get_or, cond}
+use Rattle.std.proofs.Common.{◌≡◌, ℕ, zero, suc, ◌<◌, ◌≤◌, List, [], ◌∷◌, Bool, true, false, Some, None, refl, sym, ◌∙◌, ap, subst, length, arith, get_or, cond}
 use Rattle.std.specs.Prelude.{filter_map, count_by, sum_by}
 use Rattle.std.proofs.lemmas.List.Sums.{sum_by-cons}
 use Rattle.sts_code.specs.Program.{Program}
@@ -29,10 +28,8 @@ use Rattle.laws_live.proofs.LawLemmas.{facts-after}
 use Rattle.laws_accepted.specs.Costs.{HasRoomFor, HasRoom}
 use Rattle.laws_accepted.specs.Points.{NoneIdlesWithEntries}
 use Rattle.laws_accepted.specs.Accepted.{RoomIsLeft, WithMain}
-use Rattle.laws_accepted.specs.Views.{live_tasks, live_scopes, open_bindings, bindings_in}
-use Rattle.laws_accepted.specs.Views.{live_bindings, BindingsAreSeen, ViewsWithMain}
-use Rattle.laws_accepted.specs.Views.{ViewsAreWithin, LiveHasRoomFor, LiveHasRoom}
-use Rattle.laws_accepted.specs.Views.{ViewsHaveRoom}
+use Rattle.laws_accepted.specs.Views.{live_tasks, live_scopes, open_bindings, bindings_in, live_bindings, BindingsAreSeen, ViewsWithMain, ViewsAreWithin}
+use Rattle.laws_accepted.specs.Views.{LiveHasRoomFor, LiveHasRoom, ViewsHaveRoom}
 use Rattle.laws_accepted.proofs.Faults.{holds-in}
 
 -- ---- bindings

@@ -1,6 +1,5 @@
 -- Pairs of the entries of frames and of typestates, and pairs of slots and their kinds.
-use Rattle.std.proofs.Common.{◌≡◌, ℕ, zero, suc, List, [], ◌∷◌, length, map, drop, get_or, set}
-use Rattle.std.proofs.Common.{refl, ap, arith, Bool, false}
+use Rattle.std.proofs.Common.{◌≡◌, ℕ, zero, suc, List, [], ◌∷◌, length, map, drop, get_or, set, refl, ap, arith, Bool, false}
 use Rattle.std.specs.List.{list_any}
 use Rattle.sts_model.specs.declared.record.Entry.{Entry}
 use Rattle.sts_rules.specs.declared.typing.TypedEntry.{TypedEntry}

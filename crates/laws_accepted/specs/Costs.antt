@@ -1,8 +1,8 @@
 -- The costs of a run of a program with budgets (this project's own). Its steps stay within the
 -- budgets of `main`, and so do the tasks, scopes and bindings that count in any state. The rest of
 -- each budget is what the tasks that count may still use.
-use Rattle.std.specs.Prelude.{◌≡◌, ℕ, ◌+◌, ◌-◌, ◌<◌, ◌≤◌, List, length, take, sum_by, Bool, true}
-use Rattle.std.specs.Prelude.{false, Option, Some, None, if◌then◌else◌}
+use Rattle.std.specs.Prelude.{◌≡◌, ℕ, ◌+◌, ◌-◌, ◌<◌, ◌≤◌, List, length, take, sum_by, true}
+use Rattle.std.specs.Prelude.{false, Some, None, if◌then◌else◌}
 use Rattle.sts_code.specs.Checks.{program_fault}
 use Rattle.sts_code.specs.Program.{Program}
 use Rattle.sts_code.specs.declared.instr.Instr.{Instr}

@@ -1,14 +1,12 @@
 -- Instructions that change no more than the frame of their task.
-use Rattle.std.proofs.Common.{◌≡◌, ℕ, ◌+◌, inl, List, [], ◌∷◌, ◌++◌, ◌⊎◌, inr, cond, ◌<◌}
-use Rattle.std.proofs.Common.{Bool, true, false, Option, Some, None, refl, sym, ◌∙◌, ap, subst, drop}
-use Rattle.std.proofs.Common.{set, not, ◌||◌, ◌&&◌, arith}
+use Rattle.std.proofs.Common.{◌≡◌, ℕ, ◌+◌, inl, List, [], ◌∷◌, ◌++◌, ◌⊎◌, inr, cond, ◌<◌, Bool, true, false, Option, Some, None, refl, sym, ◌∙◌, ap, subst}
+use Rattle.std.proofs.Common.{drop, set, not, ◌||◌, ◌&&◌, arith}
 use Rattle.std.specs.Prelude.{slice_get, count_by, filter_map, unwrap_or, pos, is_some}
 use Rattle.std.proofs.lemmas.Bool.{and_parts, not-false}
 use Rattle.sts_code.specs.Program.{Program}
 use Rattle.sts_code.specs.declared.instr.Instr.{Instr}
-use Rattle.sts_code.specs.declared.instr.Instr.TheVariants.{Cancelled, Case, Get, Except, Tally, Total}
-use Rattle.sts_code.specs.declared.instr.Instr.TheVariants.{Open, Fork, Join, Close, Ret, Fail}
-use Rattle.sts_code.specs.declared.instr.Instr.TheVariants.{Bind, Unbind, Read, Bound, OrElse, Interrupted}
+use Rattle.sts_code.specs.declared.instr.Instr.TheVariants.{Cancelled, Case, Get, Except, Tally, Total, Open, Fork, Join, Close, Ret, Fail, Bind, Unbind, Read}
+use Rattle.sts_code.specs.declared.instr.Instr.TheVariants.{Bound, OrElse, Interrupted}
 use Rattle.sts_code.specs.Facts.{is_two}
 use Rattle.sts_code.specs.declared.instr.Kind.{Kind}
 use Rattle.sts_code.specs.declared.instr.Kind.TheVariants.{S, F, U}
@@ -45,8 +43,7 @@ use Rattle.laws_calls.specs.Steps.{Row, Table, Steps, IsTable, born_by, to, alon
 use Rattle.laws_calls.specs.Steps.{local_step, read_step, bound_step, or_else_step, bind_step, unbind_step}
 use Rattle.laws_calls.specs.Steps.{calm_step, interrupted_step, lent_step, lent_cancelled_step, going_step, cancelled_step, success_step, failure_step}
 use Rattle.laws_calls.specs.Steps.{missed_step, get_step, except_step, tally_step, total_step, only, kept, missed, with_part, with_seen}
-use Rattle.laws_calls.specs.Covers.{PartFits, SeenFits, HeldFits, FrameFits, TaskFits, IsRight, IsTimely, InOrder, subs}
-use Rattle.laws_calls.specs.Covers.{FlagMayBe, IsCovered, Covers, alive_in}
+use Rattle.laws_calls.specs.Covers.{PartFits, SeenFits, HeldFits, FrameFits, TaskFits, IsRight, IsTimely, InOrder, subs, FlagMayBe, IsCovered, Covers, alive_in}
 use Rattle.laws_calls.proofs.Lists.{all_set, Apart, kept_way, no, at_among}
 use Rattle.laws_calls.proofs.Turns.{Facts, FlagsHaveCause, apart_births, free_around, births_has, known_as, parts_as}
 use Rattle.laws_calls.proofs.Moves.{Turned, goes_by, covers_turned, turned_frame, turned_flag, fits_later, turned_subs}
@@ -144,13 +141,6 @@ module _ (p : Program) (outside : Outside) (t : Table) (root : Row) (is : IsTabl
 
   leaves_refl : (f : Frame) (to_pc n : ℕ) (pushed : _) → Leaves f (goes f to_pc n pushed) None
   leaves_refl f to_pc n pushed = record { function = refl; entries = refl; slots = refl }
-
-  -- at another place, with another operand
-  fits_goes : (rows : ℕ → Row) (f : Frame) (own : Own) (to_pc n : ℕ) (pushed : _) → FrameFits rows w f own → FrameFits rows w (goes f to_pc n pushed) (to own (goes own.frame to_pc n pushed))
-  fits_goes rows f own to_pc n pushed k = fits_leaves rows f (goes f to_pc n pushed) own (goes own.frame to_pc n pushed) None (leaves_refl f to_pc n pushed) k (ap (λ (z : Frame). goes z to_pc n pushed) k.frame)
-
-  pc_same : (f : Frame) (own : Own) → bare f ≡ own.frame → f.pc ≡ own.frame.pc
-  pc_same f own e = ap (λ (z : Frame). z.pc) e
 
   operand_same : (f : Frame) (own : Own) (i : ℕ) → bare f ≡ own.frame → operand f i ≡ operand own.frame i
   operand_same f own i e = ap (λ (z : Frame). operand z i) e

@@ -7,11 +7,10 @@ use Rattle.sts_code.specs.declared.instr.Instr.{Instr}
 use Rattle.sts_model.specs.World.{World}
 use Rattle.laws_calls.specs.Outside.{Outside}
 use Rattle.laws_calls.specs.Tasks.{Call, Own}
-use Rattle.laws_calls.specs.Steps.{Row, Steps, local_step, read_step, bound_step, or_else_step, bind_step}
-use Rattle.laws_calls.specs.Steps.{unbind_step, calm_step, interrupted_step, lent_step, lent_cancelled_step}
-use Rattle.laws_calls.specs.Steps.{going_step, cancelled_step, expired_step, open_step, unstarted_step, close_step}
-use Rattle.laws_calls.specs.Steps.{attempted_step, timeout_step, by_one_step, by_count_step, heard_step, none_step}
-use Rattle.laws_calls.specs.Steps.{success_step, failure_step, missed_step, get_step, except_step, tally_step, total_step}
+use Rattle.laws_calls.specs.Steps.{Row, Steps, local_step, read_step, bound_step, or_else_step, bind_step, unbind_step, calm_step, interrupted_step, lent_step}
+use Rattle.laws_calls.specs.Steps.{lent_cancelled_step, going_step, cancelled_step, expired_step, open_step, unstarted_step, close_step, attempted_step}
+use Rattle.laws_calls.specs.Steps.{timeout_step, by_one_step, by_count_step, heard_step, none_step, success_step, failure_step, missed_step, get_step}
+use Rattle.laws_calls.specs.Steps.{except_step, tally_step, total_step}
 use Rattle.laws_calls.specs.Covers.{sum_to}
 
 -- ---- sums

@@ -1,7 +1,5 @@
 -- A scope is closed.
-use Rattle.std.proofs.Common.{◌≡◌, ℕ, ◌<◌, inr, List, [], ◌∷◌}
-use Rattle.std.proofs.Common.{Bool, true, false, Some, refl, sym, ◌∙◌, ap, subst, length}
-use Rattle.std.proofs.Common.{arith, cond, nat_eq, drop, not}
+use Rattle.std.proofs.Common.{◌≡◌, ℕ, ◌<◌, inr, List, [], ◌∷◌, Bool, true, false, Some, refl, sym, ◌∙◌, ap, subst, length, arith, cond, nat_eq, drop, not}
 use Rattle.std.specs.Prelude.{◌==◌, slice_get}
 use Rattle.std.proofs.lemmas.Bool.Decides.{nat_tests}
 use Rattle.sts_code.specs.Program.{Program}
@@ -33,8 +31,7 @@ use Rattle.laws_calls.specs.Held.{Held}
 use Rattle.laws_calls.specs.Held as held
 use Rattle.laws_calls.specs.Tasks.{Among, AllTwo, Seen, Own, Knowledge, Unseen, ByJoiner, Heard, bare, births_in, Late}
 use Rattle.laws_calls.specs.Steps.{Row, Table, IsTable, closed, clear, close_step}
-use Rattle.laws_calls.specs.Covers.{subs, PartFits, ScopeFits, SeenFits, HeldFits, TaskFits, IsRight}
-use Rattle.laws_calls.specs.Covers.{Covers, alive_in}
+use Rattle.laws_calls.specs.Covers.{subs, PartFits, ScopeFits, SeenFits, HeldFits, TaskFits, IsRight, Covers, alive_in}
 use Rattle.laws_calls.proofs.Lists.{all_map, all_mapped, all_tail, all_length, Apart, is_first, get_among, no}
 use Rattle.laws_calls.proofs.Turns.{Facts, FlagsHaveCause, seen_same, held_same, apart_births, listed_inside}
 use Rattle.laws_calls.proofs.Moves.{GoesOn, goes_by, covers_turned, turned_subs}

@@ -1,6 +1,5 @@
 -- What became of the subtasks of a scope, counted.
-use Rattle.std.proofs.Common.{◌≡◌, ℕ, List, [], ◌∷◌, Bool, true, false, Option}
-use Rattle.std.proofs.Common.{refl, sym, ◌∙◌, ap, length, map, arith, cond, ◌&&◌}
+use Rattle.std.proofs.Common.{◌≡◌, ℕ, List, [], ◌∷◌, Bool, true, false, Option, refl, sym, ◌∙◌, ap, length, map, arith, cond, ◌&&◌}
 use Rattle.std.specs.Prelude.{count_by}
 use Rattle.std.specs.List.{filter}
 use Rattle.std.proofs.lemmas.List.Sums.{sum_by-cons}

@@ -1,7 +1,6 @@
 -- A subtask is forked.
-use Rattle.std.proofs.Common.{◌≡◌, ℕ, zero, suc, ◌+◌, ◌<◌, ◌≤◌, ◌⊎◌, inl, inr, List, [], ◌∷◌, ◌++◌}
-use Rattle.std.proofs.Common.{Bool, true, false, Option, Some, None, refl, sym, ◌∙◌, ap, subst, length}
-use Rattle.std.proofs.Common.{arith, get_or, set, cond, nat_eq, length-set, length-append, get_or-set_same, get_or-set_other, not, ◌&&◌}
+use Rattle.std.proofs.Common.{◌≡◌, ℕ, zero, suc, ◌+◌, ◌<◌, ◌≤◌, ◌⊎◌, inl, inr, List, [], ◌∷◌, ◌++◌, Bool, true, false, Option, Some, None, refl, sym, ◌∙◌, ap}
+use Rattle.std.proofs.Common.{subst, length, arith, get_or, set, cond, nat_eq, length-set, length-append, get_or-set_same, get_or-set_other, not, ◌&&◌}
 use Rattle.std.proofs.Common.{replicate, take, append-nil}
 use Rattle.std.specs.Prelude.{◌==◌, slice_get, reverse}
 use Rattle.std.specs.List.{filter, range_with_len}
@@ -38,8 +37,7 @@ use Rattle.laws_calls.specs.Tasks.{Among, AllTwo, Call, HasWay, Part, May, Seen,
 use Rattle.laws_calls.specs.Steps.{Row, Table, IsTable, IsRowOf, LeadsBy, Forks, call_of, with_handle, forked, is_cancelled, unstarted_step, new_part}
 use Rattle.laws_calls.specs.Covers.{subs, PartFits, ScopeFits, SeenFits, HeldFits, FrameFits, TaskFits}
 use Rattle.laws_calls.specs.Covers.{IsCovered, Covers, HasState, alive_in, IsRight, IsTimely, sum_to}
-use Rattle.laws_calls.proofs.Lists.{all_map, all_set, all_length, all_append, all_put_place, Apart, filter_agree, range_last}
-use Rattle.laws_calls.proofs.Lists.{range_among, get_front, no}
+use Rattle.laws_calls.proofs.Lists.{all_map, all_set, all_length, all_append, all_put_place, Apart, filter_agree, range_last, range_among, get_front, no}
 use Rattle.laws_calls.proofs.Turns.{Facts, FlagsHaveCause, alive_later, covered_before, flag_stays, environment_stays}
 use Rattle.laws_calls.proofs.Turns.{part_same, seen_same, held_same, task_same, apart_births, sub_born, owner_covered, covered_or_not, parts_as}
 use Rattle.laws_calls.proofs.Births.{cut, cut_here, cut_other, sum_cut, sum_agrees}

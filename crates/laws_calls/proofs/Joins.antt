@@ -1,7 +1,6 @@
 -- A `join` has its outcome.
-use Rattle.std.proofs.Common.{◌≡◌, ℕ, ◌<◌, inl, List, [], ◌∷◌, ◌⊎◌, inr}
-use Rattle.std.proofs.Common.{Bool, true, false, Option, Some, None, refl, sym, ◌∙◌, ap, subst, length}
-use Rattle.std.proofs.Common.{set, cond, not, map, ◌||◌, unwrap_or, arith}
+use Rattle.std.proofs.Common.{◌≡◌, ℕ, ◌<◌, inl, List, [], ◌∷◌, ◌⊎◌, inr, Bool, true, false, Option, Some, None, refl, sym, ◌∙◌, ap, subst, length, set, cond}
+use Rattle.std.proofs.Common.{not, map, ◌||◌, unwrap_or, arith}
 use Rattle.std.specs.Prelude.{slice_get, pos, negsuc, find}
 use Rattle.std.specs.List.{list_any}
 use Rattle.std.proofs.lemmas.Bool.{and_parts}
@@ -11,8 +10,7 @@ use Rattle.sts_code.specs.Program.{Program}
 use Rattle.sts_code.specs.declared.instr.Instr.{Instr}
 use Rattle.sts_code.specs.declared.instr.Instr.TheVariants.{Join}
 use Rattle.sts_code.specs.declared.instr.Joiner.{Joiner}
-use Rattle.sts_code.specs.declared.instr.Joiner.TheVariants.{AllSucceed, AnySucceeds, AwaitOk}
-use Rattle.sts_code.specs.declared.instr.Joiner.TheVariants.{AwaitAll, Until}
+use Rattle.sts_code.specs.declared.instr.Joiner.TheVariants.{AllSucceed, AnySucceeds, AwaitOk, AwaitAll, Until}
 use Rattle.sts_model.specs.declared.event.End.{End}
 use Rattle.sts_model.specs.declared.event.Fault.{Fault}
 use Rattle.sts_model.specs.declared.event.Stand.{Stand}
@@ -45,11 +43,9 @@ use Rattle.laws_calls.specs.Outside.{Outside}
 use Rattle.laws_calls.specs.Tasks.{Among, AllTwo, May, Part, Seen, Own, bare, births_in, Knowledge, Unseen, ByJoiner, Late, Heard, nothing}
 use Rattle.laws_calls.specs.Steps.{Row, Table, IsTable, Steps, MayEnd, with_seen, joined, decided, only, ended, after_cancel, after_all, timed_out, after_expiry, timeout_step}
 use Rattle.laws_calls.specs.Steps.{attempted, attempted_step, is_unseen, by_one_step, by_count_step, heard_step, none_step, is_any}
-use Rattle.laws_calls.specs.Covers.{subs, PartFits, ScopeFits, SeenFits, HeldFits, FrameFits, TaskFits, IsRight}
-use Rattle.laws_calls.specs.Covers.{Covers, alive_in}
+use Rattle.laws_calls.specs.Covers.{subs, PartFits, ScopeFits, SeenFits, HeldFits, FrameFits, TaskFits, IsRight, Covers, alive_in, first_failed}
 use Rattle.laws_calls.specs.Triggers.{is_trigger, triggers}
 use Rattle.laws_calls.specs.Fitting.{MayCount, Answers}
-use Rattle.laws_calls.specs.Covers.{first_failed}
 use Rattle.laws_calls.proofs.Early.{first_of, early_place, order_same}
 use Rattle.laws_calls.proofs.Possible.{are_possible, counts_most, enough, few_free, unknown, unheard, undecided}
 use Rattle.laws_calls.proofs.Lists.{all_map, all_at, all_put, all_right, all_length, all_put_place, Apart, among_get, get_among, any_among, no}

@@ -1,7 +1,6 @@
 -- Two lists element by element, places, and filters.
-use Rattle.std.proofs.Common.{◌≡◌, ℕ, zero, suc, ◌+◌, ◌<◌, inl, inr, List, [], ◌∷◌, ◌++◌}
-use Rattle.std.proofs.Common.{Bool, true, false, Some, refl, sym, ◌∙◌, ap, subst, length}
-use Rattle.std.proofs.Common.{arith, get_or, set, cond, map, drop, ◌||◌}
+use Rattle.std.proofs.Common.{◌≡◌, ℕ, zero, suc, ◌+◌, ◌<◌, inl, inr, List, [], ◌∷◌, ◌++◌, Bool, true, false, Some, refl, sym, ◌∙◌, ap, subst, length, arith}
+use Rattle.std.proofs.Common.{get_or, set, cond, map, drop, ◌||◌}
 use Rattle.std.specs.Prelude.{◌==◌, slice_get}
 use Rattle.std.specs.List.{filter, range_with_len, list_any}
 use Rattle.std.proofs.lemmas.Bool.Decides.{nat_tests}

@@ -1,8 +1,6 @@
 -- A step that moves one task, and leaves the frames of the others and the scopes of the others.
-use Rattle.std.proofs.Common.{◌≡◌, ℕ, ◌+◌, ◌<◌, ◌≤◌, inl, List}
-use Rattle.std.proofs.Common.{Bool, true, false, Some, refl, sym, ◌∙◌, ap, subst, length}
-use Rattle.std.proofs.Common.{arith, set, nat_eq}
-use Rattle.std.proofs.Common.{length-set, get_or-set_same, get_or-set_other}
+use Rattle.std.proofs.Common.{◌≡◌, ℕ, ◌+◌, ◌<◌, ◌≤◌, inl, List, Bool, true, false, Some, refl, sym, ◌∙◌, ap, subst, length, arith, set, nat_eq, length-set}
+use Rattle.std.proofs.Common.{get_or-set_same, get_or-set_other}
 use Rattle.std.specs.Prelude.{slice_get}
 use Rattle.std.specs.List.{filter, range_with_len}
 use Rattle.std.proofs.lemmas.Bool.Decides.{nat_tests}
@@ -24,11 +22,9 @@ use Rattle.laws_calls.specs.Held as held
 use Rattle.laws_calls.specs.Tasks.{Among, AllTwo, HasWay, at_place, put_place, Part, Seen, Own, births_in, held_at}
 use Rattle.laws_calls.specs.Fitting.{ArePossible}
 use Rattle.laws_calls.specs.Steps.{Row, Table, Owns, Knows, LeadsBy}
-use Rattle.laws_calls.specs.Covers.{subs, PartFits, SeenFits, HeldFits, FrameFits, TaskFits, IsTimely, InOrder}
-use Rattle.laws_calls.specs.Covers.{IsCovered, Covers, HasState, alive_in, sum_to}
+use Rattle.laws_calls.specs.Covers.{subs, PartFits, SeenFits, HeldFits, FrameFits, TaskFits, IsTimely, InOrder, IsCovered, Covers, HasState, alive_in, sum_to}
 use Rattle.laws_calls.proofs.Births.{cut, cut_here, cut_other, same_births, sum_cut}
-use Rattle.laws_calls.proofs.Lists.{all_map, all_get, all_at, all_put, all_place, all_put_place}
-use Rattle.laws_calls.proofs.Lists.{filter_same, Apart, get_among}
+use Rattle.laws_calls.proofs.Lists.{all_map, all_get, all_at, all_put, all_place, all_put_place, filter_same, Apart, get_among}
 use Rattle.laws_calls.proofs.Turns.{Facts, FlagsHaveCause, alive_later, covered_before, flag_stays}
 use Rattle.laws_calls.proofs.Turns.{environment_stays, seen_same, held_same, task_same, listed_inside, parts_as}
 

@@ -1,7 +1,6 @@
 -- A scope is opened.
-use Rattle.std.proofs.Common.{◌≡◌, ℕ, ◌<◌, inl, List, [], ◌∷◌, ◌++◌}
-use Rattle.std.proofs.Common.{Bool, true, false, Some, refl, sym, ◌∙◌, ap, subst, length}
-use Rattle.std.proofs.Common.{arith, get_or, set, cond, length-set, length-append, get_or-set_same, get_or-set_other}
+use Rattle.std.proofs.Common.{◌≡◌, ℕ, ◌<◌, inl, List, [], ◌∷◌, ◌++◌, Bool, true, false, Some, refl, sym, ◌∙◌, ap, subst, length, arith, get_or, set, cond}
+use Rattle.std.proofs.Common.{length-set, length-append, get_or-set_same, get_or-set_other}
 use Rattle.std.specs.Prelude.{slice_get}
 use Rattle.std.specs.List.{filter}
 use Rattle.std.proofs.lemmas.List.{get_or_append_left}
@@ -31,8 +30,7 @@ use Rattle.laws_calls.specs.Held.{Held}
 use Rattle.laws_calls.specs.Held as held
 use Rattle.laws_calls.specs.Tasks.{AllTwo, at_place, Seen, Own, births_in, bindings, Unseen, nothing}
 use Rattle.laws_calls.specs.Steps.{Row, Table, IsTable, opened, open_step}
-use Rattle.laws_calls.specs.Covers.{subs, ScopeFits, SeenFits, HeldFits, TaskFits, IsTimely}
-use Rattle.laws_calls.specs.Covers.{Covers, alive_in}
+use Rattle.laws_calls.specs.Covers.{subs, ScopeFits, SeenFits, HeldFits, TaskFits, IsTimely, Covers, alive_in}
 use Rattle.laws_calls.proofs.Lists.{all_map, all_set, all_length, at_first}
 use Rattle.laws_calls.proofs.Lists as lists
 use Rattle.laws_calls.proofs.Turns.{Facts, FlagsHaveCause, seen_same, births_has}

@@ -1,6 +1,5 @@
 -- A scope is cancelled, or gets another phase.
-use Rattle.std.proofs.Common.{◌≡◌, ℕ, ◌<◌, Bool, true, false, refl, ◌∙◌, ap, subst, length}
-use Rattle.std.proofs.Common.{arith, cond, length-set, get_or-set_same, get_or-set_other}
+use Rattle.std.proofs.Common.{◌≡◌, ℕ, ◌<◌, Bool, true, false, refl, ◌∙◌, ap, subst, length, arith, cond, length-set, get_or-set_same, get_or-set_other}
 use Rattle.laws_runs.proofs.CauseLemmas.{cancel-others}
 use Rattle.sts_model.specs.declared.event.Phase.{Phase}
 use Rattle.sts_model.specs.declared.record.Frame.{Frame}

@@ -1,6 +1,5 @@
 -- Parts that have ended by an end that counts towards a cancel.
-use Rattle.std.proofs.Common.{◌≡◌, inl, inr, ℕ, ◌≤◌, List, [], ◌∷◌, Bool, true, false, refl, ap, subst, Option, Some, None, not, ◌&&◌}
-use Rattle.std.proofs.Common.{arith, cond}
+use Rattle.std.proofs.Common.{◌≡◌, inl, inr, ℕ, ◌≤◌, List, [], ◌∷◌, Bool, true, false, refl, ap, subst, Option, Some, None, not, ◌&&◌, arith, cond}
 use Rattle.std.proofs.lemmas.Bool.{or_parts, and_parts, not-true}
 use Rattle.std.specs.Prelude.{count_by}
 use Rattle.std.specs.List.{list_any}

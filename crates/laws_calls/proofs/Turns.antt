@@ -1,7 +1,6 @@
 -- What a step of one task leaves of the states of the others.
-use Rattle.std.proofs.Common.{◌≡◌, ℕ, zero, suc, ◌+◌, ◌<◌, ◌≤◌, ◌⊎◌, inl, inr, List, [], ◌∷◌}
-use Rattle.std.proofs.Common.{Bool, true, false, Option, Some, None, refl, sym, ◌∙◌, ap, subst, length}
-use Rattle.std.proofs.Common.{arith, cond, get_or, nat_eq, ◌||◌}
+use Rattle.std.proofs.Common.{◌≡◌, ℕ, zero, suc, ◌+◌, ◌<◌, ◌≤◌, ◌⊎◌, inl, inr, List, [], ◌∷◌, Bool, true, false, Option, Some, None, refl, sym, ◌∙◌, ap, subst}
+use Rattle.std.proofs.Common.{length, arith, cond, get_or, nat_eq, ◌||◌}
 use Rattle.std.specs.Prelude.{◌==◌, slice_get, count_by, nat_lt, map}
 use Rattle.std.specs.List.{list_any}
 use Rattle.std.proofs.lemmas.Bool.Decides.{nat_tests}
@@ -18,7 +17,7 @@ use Rattle.sts_model.specs.declared.record.Slot.TheVariants as slots
 use Rattle.sts_model.specs.declared.record.Task.{Task}
 use Rattle.sts_model.specs.World.{World, task_at, scope_at, no_task}
 use Rattle.sts_model.specs.Living.{lives, is_in, is_subtask, parent, scope_of, sub_state, completion_of, ends}
-use Rattle.sts_model.specs.Misuse.{is_entry_of}
+use Rattle.sts_model.specs.Misuse.{is_entry_of, is_joined}
 use Rattle.laws_runs.specs.Flags.{IsCancelled}
 use Rattle.laws_runs.specs.Later.{LaterTask}
 use Rattle.laws_runs.specs.Scopes.{HasCause, IsEntered}
@@ -29,7 +28,6 @@ use Rattle.laws_runs.proofs.EventLemmas.{Right, Next}
 use Rattle.laws_runs.proofs.ListLemmas.{within}
 use Rattle.laws_runs.proofs.KeptLemmas.{dead_later}
 use Rattle.laws_runs.proofs.BirthLemmas.{born_alive}
-use Rattle.sts_model.specs.Misuse.{is_joined}
 use Rattle.laws_calls.specs.Outside.{Outside, may_flag}
 use Rattle.laws_calls.specs.Held.{Held}
 use Rattle.laws_calls.specs.Held as held

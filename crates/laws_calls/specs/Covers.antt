@@ -22,8 +22,7 @@ use Rattle.laws_calls.specs.Held.{Held}
 use Rattle.laws_calls.specs.Held as held
 use Rattle.laws_calls.specs.Outside.{Outside, may_flag}
 use Rattle.laws_calls.specs.Tasks.{Among, AllTwo, at_place, HasWay, Part, Knowledge, Unseen}
-use Rattle.laws_calls.specs.Tasks.{ByJoiner, Late, nothing}
-use Rattle.laws_calls.specs.Tasks.{Heard, Seen, May, Own, bare, births_in}
+use Rattle.laws_calls.specs.Tasks.{ByJoiner, Late, nothing, Heard, Seen, May, Own, bare, births_in}
 use Rattle.laws_calls.specs.Fitting.{MayCount, Answers}
 use Rattle.laws_calls.specs.Triggers.{triggers}
 use Rattle.laws_calls.specs.Steps.{Row, Table}

@@ -1,9 +1,7 @@
 -- A task by itself: its call, and what it knows of its open scopes and of their subtasks (this
 -- project's own).
-use Rattle.std.specs.Prelude.{◌≡◌, ℕ, ◌⊎◌, List, [], ◌∷◌, ◌++◌, length, map, filter_map}
-use Rattle.std.specs.Prelude.{true}
-use Rattle.std.specs.Prelude.{Option, Some, None, replicate, ◌==◌, if◌then◌else◌}
-use Rattle.std.specs.Prelude.{slice_index_or}
+use Rattle.std.specs.Prelude.{◌≡◌, ℕ, ◌⊎◌, List, [], ◌∷◌, ◌++◌, length, map, filter_map, true}
+use Rattle.std.specs.Prelude.{Option, Some, None, replicate, ◌==◌, if◌then◌else◌, slice_index_or}
 use Rattle.sts_model.specs.declared.event.End.{End}
 use Rattle.sts_model.specs.declared.record.Bound.{Bound}
 use Rattle.sts_model.specs.declared.record.Entry.{Entry}

@@ -1,8 +1,6 @@
 -- The building blocks: the view after a change is the view's own change.
-use Rattle.std.proofs.Common.{◌≡◌, ℕ, ◌<◌, ◌≤◌, ◌+◌, List, [], ◌∷◌, ◌++◌, Bool, true, false, Option}
-use Rattle.std.proofs.Common.{Some, None, refl, sym, ◌∙◌, ap, length, arith, get_or, set, cond}
-use Rattle.std.proofs.Common.{◌&&◌, nat_lt, length-set, length-append, get_or-set_same}
-use Rattle.std.proofs.Common.{get_or-set_other}
+use Rattle.std.proofs.Common.{◌≡◌, ℕ, ◌<◌, ◌≤◌, ◌+◌, List, [], ◌∷◌, ◌++◌, Bool, true, false, Option, Some, None, refl, sym, ◌∙◌, ap, length, arith, get_or, set}
+use Rattle.std.proofs.Common.{cond, ◌&&◌, nat_lt, length-set, length-append, get_or-set_same, get_or-set_other}
 use Rattle.std.proofs.lemmas.Bool.Decides.{nat_tests}
 use Rattle.std.proofs.lemmas.List.{length-map, get_or-map, get_or_append_left, get_or_push}
 use Rattle.std.specs.Prelude.{option_map, ◌==◌}
@@ -12,8 +10,7 @@ use Rattle.sts_model.specs.declared.record.Frame.{Frame}
 use Rattle.sts_model.specs.declared.record.Task.{Task}
 use Rattle.sts_model.specs.declared.record.Scope.{Scope}
 use Rattle.sts_model.specs.declared.record.Bound.{Bound}
-use Rattle.sts_model.specs.World.{World, task_at, scope_at, no_task, no_scope, with_task}
-use Rattle.sts_model.specs.World.{with_scope}
+use Rattle.sts_model.specs.World.{World, task_at, scope_at, no_task, no_scope, with_task, with_scope}
 use Rattle.sts_model.specs.Living.{lives, is_in, is_subtask, is_closed}
 use Rattle.sts_model.specs.Standing.{is_standing_scope, stands_in}
 use Rattle.sts_model.specs.Cancelling.{raise, raised, marked, cancel}
@@ -26,8 +23,7 @@ use Rattle.laws_live.specs.Reading.{task_in, scope_in, with_alive, with_live_sco
 use Rattle.laws_live.specs.Cancelling.{live_raise, live_raised, live_marked, live_cancel}
 use Rattle.laws_live.specs.Effect.{without, live_gone}
 use Rattle.laws_live.proofs.ListLemmas.{map_kept}
-use Rattle.laws_live.proofs.ViewLemmas.{had, shown, seen_of, seen, seen_scope, tasks_born, scopes_born}
-use Rattle.laws_live.proofs.ViewLemmas.{task_here, scope_here, same_view, scope_is}
+use Rattle.laws_live.proofs.ViewLemmas.{had, shown, seen_of, seen, seen_scope, tasks_born, scopes_born, task_here, scope_here, same_view, scope_is}
 
 -- ---- one task
 

@@ -1,15 +1,12 @@
 -- The view after an instruction's effect is the view's own effect of that instruction.
-use Rattle.std.proofs.Common.{◌≡◌, ℕ, ◌<◌, ◌+◌, ◌-◌, List, [], ◌∷◌, ◌++◌, Bool, true, false, Option}
-use Rattle.std.proofs.Common.{Some, None, refl, sym, ◌∙◌, ap, length, arith, drop, cond, ◌&&◌, ◌||◌}
-use Rattle.std.proofs.Common.{not, pos, unwrap_or, length-append}
+use Rattle.std.proofs.Common.{◌≡◌, ℕ, ◌<◌, ◌+◌, ◌-◌, List, [], ◌∷◌, ◌++◌, Bool, true, false, Option, Some, None, refl, sym, ◌∙◌, ap, length, arith, drop, cond}
+use Rattle.std.proofs.Common.{◌&&◌, ◌||◌, not, pos, unwrap_or, length-append}
 use Rattle.std.proofs.lemmas.List.{length-map, get_or_append_left}
 use Rattle.std.specs.Prelude.{filter_map}
 use Rattle.sts_code.specs.Program.{Program, routine}
 use Rattle.sts_code.specs.declared.instr.Instr.{Instr}
-use Rattle.sts_code.specs.declared.instr.Instr.TheVariants.{Open, Fork, Join, Close, Cancelled}
-use Rattle.sts_code.specs.declared.instr.Instr.TheVariants.{Case, Get, Except, Tally, Total}
-use Rattle.sts_code.specs.declared.instr.Instr.TheVariants.{Bind, Unbind, Read, Bound, OrElse}
-use Rattle.sts_code.specs.declared.instr.Instr.TheVariants.{Interrupted, Ret, Fail}
+use Rattle.sts_code.specs.declared.instr.Instr.TheVariants.{Open, Fork, Join, Close, Cancelled, Case, Get, Except, Tally, Total, Bind, Unbind, Read, Bound}
+use Rattle.sts_code.specs.declared.instr.Instr.TheVariants.{OrElse, Interrupted, Ret, Fail}
 use Rattle.sts_code.specs.declared.instr.Joiner.{Joiner}
 use Rattle.sts_code.specs.declared.instr.Kind.{Kind}
 use Rattle.sts_code.specs.declared.instr.Kind.TheVariants.{S, F, U}
@@ -30,16 +27,13 @@ use Rattle.sts_model.specs.declared.record.Bound as bound
 use Rattle.sts_model.specs.World.{World, task_at, scope_at, no_task, no_scope, with_frame}
 use Rattle.sts_model.specs.Local.{operand, goes, steps, truth}
 use Rattle.sts_model.specs.Told as kept
-use Rattle.sts_model.specs.Living.{lives, is_in, any_lives, is_closed, completion_of, ends}
-use Rattle.sts_model.specs.Living.{subtask_count, sub_state, parent}
+use Rattle.sts_model.specs.Living.{lives, is_in, any_lives, is_closed, completion_of, ends, subtask_count, sub_state, parent}
 use Rattle.sts_model.specs.Standing.{stands_in}
 use Rattle.sts_model.specs.Environment.{bound_of}
 use Rattle.sts_model.specs.Cancelling.{marked, cancel}
-use Rattle.sts_model.specs.Misuse.{slot, is_scope, is_lent, is_sub, is_binding, is_entry_of}
-use Rattle.sts_model.specs.Misuse.{innermost, IsFine}
-use Rattle.sts_model.specs.Effect.{effect, moved, named, with_phase, open_scope, fork_task, forked}
-use Rattle.sts_model.specs.Effect.{subtask_of, joined, join_verdict, join_scope, is_of, cleared}
-use Rattle.sts_model.specs.Effect.{closed, close_scope, tally}
+use Rattle.sts_model.specs.Misuse.{slot, is_scope, is_lent, is_sub, is_binding, is_entry_of, innermost, IsFine}
+use Rattle.sts_model.specs.Effect.{effect, moved, named, with_phase, open_scope, fork_task, forked, subtask_of, joined, join_verdict, join_scope, is_of}
+use Rattle.sts_model.specs.Effect.{cleared, closed, close_scope, tally}
 use Rattle.sts_model.specs.Live.{Live, LiveTask, LiveScope, Alive, live, shown_scope}
 use Rattle.laws_runs.proofs.ListLemmas.{at_set, past}
 use Rattle.laws_runs.proofs.KeptLemmas.{kept-cancel}
@@ -50,15 +44,11 @@ use Rattle.laws_runs.proofs.EffectLemmas.{first_no, frame-cancel}
 use Rattle.laws_runs.proofs.CompletionLemmas.{AllTold}
 use Rattle.sts_joiners.proofs.TellLemmas.{is_enough}
 use Rattle.laws_runs.specs.Slots.{NamesStanding}
-use Rattle.laws_live.specs.Reading.{live_task_at, with_alive, with_live_frame, with_live_phase}
-use Rattle.laws_live.specs.Reading.{live_any_lives, live_count}
-use Rattle.laws_live.specs.Effect.{live_effect, live_open, live_fork, live_subtask_of, live_child}
-use Rattle.laws_live.specs.Effect.{live_joined, live_verdict, live_join, is_live_of, live_cleared}
-use Rattle.laws_live.specs.Effect.{live_closed, live_close, live_state, live_tally, live_moved}
-use Rattle.laws_live.proofs.ViewLemmas.{seen, tasks_born, scopes_born, scope_is, task_is, alive_is}
-use Rattle.laws_live.proofs.ViewLemmas.{any_is, count_is, stands_some, task_gone}
-use Rattle.laws_live.proofs.Changes.{seen-task, seen-scope, seen-cancel, seen-gone, seen-more_tasks}
-use Rattle.laws_live.proofs.Changes.{seen-more_scopes}
+use Rattle.laws_live.specs.Reading.{live_task_at, with_alive, with_live_frame, with_live_phase, live_any_lives, live_count}
+use Rattle.laws_live.specs.Effect.{live_effect, live_open, live_fork, live_subtask_of, live_child, live_joined, live_verdict, live_join, is_live_of}
+use Rattle.laws_live.specs.Effect.{live_cleared, live_closed, live_close, live_state, live_tally, live_moved}
+use Rattle.laws_live.proofs.ViewLemmas.{seen, tasks_born, scopes_born, scope_is, task_is, alive_is, any_is, count_is, stands_some, task_gone}
+use Rattle.laws_live.proofs.Changes.{seen-task, seen-scope, seen-cancel, seen-gone, seen-more_tasks, seen-more_scopes}
 use Rattle.laws_live.proofs.EndLemmas.{seen-end, open_some}
 
 -- what holds of every state

@@ -1,7 +1,6 @@
 -- The end of a task, and what the joiner of its scope learns of it.
-use Rattle.std.proofs.Common.{◌≡◌, ℕ, ◌<◌, List, [], ◌∷◌, ◌++◌, Bool, true, false, Option, Some}
-use Rattle.std.proofs.Common.{None, refl, sym, ◌∙◌, ap, subst, length, arith, get_or, set, cond}
-use Rattle.std.proofs.Common.{pos, length-set, get_or-set_same, get_or-set_other}
+use Rattle.std.proofs.Common.{◌≡◌, ℕ, ◌<◌, List, [], ◌∷◌, ◌++◌, Bool, true, false, Option, Some, None, refl, sym, ◌∙◌, ap, subst, length, arith, get_or, set}
+use Rattle.std.proofs.Common.{cond, pos, length-set, get_or-set_same, get_or-set_other}
 use Rattle.std.proofs.lemmas.Bool.Decides.{nat_tests}
 use Rattle.std.proofs.lemmas.List.{map-append}
 use Rattle.std.proofs.lemmas.List.Folds.{find-append}
@@ -33,12 +32,10 @@ use Rattle.laws_runs.proofs.EffectLemmas.{endless}
 use Rattle.laws_runs.proofs.CompletionLemmas.{AllTold}
 use Rattle.sts_joiners.proofs.TellLemmas.{is_enough}
 use Rattle.laws_live.specs.Reading.{task_in, scope_in, live_scope_at}
-use Rattle.laws_live.specs.Effect.{live_told, live_decide, live_complete, live_tell, live_ended}
-use Rattle.laws_live.specs.Effect.{live_end}
+use Rattle.laws_live.specs.Effect.{live_told, live_decide, live_complete, live_tell, live_ended, live_end}
 use Rattle.laws_live.specs.Cancelling.{live_cancel}
 use Rattle.laws_live.proofs.ListLemmas.{map_kept}
-use Rattle.laws_live.proofs.ViewLemmas.{shown, seen_of, seen, seen_scope, tasks_born, scopes_born}
-use Rattle.laws_live.proofs.ViewLemmas.{task_here, scope_here, same_view, scope_is, task_is}
+use Rattle.laws_live.proofs.ViewLemmas.{shown, seen_of, seen, seen_scope, tasks_born, scopes_born, task_here, scope_here, same_view, scope_is, task_is}
 use Rattle.laws_live.proofs.Changes.{seen-written, seen-cancel}
 
 -- ---- the task has ended

@@ -1,7 +1,6 @@
 -- The laws over every run.
-use Rattle.std.proofs.Common.{◌≡◌, ℕ, ◌+◌, List, [], ◌∷◌, ◌++◌, Bool, true, false}
-use Rattle.std.proofs.Common.{Option, Some, None, refl, sym, ◌∙◌, ap, subst, arith, cond}
-use Rattle.std.proofs.Common.{◌&&◌, append_assoc, pos}
+use Rattle.std.proofs.Common.{◌≡◌, ℕ, ◌+◌, List, [], ◌∷◌, ◌++◌, Bool, true, false, Option, Some, None, refl, sym, ◌∙◌, ap, subst, arith, cond, ◌&&◌}
+use Rattle.std.proofs.Common.{append_assoc, pos}
 use Rattle.std.proofs.lemmas.List.{append-nil}
 use Rattle.std.proofs.lemmas.List.Sums.{fold-append}
 use Rattle.sts_code.specs.Program.{Program}
@@ -11,31 +10,25 @@ use Rattle.sts_model.specs.declared.event.Event.TheVariants as event
 use Rattle.sts_model.specs.declared.event.End.TheVariants.{Success}
 use Rattle.sts_model.specs.declared.event.Fault.{Fault}
 use Rattle.sts_model.specs.declared.record.Frame.{Frame}
-use Rattle.sts_model.specs.World.{World, State, Running, Faulted, task_at, scope_at}
-use Rattle.sts_model.specs.World.{instr_at, opening}
+use Rattle.sts_model.specs.World.{World, State, Running, Faulted, task_at, scope_at, instr_at, opening}
 use Rattle.sts_model.specs.Joining.{result_of}
 use Rattle.sts_model.specs.Living.{lives, is_closed, ends, subtask_count}
 use Rattle.sts_model.specs.Misuse.{misuse}
 use Rattle.sts_model.proofs.FineLemmas.{fine}
 use Rattle.sts_model.specs.Waiting.{can_step}
-use Rattle.sts_model.specs.Run.{apply, after, stepped, perform, counts, is_step, steps_in}
-use Rattle.sts_model.specs.Run.{taken}
+use Rattle.sts_model.specs.Run.{apply, after, stepped, perform, counts, is_step, steps_in, taken}
 use Rattle.sts_model.specs.Live.{Live, Alive, live, result_in}
-use Rattle.laws_runs.specs.Runs.{NeverFaults}
-use Rattle.laws_runs.specs.Runs.{In, Ever}
+use Rattle.laws_runs.specs.Runs.{NeverFaults, In, Ever}
 use Rattle.std.proofs.lemmas.Bool.{and_parts}
 use Rattle.laws_runs.proofs.RunLemmas.{sum_one_more, taken_one_more, after-append}
 use Rattle.laws_runs.proofs.EventLemmas.{Also}
 use Rattle.laws_live.specs.Reading.{alive_at}
 use Rattle.laws_live.specs.Waiting.{live_can_step}
-use Rattle.laws_live.specs.Run.{live_opening, live_perform, live_apply, live_after, live_counts}
-use Rattle.laws_live.specs.Run.{live_steps_in, live_taken}
-use Rattle.laws_live.specs.Seen.{EffectIsSeen, InterruptIsSeen, ExpireIsSeen, CanStepIsSeen}
-use Rattle.laws_live.specs.Seen.{IsProper, CountsIsSeen, ResultIsSeen, EventIsSeen, RunIsSeen}
+use Rattle.laws_live.specs.Run.{live_opening, live_perform, live_apply, live_after, live_counts, live_steps_in, live_taken}
+use Rattle.laws_live.specs.Seen.{EffectIsSeen, InterruptIsSeen, ExpireIsSeen, CanStepIsSeen, IsProper, CountsIsSeen, ResultIsSeen, EventIsSeen, RunIsSeen}
 use Rattle.laws_live.specs.Seen.{TakenIsSeen, StandsAt, Turns, TurnsAreSeen, StandingIsSeen}
 use Rattle.sts_joiners.proofs.TellLemmas.{is_enough}
-use Rattle.laws_live.proofs.ViewLemmas.{tasks_stand, scopes_stand, alive_is, lives_is, scope_here}
-use Rattle.laws_live.proofs.ViewLemmas.{count_is}
+use Rattle.laws_live.proofs.ViewLemmas.{tasks_stand, scopes_stand, alive_is, lives_is, scope_here, count_is}
 use Rattle.laws_runs.proofs.SoundLemmas.{born_open}
 use Rattle.laws_live.proofs.EndLemmas.{open_some}
 use Rattle.laws_live.proofs.EffectLemmas.{Facts, seen-effect}

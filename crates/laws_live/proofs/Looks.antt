@@ -1,8 +1,7 @@
 -- The parts of a state that decide whether a task can step: the task itself, its own scopes and who
 -- lives in them.
-use Rattle.std.proofs.Common.{◌≡◌, ℕ, ◌<◌, ◌≤◌, [], ◌∷◌, ◌++◌, Bool, true, false, Option, Some}
-use Rattle.std.proofs.Common.{refl, sym, ◌∙◌, ap, length, arith, set, cond, ◌&&◌, ◌||◌, not, nat_lt}
-use Rattle.std.proofs.Common.{length-set, length-append, get_or-set_other}
+use Rattle.std.proofs.Common.{◌≡◌, ℕ, ◌<◌, ◌≤◌, [], ◌∷◌, ◌++◌, Bool, true, false, Option, Some, refl, sym, ◌∙◌, ap, length, arith, set, cond, ◌&&◌, ◌||◌, not}
+use Rattle.std.proofs.Common.{nat_lt, length-set, length-append, get_or-set_other}
 use Rattle.std.proofs.lemmas.Bool.Decides.{nat_tests}
 use Rattle.std.proofs.lemmas.List.{length-map, get_or_append_left, get_or-map}
 use Rattle.std.proofs.lemmas.List.Folds.{list_any-append}
@@ -15,8 +14,7 @@ use Rattle.sts_model.specs.declared.record.Slot.TheVariants.{Own}
 use Rattle.sts_model.specs.declared.record.Frame.{Frame}
 use Rattle.sts_model.specs.declared.record.Task.{Task}
 use Rattle.sts_model.specs.declared.record.Scope.{Scope}
-use Rattle.sts_model.specs.World.{World, task_at, scope_at, no_task, no_scope, with_task}
-use Rattle.sts_model.specs.World.{with_scope, instr_at}
+use Rattle.sts_model.specs.World.{World, task_at, scope_at, no_task, no_scope, with_task, with_scope, instr_at}
 use Rattle.sts_model.specs.Living.{lives, is_in, is_living_subtask, any_lives}
 use Rattle.sts_model.specs.Cancelling.{raise, raised, marked, cancel}
 use Rattle.sts_model.specs.Misuse.{slot}
@@ -26,8 +24,7 @@ use Rattle.laws_runs.proofs.ListLemmas.{at_set, past}
 use Rattle.laws_runs.proofs.KeptLemmas.{at_raised}
 use Rattle.laws_runs.proofs.BirthLemmas.{more_tasks, more_scopes}
 use Rattle.laws_live.specs.Reading.{alive_at}
-use Rattle.laws_live.specs.Waiting.{live_stands_at_join, live_stands_at_close, live_stand_at_instr}
-use Rattle.laws_live.specs.Waiting.{live_can_go, live_can_step}
+use Rattle.laws_live.specs.Waiting.{live_stands_at_join, live_stands_at_close, live_stand_at_instr, live_can_go, live_can_step}
 use Rattle.laws_live.proofs.ListLemmas.{any_alike}
 use Rattle.laws_live.proofs.ViewLemmas.{scope_is, alive_is, any_is, lives_is}
 use Rattle.laws_live.proofs.EndLemmas.{open_some}

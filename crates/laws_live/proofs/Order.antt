@@ -1,6 +1,5 @@
 -- Every live view of every run is in order.
-use Rattle.std.proofs.Common.{◌≡◌, ℕ, ◌<◌, List, [], ◌++◌, Bool, true, false, Option, Some, None}
-use Rattle.std.proofs.Common.{refl, sym, ◌∙◌, ap, subst, length, arith}
+use Rattle.std.proofs.Common.{◌≡◌, ℕ, ◌<◌, List, [], ◌++◌, Bool, true, false, Option, Some, None, refl, sym, ◌∙◌, ap, subst, length, arith}
 use Rattle.std.specs.Prelude.{is_some, unwrap_or, filter_map}
 use Rattle.std.specs.List.{list_any}
 use Rattle.sts_code.specs.Program.{Program}
@@ -23,16 +22,14 @@ use Rattle.laws_runs.proofs.StateLemmas.{owners_hold}
 use Rattle.laws_runs.specs.Scopes.{IsEntered}
 use Rattle.laws_runs.proofs.ScopeLemmas.{entries_are_open}
 use Rattle.laws_live.specs.Reading.{scope_in, live_task_at, live_scope_at, alive_at, no_live_task}
-use Rattle.laws_live.proofs.ViewLemmas.{task_here, scope_here, scope_is, task_is, alive_is, lives_is}
-use Rattle.laws_live.proofs.ViewLemmas.{task_gone, scope_gone}
+use Rattle.laws_live.proofs.ViewLemmas.{task_here, scope_here, scope_is, task_is, alive_is, lives_is, task_gone, scope_gone}
 use Rattle.laws_runs.proofs.SoundLemmas.{born_open, stands_alive}
 use Rattle.laws_live.proofs.EndLemmas.{open_some, untold}
 use Rattle.laws_live.proofs.EffectLemmas.{Facts}
 use Rattle.laws_runs.proofs.SlotLemmas.{IsSubOf, IsNamed, Named, named-after}
 use Rattle.laws_live.proofs.LawLemmas.{facts}
 use Rattle.laws_runs.proofs.EventLemmas.{Also}
-use Rattle.laws_live.specs.Order.{IsOwned, IsOwnSub, outer_in, LivesInOrder, IsHeld, IsInside}
-use Rattle.laws_live.specs.Order.{InOrder, SeenInOrder}
+use Rattle.laws_live.specs.Order.{IsOwned, IsOwnSub, outer_in, LivesInOrder, IsHeld, IsInside, InOrder, SeenInOrder}
 
 -- all that is known of a state
 record Known (w : World) : Type 0 where

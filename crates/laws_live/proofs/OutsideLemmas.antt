@@ -1,6 +1,5 @@
 -- Events from outside.
-use Rattle.std.proofs.Common.{◌≡◌, ℕ, Bool, true, false, refl, sym, ◌∙◌, ap, cond, ◌&&◌, not}
-use Rattle.std.proofs.Common.{get_or-set_same}
+use Rattle.std.proofs.Common.{◌≡◌, ℕ, Bool, true, false, refl, sym, ◌∙◌, ap, cond, ◌&&◌, not, get_or-set_same}
 use Rattle.std.specs.Prelude.{unwrap_or}
 use Rattle.std.proofs.Math.Bool.{and-false}
 use Rattle.sts_model.specs.declared.event.Phase.{Phase}

@@ -1,14 +1,12 @@
 -- The parts of a view that say at which scope a task is. Steps of other tasks leave them alone.
-use Rattle.std.proofs.Common.{◌≡◌, ℕ, zero, suc, List, [], ◌∷◌, ◌++◌, Bool, true, false, Option}
-use Rattle.std.proofs.Common.{Some, None, refl, sym, ◌∙◌, ap, get_or, set, map, cond, ◌&&◌}
+use Rattle.std.proofs.Common.{◌≡◌, ℕ, zero, suc, List, [], ◌∷◌, ◌++◌, Bool, true, false, Option, Some, None, refl, sym, ◌∙◌, ap, get_or, set, map, cond, ◌&&◌}
 use Rattle.std.proofs.Common.{get_or-set_other, length, arith, is_some}
 use Rattle.std.specs.Prelude.{option_map, unwrap_or}
 use Rattle.sts_model.specs.declared.record.Frame.{Frame}
 use Rattle.sts_model.specs.Living.{is_in}
 use Rattle.sts_model.specs.Live.{Live, LiveTask, LiveScope, Alive}
 use Rattle.laws_runs.proofs.ListLemmas.{at_set, at_more, past, none_found}
-use Rattle.laws_live.specs.Reading.{scope_in, task_in, no_live_task, no_live_scope, no_alive}
-use Rattle.laws_live.specs.Reading.{live_scope_at, alive_at, lives_in, with_alive, with_live_scope}
+use Rattle.laws_live.specs.Reading.{scope_in, task_in, no_live_task, no_live_scope, no_alive, live_scope_at, alive_at, lives_in, with_alive, with_live_scope}
 use Rattle.laws_live.specs.Reading.{is_live_living, live_any_lives}
 use Rattle.laws_live.specs.Cancelling.{live_raise, live_raised, live_marked, live_cancel}
 use Rattle.laws_live.specs.Effect.{without, live_gone}

@@ -4,8 +4,7 @@ use Rattle.std.proofs.Common.{refl, sym, ◌∙◌, ap, subst, length, ◌&&◌,
 use Rattle.std.specs.Prelude.{is_none}
 use Rattle.sts_code.specs.Program.{Program}
 use Rattle.sts_code.specs.declared.instr.Instr.{Instr}
-use Rattle.sts_code.specs.declared.instr.Instr.TheVariants.{Open, Fork, Join, Close, Get, Except}
-use Rattle.sts_code.specs.declared.instr.Instr.TheVariants.{Tally, Total, Read}
+use Rattle.sts_code.specs.declared.instr.Instr.TheVariants.{Open, Fork, Join, Close, Get, Except, Tally, Total, Read}
 use Rattle.sts_model.specs.declared.event.Event.{Event}
 use Rattle.sts_model.specs.declared.event.Event.TheVariants as event
 use Rattle.sts_model.specs.declared.event.Fault.{Fault}
@@ -18,27 +17,23 @@ use Rattle.sts_model.specs.World.{World, Running, Faulted, task_at, scope_at, in
 use Rattle.sts_model.specs.Environment.{read}
 use Rattle.sts_model.specs.Living.{lives, is_closed, parent, scope_of, sub_state}
 use Rattle.sts_model.specs.Standing.{stands_in, standing_tasks, standing_scopes}
-use Rattle.sts_model.specs.Misuse.{slot, at_own, at_sub, misuse, misjoins, has_no_room, is_crowded}
-use Rattle.sts_model.specs.Misuse.{is_opened, is_readable, is_illegal, has_succeeded, has_failed}
-use Rattle.sts_model.specs.Misuse.{breaks_structure, is_unbound, fault_at, IsFine}
+use Rattle.sts_model.specs.Misuse.{slot, at_own, at_sub, misuse, misjoins, has_no_room, is_crowded, is_opened, is_readable, is_illegal, has_succeeded}
+use Rattle.sts_model.specs.Misuse.{has_failed, breaks_structure, is_unbound, fault_at, IsFine}
 use Rattle.sts_model.proofs.FineLemmas.{fine}
 use Rattle.sts_model.specs.Waiting.{can_step}
 use Rattle.sts_model.specs.Run.{apply, after}
 use Rattle.sts_model.specs.Live.{Live, LiveTask, LiveScope, Alive, live, shown_scope}
-use Rattle.laws_runs.specs.Runs.{In}
+use Rattle.laws_runs.specs.Runs.{In, NeverFaults}
 use Rattle.std.proofs.lemmas.Bool.{and_parts}
 use Rattle.laws_runs.proofs.RunLemmas.{after-append}
-use Rattle.laws_runs.specs.Runs.{NeverFaults}
 use Rattle.laws_live.specs.Effect.{live_state}
 use Rattle.laws_live.specs.Waiting.{live_can_step}
-use Rattle.laws_live.proofs.ViewLemmas.{scope_is, task_is, alive_is, count_is, tasks_born, scopes_born}
-use Rattle.laws_live.proofs.ViewLemmas.{tasks_stand, scopes_stand}
+use Rattle.laws_live.proofs.ViewLemmas.{scope_is, task_is, alive_is, count_is, tasks_born, scopes_born, tasks_stand, scopes_stand}
 use Rattle.laws_live.proofs.EndLemmas.{open_some}
 use Rattle.laws_live.proofs.EffectLemmas.{Facts}
 use Rattle.laws_live.proofs.WaitingLemmas.{frame_is, can_is}
 use Rattle.laws_live.proofs.LawLemmas.{facts-after}
-use Rattle.laws_live.specs.Fine.{live_at_own, live_parent, live_at_sub, live_misjoins}
-use Rattle.laws_live.specs.Fine.{live_has_no_room, live_is_illegal, live_breaks_structure}
+use Rattle.laws_live.specs.Fine.{live_at_own, live_parent, live_at_sub, live_misjoins, live_has_no_room, live_is_illegal, live_breaks_structure}
 use Rattle.laws_live.specs.Fine.{live_is_unbound, IsLiveFine, IsSafe, TurnsAreSafe}
 
 -- ---- tests of what slots name

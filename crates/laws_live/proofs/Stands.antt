@@ -1,7 +1,6 @@
 -- Only a task's own steps change at which scope it is.
-use Rattle.std.proofs.Common.{◌≡◌, ℕ, [], ◌∷◌, ◌++◌, Bool, true, false, Option, Some, None, refl}
-use Rattle.std.proofs.Common.{sym, ◌∙◌, ap, subst, set, cond, ◌||◌, not, get_or-set_other, length}
-use Rattle.std.proofs.Common.{arith, is_some, take}
+use Rattle.std.proofs.Common.{◌≡◌, ℕ, [], ◌∷◌, ◌++◌, Bool, true, false, Option, Some, None, refl, sym, ◌∙◌, ap, subst, set, cond, ◌||◌, not, get_or-set_other}
+use Rattle.std.proofs.Common.{length, arith, is_some, take}
 use Rattle.std.proofs.Math.Seq.{get_or-append_seam}
 use Rattle.std.proofs.lemmas.Bool.Decides.{nat_tests}
 use Rattle.std.proofs.lemmas.Bool.{and_parts, eqb-false}
@@ -33,27 +32,21 @@ use Rattle.laws_runs.proofs.ListLemmas.{past}
 use Rattle.laws_runs.proofs.BirthLemmas.{new-owns_nothing}
 use Rattle.laws_runs.proofs.EffectLemmas.{first_no}
 use Rattle.laws_runs.proofs.FrameLemmas.{own_slot}
-use Rattle.laws_live.specs.Reading.{scope_in, task_in, no_live_task, no_live_scope, no_alive}
-use Rattle.laws_live.specs.Reading.{live_scope_at, live_task_at, alive_at, lives_in, with_live_phase}
+use Rattle.laws_live.specs.Reading.{scope_in, task_in, no_live_task, no_live_scope, no_alive, live_scope_at, live_task_at, alive_at, lives_in, with_live_phase}
 use Rattle.laws_live.specs.Reading.{live_any_lives, live_count}
 use Rattle.laws_live.specs.Cancelling.{live_cancel}
-use Rattle.laws_live.specs.Effect.{opened_scope, live_open, live_subtask_of, live_fork, live_verdict}
-use Rattle.laws_live.specs.Effect.{live_join, live_gone, live_close, live_told, live_decide}
+use Rattle.laws_live.specs.Effect.{opened_scope, live_open, live_subtask_of, live_fork, live_verdict, live_join, live_gone, live_close, live_told, live_decide}
 use Rattle.laws_live.specs.Effect.{live_tell, live_ended, live_end}
 use Rattle.laws_live.specs.Outside.{live_can_expire}
-use Rattle.laws_live.specs.Waiting.{live_stands_at_join, live_stands_at_close, live_stand_at_instr}
-use Rattle.laws_live.specs.Waiting.{live_stand_at, live_can_step}
+use Rattle.laws_live.specs.Waiting.{live_stands_at_join, live_stands_at_close, live_stand_at_instr, live_stand_at, live_can_step}
 use Rattle.laws_live.specs.Run.{live_perform}
 use Rattle.laws_live.specs.Fine.{IsSafe}
 use Rattle.laws_live.specs.Order.{IsOwned, InOrder}
-use Rattle.laws_live.specs.Stands.{IsUnmoved, EffectsMoveOne, InterruptsMoveNone, ExpiriesMoveNone}
-use Rattle.laws_live.specs.Stands.{IdleStandFree, is_stand_at, StandsAreOwned, StandsStay}
+use Rattle.laws_live.specs.Stands.{IsUnmoved, EffectsMoveOne, InterruptsMoveNone, ExpiriesMoveNone, IdleStandFree, is_stand_at, StandsAreOwned, StandsStay}
 use Rattle.laws_live.proofs.Order as order
 use Rattle.laws_live.proofs.Safe as safe
-use Rattle.laws_live.proofs.RestingLemmas.{Rests, rests-refl, rests-trans, rests-cond, rests-other}
-use Rattle.laws_live.proofs.RestingLemmas.{rests-more_tasks, rests-flag, rests-scope, IsAlien}
-use Rattle.laws_live.proofs.RestingLemmas.{rests-alien, rests-more_scopes, alien_of, rests-cancel}
-use Rattle.laws_live.proofs.RestingLemmas.{owner-cancel, rests-gone}
+use Rattle.laws_live.proofs.RestingLemmas.{Rests, rests-refl, rests-trans, rests-cond, rests-other, rests-more_tasks, rests-flag, rests-scope, IsAlien}
+use Rattle.laws_live.proofs.RestingLemmas.{rests-alien, rests-more_scopes, alien_of, rests-cancel, owner-cancel, rests-gone}
 
 -- ---- who owns nothing
 

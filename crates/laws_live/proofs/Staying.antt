@@ -1,7 +1,6 @@
 -- A task that can step still can after any event but its own step.
-use Rattle.std.proofs.Common.{◌≡◌, ℕ, ◌<◌, ◌≤◌, List, [], ◌∷◌, Bool, true, false, Option, Some}
-use Rattle.std.proofs.Common.{None, refl, sym, ◌∙◌, ap, subst, length, get_or, set, drop, cond}
-use Rattle.std.proofs.Common.{◌&&◌, ◌||◌, not, suc, arith, length-set, get_or-set_other}
+use Rattle.std.proofs.Common.{◌≡◌, ℕ, ◌<◌, ◌≤◌, List, [], ◌∷◌, Bool, true, false, Option, Some, None, refl, sym, ◌∙◌, ap, subst, length, get_or, set, drop}
+use Rattle.std.proofs.Common.{cond, ◌&&◌, ◌||◌, not, suc, arith, length-set, get_or-set_other}
 use Rattle.std.proofs.lemmas.Bool.Decides.{nat_tests}
 use Rattle.std.proofs.lemmas.List.{length-map}
 use Rattle.std.specs.List.{list_any}
@@ -21,8 +20,7 @@ use Rattle.sts_model.specs.declared.record.Slot.TheVariants.{Own}
 use Rattle.sts_model.specs.declared.record.Frame.{Frame}
 use Rattle.sts_model.specs.declared.record.Task.{Task}
 use Rattle.sts_model.specs.declared.record.Scope.{Scope}
-use Rattle.sts_model.specs.World.{World, Running, task_at, scope_at, no_task, no_scope, instr_at}
-use Rattle.sts_model.specs.World.{with_task, with_scope}
+use Rattle.sts_model.specs.World.{World, Running, task_at, scope_at, no_task, no_scope, instr_at, with_task, with_scope}
 use Rattle.sts_model.specs.Local.{operand, steps}
 use Rattle.sts_model.specs.Joining.{cancels}
 use Rattle.sts_model.specs.Living.{lives, is_living_subtask, is_in, any_lives, ends}
@@ -30,12 +28,11 @@ use Rattle.sts_model.specs.Cancelling.{raise, raised, marked, cancel}
 use Rattle.sts_model.specs.Misuse.{slot, misuse, IsFine}
 use Rattle.sts_model.proofs.FineLemmas.{fine}
 use Rattle.sts_model.specs.Waiting.{can_step, is_closing}
-use Rattle.sts_model.specs.Effect.{effect, named, cleared, close_scope, told, decide, tell, ended}
-use Rattle.sts_model.specs.Effect.{end_task}
+use Rattle.sts_model.specs.Effect.{effect, named, cleared, close_scope, told, decide, tell, ended, end_task}
 use Rattle.sts_model.specs.Outside.{can_expire}
 use Rattle.sts_model.specs.Run.{apply, stepped, perform}
 use Rattle.sts_model.specs.Live.{live}
-use Rattle.laws_runs.specs.Runs.{In}
+use Rattle.laws_runs.specs.Runs.{In, NeverFaults}
 use Rattle.laws_runs.proofs.ListLemmas.{at_set}
 use Rattle.std.proofs.lemmas.Bool.{and_parts, eqb-false}
 use Rattle.std.proofs.Math.Bool.{and-false}
@@ -43,10 +40,8 @@ use Rattle.laws_runs.proofs.KeptLemmas.{kept-cancel, at_raised}
 use Rattle.laws_runs.proofs.FrameLemmas.{own_slot}
 use Rattle.laws_runs.proofs.EffectLemmas.{first_no}
 use Rattle.laws_runs.proofs.BirthLemmas.{born_alive}
-use Rattle.laws_runs.specs.Runs.{NeverFaults}
 use Rattle.laws_live.specs.Reading.{alive_at, lives_in}
-use Rattle.laws_live.specs.Waiting.{live_stands_at_join, live_stands_at_close, live_stand_at_instr}
-use Rattle.laws_live.specs.Waiting.{live_can_go, live_can_step}
+use Rattle.laws_live.specs.Waiting.{live_stands_at_join, live_stands_at_close, live_stand_at_instr, live_can_go, live_can_step}
 use Rattle.laws_live.proofs.ViewLemmas.{scope_is, alive_is, any_is, lives_is, tasks_born}
 use Rattle.laws_live.proofs.EndLemmas.{open_some}
 use Rattle.laws_live.proofs.EffectLemmas.{Facts}

@@ -1,7 +1,6 @@
 -- The view of one task and of one scope, and readings of the view.
-use Rattle.std.proofs.Common.{get_or, ◌⊎◌, inl, inr, ◌≡◌, ℕ, ◌<◌, ◌≤◌, ◌+◌, List, [], ◌∷◌, ◌++◌, Bool, true, false, Option}
-use Rattle.std.proofs.Common.{Some, None, refl, sym, ◌∙◌, ap, length, arith, cond, ◌&&◌, not}
-use Rattle.std.proofs.Common.{nat_lt}
+use Rattle.std.proofs.Common.{get_or, ◌⊎◌, inl, inr, ◌≡◌, ℕ, ◌<◌, ◌≤◌, ◌+◌, List, [], ◌∷◌, ◌++◌, Bool, true, false, Option, Some, None, refl, sym, ◌∙◌, ap}
+use Rattle.std.proofs.Common.{length, arith, cond, ◌&&◌, not, nat_lt}
 use Rattle.std.proofs.lemmas.Bool.{cases_lt}
 use Rattle.std.proofs.lemmas.Bool.Decides.{nat_tests}
 use Rattle.std.proofs.lemmas.List.FromFn.{get_or-map-range_with_len, length-map-range_with_len}
@@ -13,17 +12,13 @@ use Rattle.sts_model.specs.declared.event.End.{End}
 use Rattle.sts_model.specs.declared.record.Task.{Task}
 use Rattle.sts_model.specs.declared.record.Scope.{Scope}
 use Rattle.sts_model.specs.World.{World, task_at, scope_at, no_task, no_scope}
-use Rattle.sts_model.specs.Living.{lives, is_in, is_subtask, is_living_subtask, any_lives}
-use Rattle.sts_model.specs.Living.{subtask_count, is_closed, completion_of, parent}
-use Rattle.sts_model.specs.Standing.{is_standing_scope, is_standing_task, stands_in, standing_tasks}
-use Rattle.sts_model.specs.Standing.{standing_scopes}
+use Rattle.sts_model.specs.Living.{lives, is_in, is_subtask, is_living_subtask, any_lives, subtask_count, is_closed, completion_of, parent}
+use Rattle.sts_model.specs.Standing.{is_standing_scope, is_standing_task, stands_in, standing_tasks, standing_scopes}
 use Rattle.sts_model.specs.Environment.{own_bindings}
-use Rattle.sts_model.specs.Live.{Live, LiveTask, LiveScope, Alive, live, live_task, live_scope}
-use Rattle.sts_model.specs.Live.{shown_scope, subtask_in}
+use Rattle.sts_model.specs.Live.{Live, LiveTask, LiveScope, Alive, live, live_task, live_scope, shown_scope, subtask_in}
 use Rattle.laws_runs.proofs.ListLemmas.{past}
 use Rattle.laws_runs.proofs.SoundLemmas.{Sound, born_open, dead_around, stands_alive}
-use Rattle.laws_live.specs.Reading.{task_in, scope_in, no_live_task, no_live_scope, no_alive}
-use Rattle.laws_live.specs.Reading.{live_task_at, live_scope_at, alive_at, lives_in, live_count}
+use Rattle.laws_live.specs.Reading.{task_in, scope_in, no_live_task, no_live_scope, no_alive, live_task_at, live_scope_at, alive_at, lives_in, live_count}
 use Rattle.laws_live.specs.Reading.{is_live_living, live_any_lives}
 use Rattle.laws_live.proofs.ListLemmas.{alike, any_alike, count_alike}
 
@@ -43,9 +38,6 @@ seen_of w o u task = cond (stands_in w o) (Some (shown w o u task)) None
 
 abbrev pub seen : World → ℕ → Task → Option LiveTask
 seen w u task = seen_of w task.scope u task
-
-pub task_seen : (w : World) (u : ℕ) → live_task w u ≡ seen w u (task_at w u)
-task_seen w u = refl
 
 -- what is seen of a scope
 abbrev pub seen_scope : Scope → Option LiveScope

@@ -1,6 +1,5 @@
 -- Which tasks can step.
-use Rattle.std.proofs.Common.{◌≡◌, ℕ, Bool, true, false, Option, Some, None, refl, sym, ◌∙◌, ap}
-use Rattle.std.proofs.Common.{cond, ◌&&◌, not}
+use Rattle.std.proofs.Common.{◌≡◌, ℕ, Bool, true, false, Option, Some, None, refl, sym, ◌∙◌, ap, cond, ◌&&◌, not}
 use Rattle.sts_code.specs.Program.{Program}
 use Rattle.sts_code.specs.declared.instr.Instr.{Instr}
 use Rattle.sts_code.specs.declared.instr.Instr.TheVariants.{Join, Close}
@@ -12,12 +11,10 @@ use Rattle.sts_model.specs.declared.record.Frame.{Frame}
 use Rattle.sts_model.specs.World.{World, task_at, scope_at, instr_at}
 use Rattle.sts_model.specs.Living.{lives}
 use Rattle.sts_model.specs.Misuse.{slot, misuse}
-use Rattle.sts_model.specs.Waiting.{stands_at_join, stands_at_close, stand_at_instr, can_go, is_closing}
-use Rattle.sts_model.specs.Waiting.{can_step}
+use Rattle.sts_model.specs.Waiting.{stands_at_join, stands_at_close, stand_at_instr, can_go, is_closing, can_step}
 use Rattle.sts_model.specs.Live.{Alive, live}
 use Rattle.laws_live.specs.Reading.{alive_at}
-use Rattle.laws_live.specs.Waiting.{live_stands_at_join, live_stands_at_close, live_stand_at_instr}
-use Rattle.laws_live.specs.Waiting.{live_can_go, live_can_step}
+use Rattle.laws_live.specs.Waiting.{live_stands_at_join, live_stands_at_close, live_stand_at_instr, live_can_go, live_can_step}
 use Rattle.laws_live.proofs.ViewLemmas.{scope_is, alive_is, any_is, lives_is}
 use Rattle.laws_live.proofs.EffectLemmas.{Facts}
 use Rattle.laws_live.proofs.EndLemmas.{open_some}

@@ -1,13 +1,11 @@
 -- An event that doesn't concern a task leaves all that it depends on unchanged.
-use Rattle.std.proofs.Common.{List, ◌≡◌, ℕ, [], ◌∷◌, ◌++◌, Bool, true, false, Option, Some, None}
-use Rattle.std.proofs.Common.{refl, sym, ◌∙◌, ap, subst, length, drop, cond, ◌&&◌, ◌||◌, not}
-use Rattle.std.proofs.Common.{unwrap_or, arith, get_or-set_other}
+use Rattle.std.proofs.Common.{List, ◌≡◌, ℕ, [], ◌∷◌, ◌++◌, Bool, true, false, Option, Some, None, refl, sym, ◌∙◌, ap, subst, length, drop, cond, ◌&&◌, ◌||◌}
+use Rattle.std.proofs.Common.{not, unwrap_or, arith, get_or-set_other}
 use Rattle.std.proofs.lemmas.Bool.Decides.{nat_tests}
 use Rattle.std.specs.Prelude.{◌==◌}
 use Rattle.sts_code.specs.Program.{Program, routine}
 use Rattle.sts_code.specs.declared.instr.Instr.{Instr}
-use Rattle.sts_code.specs.declared.instr.Instr.TheVariants.{Open, Fork, Join, Close, Interrupted}
-use Rattle.sts_code.specs.declared.instr.Instr.TheVariants.{Ret, Fail}
+use Rattle.sts_code.specs.declared.instr.Instr.TheVariants.{Open, Fork, Join, Close, Interrupted, Ret, Fail}
 use Rattle.sts_code.specs.declared.instr.Joiner.{Joiner}
 use Rattle.sts_model.specs.declared.event.Event.{Event}
 use Rattle.sts_model.specs.declared.event.Event.TheVariants as event
@@ -22,24 +20,21 @@ use Rattle.sts_model.specs.declared.record.Slot.TheVariants as slots
 use Rattle.sts_model.specs.declared.record.Frame.{Frame}
 use Rattle.sts_model.specs.declared.record.Task.{Task}
 use Rattle.sts_model.specs.declared.record.Scope.{Scope}
-use Rattle.sts_model.specs.World.{World, Running, task_at, scope_at, no_task, no_scope, instr_at}
-use Rattle.sts_model.specs.World.{with_task, with_scope}
+use Rattle.sts_model.specs.World.{World, Running, task_at, scope_at, no_task, no_scope, instr_at, with_task, with_scope}
 use Rattle.sts_model.specs.Local.{operand, goes, steps}
 use Rattle.sts_model.specs.Joining.{cancels, result_of}
-use Rattle.sts_model.specs.Living.{lives, is_in, is_living_subtask, any_lives, is_closed, ends}
-use Rattle.sts_model.specs.Living.{subtask_count}
+use Rattle.sts_model.specs.Living.{lives, is_in, is_living_subtask, any_lives, is_closed, ends, subtask_count}
 use Rattle.sts_model.specs.Standing.{stands_in}
 use Rattle.sts_model.specs.Cancelling.{cancel}
 use Rattle.sts_model.specs.Misuse.{slot, misuse, IsFine}
 use Rattle.sts_model.proofs.FineLemmas.{fine}
 use Rattle.sts_model.specs.Waiting.{can_step}
-use Rattle.sts_model.specs.Effect.{effect, named, with_phase, open_scope, fork_task, forked}
-use Rattle.sts_model.specs.Effect.{subtask_of, join_verdict, join_scope, cleared, close_scope, told}
+use Rattle.sts_model.specs.Effect.{effect, named, with_phase, open_scope, fork_task, forked, subtask_of, join_verdict, join_scope, cleared, close_scope, told}
 use Rattle.sts_model.specs.Effect.{decide, tell, ended, end_task}
 use Rattle.sts_model.specs.Outside.{can_expire}
 use Rattle.sts_model.specs.Run.{apply, stepped, perform}
 use Rattle.sts_model.specs.Live.{Live, LiveTask, LiveScope, live}
-use Rattle.laws_runs.specs.Runs.{In}
+use Rattle.laws_runs.specs.Runs.{In, NeverFaults}
 use Rattle.laws_runs.proofs.ListLemmas.{at_set}
 use Rattle.std.proofs.lemmas.Bool.{or_parts, and_parts, eqb-false}
 use Rattle.laws_runs.proofs.KeptLemmas.{kept-cancel}
@@ -57,11 +52,9 @@ use Rattle.laws_live.proofs.OutsideLemmas.{open_timely}
 use Rattle.laws_live.proofs.WaitingLemmas.{frame_is}
 use Rattle.laws_live.proofs.LawLemmas.{facts-after, turns_are_seen}
 use Rattle.laws_live.specs.Run.{live_apply}
-use Rattle.laws_runs.specs.Runs.{NeverFaults}
 use Rattle.laws_live.specs.Seen.{StandsAt}
 use Rattle.laws_live.specs.Waking.{is_around, touches, concerns, OthersStay}
-use Rattle.laws_live.proofs.Looks.{Looks, looks-refl, looks-trans, looks-cond, looks-task}
-use Rattle.laws_live.proofs.Looks.{looks-scope, looks-cancel, looks-more_tasks, looks-more_scopes}
+use Rattle.laws_live.proofs.Looks.{Looks, looks-refl, looks-trans, looks-cond, looks-task, looks-scope, looks-cancel, looks-more_tasks, looks-more_scopes}
 use Rattle.laws_live.proofs.Looks.{can-same}
 
 -- ---- who is concerned

@@ -1,6 +1,5 @@
 -- What is read of tasks and scopes, and which step is a misuse, in two states that are alike.
-use Rattle.std.proofs.Common.{◌≡◌, ℕ, List, [], ◌∷◌, Bool, true, false, Option, Some, None}
-use Rattle.std.proofs.Common.{refl, sym, ◌∙◌, ap, length, cond, count_by, ◌&&◌, ◌||◌, not, map}
+use Rattle.std.proofs.Common.{◌≡◌, ℕ, List, [], ◌∷◌, Bool, true, false, Option, Some, None, refl, sym, ◌∙◌, ap, length, cond, count_by, ◌&&◌, ◌||◌, not, map}
 use Rattle.std.specs.Prelude.{◌-◌, ◌==◌, nat_lt, option_map}
 use Rattle.std.proofs.Math.ListN.{get_or-map}
 use Rattle.laws_words.proofs.ListLemmas.{any_count}

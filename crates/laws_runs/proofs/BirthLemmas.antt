@@ -1,7 +1,6 @@
 -- The facts that `open` and `fork` keep: one scope more, one task more.
-use Rattle.std.proofs.Common.{◌≡◌, ◌≢◌, ℕ, zero, suc, ◌<◌, List, [], ◌∷◌, ◌++◌, Bool, true, false}
-use Rattle.std.proofs.Common.{Option, Some, None, refl, sym, ◌∙◌, ap, length, arith, get_or, set}
-use Rattle.std.proofs.Common.{◌||◌, nat_eq, replicate, take, length-append, get_or-set_same}
+use Rattle.std.proofs.Common.{◌≡◌, ◌≢◌, ℕ, zero, suc, ◌<◌, List, [], ◌∷◌, ◌++◌, Bool, true, false, Option, Some, None, refl, sym, ◌∙◌, ap, length, arith}
+use Rattle.std.proofs.Common.{get_or, set, ◌||◌, nat_eq, replicate, take, length-append, get_or-set_same}
 use Rattle.std.specs.Prelude.{slice_set, reverse, ℤ, ◌==◌}
 use Rattle.std.specs.List.{list_any}
 use Rattle.std.proofs.lemmas.List.{get_or_append_left}

@@ -1,8 +1,7 @@
 -- Completions: each is of a subtask that ended like that, once. While the scope isn't cancelled,
 -- all ended subtasks have one.
-use Rattle.std.proofs.Common.{◌⊎◌, inl, inr, ◌≡◌, ℕ, ◌+◌, ◌<◌, ◌≤◌, List, [], ◌∷◌, ◌++◌, Bool, true}
-use Rattle.std.proofs.Common.{false, Option, Some, None, refl, sym, ◌∙◌, length, arith, get_or, set}
-use Rattle.std.proofs.Common.{cond, get_or-set_same, nat_lt}
+use Rattle.std.proofs.Common.{◌⊎◌, inl, inr, ◌≡◌, ℕ, ◌+◌, ◌<◌, ◌≤◌, List, [], ◌∷◌, ◌++◌, Bool, true, false, Option, Some, None, refl, sym, ◌∙◌, length, arith}
+use Rattle.std.proofs.Common.{get_or, set, cond, get_or-set_same, nat_lt}
 use Rattle.std.specs.Prelude.{◌==◌, find, option_map, count_by, is_some}
 use Rattle.std.proofs.lemmas.Bool.Decides.{nat_tests}
 use Rattle.std.proofs.lemmas.List.Sums.{sum_by-cons, sum_by-append}
@@ -16,8 +15,7 @@ use Rattle.sts_model.specs.Local.{steps}
 use Rattle.sts_model.specs.Living.{lives, parent, completion_of, sub_state}
 use Rattle.sts_code.specs.Program.{Program}
 use Rattle.sts_code.specs.declared.instr.Joiner.{Joiner}
-use Rattle.sts_model.specs.Effect.{open_scope, fork_task, subtask_of, told, decide, tell, ended}
-use Rattle.sts_model.specs.Effect.{end_task}
+use Rattle.sts_model.specs.Effect.{open_scope, fork_task, subtask_of, told, decide, tell, ended, end_task}
 use Rattle.laws_runs.specs.Later.{Completes, Later}
 use Rattle.laws_runs.proofs.ListLemmas.{at_set, at_put, at_more, within, past}
 use Rattle.laws_runs.proofs.StillLemmas.{Still}

@@ -1,19 +1,15 @@
 -- The facts that each effect keeps, except those of `open` and `fork`.
-use Rattle.std.proofs.Common.{◌&&◌, ◌≡◌, ℕ, ◌<◌, ◌≤◌, subst, List, [], ◌∷◌, Bool, true, false}
-use Rattle.std.proofs.Common.{Option, Some, None, refl, sym, ◌∙◌, ap, length, cond, ◌||◌, not}
+use Rattle.std.proofs.Common.{◌&&◌, ◌≡◌, ℕ, ◌<◌, ◌≤◌, subst, List, [], ◌∷◌, Bool, true, false, Option, Some, None, refl, sym, ◌∙◌, ap, length, cond, ◌||◌, not}
 use Rattle.std.proofs.Common.{unwrap_or, arith, get_or-set_same}
 use Rattle.std.proofs.lemmas.Bool.Decides.{nat_tests}
 use Rattle.std.specs.List.{list_any}
 use Rattle.std.specs.Prelude.{nat_lt, is_none}
 use Rattle.sts_code.specs.Program.{Program}
 use Rattle.sts_code.specs.declared.instr.Instr.{Instr}
-use Rattle.sts_code.specs.declared.instr.Instr.TheVariants.{Open, Fork, Join, Close}
-use Rattle.sts_code.specs.declared.instr.Instr.TheVariants.{Bind, Unbind}
-use Rattle.sts_code.specs.declared.instr.Instr.TheVariants.{Interrupted, Ret, Fail}
+use Rattle.sts_code.specs.declared.instr.Instr.TheVariants.{Open, Fork, Join, Close, Bind, Unbind, Interrupted, Ret, Fail}
 use Rattle.sts_model.specs.declared.event.End.{End}
 use Rattle.sts_model.specs.declared.event.Phase.{Phase}
-use Rattle.sts_model.specs.declared.event.Phase.TheVariants.{Opened, Attempted, Joined, Closing}
-use Rattle.sts_model.specs.declared.event.Phase.TheVariants.{Closed}
+use Rattle.sts_model.specs.declared.event.Phase.TheVariants.{Opened, Attempted, Joined, Closing, Closed}
 use Rattle.sts_model.specs.declared.event.Verdict.{Verdict}
 use Rattle.sts_model.specs.declared.event.Verdict.TheVariants as verdict
 use Rattle.sts_model.specs.declared.record.Slot.TheVariants as slots
@@ -21,12 +17,10 @@ use Rattle.sts_model.specs.declared.record.Entry.{Entry}
 use Rattle.sts_model.specs.declared.record.Frame.{Frame}
 use Rattle.sts_model.specs.declared.record.Task.{Task}
 use Rattle.sts_model.specs.declared.record.Scope.{Scope}
-use Rattle.sts_model.specs.World.{World, task_at, scope_at, no_task, no_scope, with_task}
-use Rattle.sts_model.specs.World.{with_scope}
+use Rattle.sts_model.specs.World.{World, task_at, scope_at, no_task, no_scope, with_task, with_scope}
 use Rattle.sts_model.specs.Local.{goes, steps}
 use Rattle.sts_model.specs.Joining.{cancels, result_of}
-use Rattle.sts_model.specs.Living.{lives, is_in, is_subtask, is_living_subtask, any_lives}
-use Rattle.sts_model.specs.Living.{is_closed, ends, subtask_count}
+use Rattle.sts_model.specs.Living.{lives, is_in, is_subtask, is_living_subtask, any_lives, is_closed, ends, subtask_count}
 use Rattle.sts_model.specs.Cancelling.{marked, cancel}
 use Rattle.sts_model.specs.Misuse.{slot, can_join, is_entry_of, innermost, IsFine}
 use Rattle.sts_model.specs.Effect.{effect, named, with_phase, joined, join_verdict, join_scope}
@@ -37,13 +31,9 @@ use Rattle.laws_runs.proofs.ListLemmas.{at_set, found, none_found}
 use Rattle.std.proofs.lemmas.Bool.{and_parts, or_parts, eq-eqb}
 use Rattle.std.specs.Cmp.Derive.{both_true}
 use Rattle.laws_runs.proofs.LaterLemmas.{moves_on-same, completes-refl}
-use Rattle.laws_runs.proofs.KeptLemmas.{Kept, kept-refl, kept-trans, kept-task, kept-scope}
-use Rattle.laws_runs.proofs.KeptLemmas.{kept-cond, at_raised}
-use Rattle.laws_runs.proofs.StillLemmas.{Still, Fits, still-refl, still-trans, still-cond}
-use Rattle.laws_runs.proofs.StillLemmas.{still-task, still-frame, still-scope, still-phase}
-use Rattle.laws_runs.proofs.StillLemmas.{still-cancel}
-use Rattle.laws_runs.proofs.FrameLemmas.{fits-refl, fits-leaves, leaves-moved, fits-bind, fits-unbind, fits-close}
-use Rattle.laws_runs.proofs.FrameLemmas.{own_slot, at_own-is}
+use Rattle.laws_runs.proofs.KeptLemmas.{Kept, kept-refl, kept-trans, kept-task, kept-scope, kept-cond, at_raised}
+use Rattle.laws_runs.proofs.StillLemmas.{Still, Fits, still-refl, still-trans, still-cond, still-task, still-frame, still-scope, still-phase, still-cancel}
+use Rattle.laws_runs.proofs.FrameLemmas.{fits-refl, fits-leaves, leaves-moved, fits-bind, fits-unbind, fits-close, own_slot, at_own-is}
 use Rattle.laws_runs.proofs.SoundLemmas.{Sound, sound-kept}
 
 -- ---- join

@@ -1,7 +1,6 @@
 -- The effect of `open`, `fork` and `close` on structure lists.
-use Rattle.std.proofs.Common.{◌≡◌, ℕ, ◌+◌, ◌<◌, ◌≤◌, List, [], ◌∷◌, ◌++◌, Bool, true, false, Option}
-use Rattle.std.proofs.Common.{refl, sym, ◌∙◌, ap, length, arith, get_or, set, cond, drop, ◌||◌, not}
-use Rattle.std.proofs.Common.{length-set, get_or-set_other}
+use Rattle.std.proofs.Common.{◌≡◌, ℕ, ◌+◌, ◌<◌, ◌≤◌, List, [], ◌∷◌, ◌++◌, Bool, true, false, Option, refl, sym, ◌∙◌, ap, length, arith, get_or, set, cond, drop}
+use Rattle.std.proofs.Common.{◌||◌, not, length-set, get_or-set_other}
 use Rattle.std.specs.Prelude.{◌==◌}
 use Rattle.std.specs.List.{list_any}
 use Rattle.std.proofs.lemmas.Bool.{cond_both, not-false}
@@ -21,17 +20,14 @@ use Rattle.sts_model.specs.Local.{steps}
 use Rattle.sts_model.specs.Living.{lives, any_lives, is_closed}
 use Rattle.sts_model.specs.Cancelling.{cancel}
 use Rattle.sts_model.specs.Misuse.{is_entry_of, innermost}
-use Rattle.sts_model.specs.Effect.{with_phase, closed, close_scope, cleared, open_scope, fork_task}
-use Rattle.sts_model.specs.Effect.{subtask_of, forked}
+use Rattle.sts_model.specs.Effect.{with_phase, closed, close_scope, cleared, open_scope, fork_task, subtask_of, forked}
 use Rattle.sts_model.proofs.LivesLemmas.{cancel_alive}
 use Rattle.laws_runs.proofs.ListLemmas.{at_set, at_put, at_more}
 use Rattle.laws_runs.proofs.KeptLemmas.{Kept, kept-cancel}
 use Rattle.laws_runs.proofs.EffectLemmas.{frame-cancel}
 use Rattle.laws_runs.proofs.SoundLemmas.{Owner, alive_before}
-use Rattle.laws_runs.proofs.BirthLemmas.{more_tasks, new_scope, opener, still-forker, born_alive}
-use Rattle.laws_runs.proofs.BirthLemmas.{owner-more, owner-new}
-use Rattle.laws_runs.proofs.EntryLemmas.{Has, times_in, Enters, enters-task, enters-cancel}
-use Rattle.laws_runs.proofs.EntryLemmas.{drops-same, any-drop, times-drop, times-cons}
+use Rattle.laws_runs.proofs.BirthLemmas.{more_tasks, new_scope, opener, still-forker, born_alive, owner-more, owner-new}
+use Rattle.laws_runs.proofs.EntryLemmas.{Has, times_in, Enters, enters-task, enters-cancel, drops-same, any-drop, times-drop, times-cons}
 
 -- a scope that was born, of this owner, and isn't closed
 pub record IsOpen (scopes : List Scope) (s t : ℕ) : Type 0 where

@@ -1,14 +1,12 @@
 -- The scopes in structure lists: each belongs to the task, isn't closed, and occurs once.
-use Rattle.std.proofs.Common.{◌≡◌, ℕ, ◌+◌, ◌≤◌, List, [], ◌∷◌, Bool, true, false, Option, Some}
-use Rattle.std.proofs.Common.{None, refl, arith, cond, drop, ◌||◌, not, unwrap_or}
+use Rattle.std.proofs.Common.{◌≡◌, ℕ, ◌+◌, ◌≤◌, List, [], ◌∷◌, Bool, true, false, Option, Some, None, refl, arith, cond, drop, ◌||◌, not, unwrap_or}
 use Rattle.std.specs.Prelude.{nat_le, count_by}
 use Rattle.std.specs.List.{list_any}
 use Rattle.std.proofs.lemmas.Bool.{cond_both}
 use Rattle.std.proofs.lemmas.List.Sums.{sum_by-cons}
 use Rattle.sts_code.specs.Program.{Program}
 use Rattle.sts_code.specs.declared.instr.Instr.{Instr}
-use Rattle.sts_code.specs.declared.instr.Instr.TheVariants.{Push, Div, Times, Next, Open, Fork}
-use Rattle.sts_code.specs.declared.instr.Instr.TheVariants.{Join, Close, Bind, Unbind, Ret, Fail}
+use Rattle.sts_code.specs.declared.instr.Instr.TheVariants.{Push, Div, Times, Next, Open, Fork, Join, Close, Bind, Unbind, Ret, Fail}
 use Rattle.sts_model.specs.declared.event.End.{End}
 use Rattle.sts_model.specs.declared.event.End.TheVariants.{Success, Failed}
 use Rattle.sts_model.specs.declared.event.Phase.{Phase}
@@ -21,15 +19,13 @@ use Rattle.sts_model.specs.declared.record.Frame.{Frame}
 use Rattle.sts_model.specs.declared.record.Loop.{Loop}
 use Rattle.sts_model.specs.declared.record.Task.{Task}
 use Rattle.sts_model.specs.declared.record.Scope.{Scope}
-use Rattle.sts_model.specs.World.{World, task_at, scope_at, no_task, no_scope, code, with_task}
-use Rattle.sts_model.specs.World.{with_scope, with_frame}
+use Rattle.sts_model.specs.World.{World, task_at, scope_at, no_task, no_scope, code, with_task, with_scope, with_frame}
 use Rattle.sts_model.specs.Local.{local, turns, operand, goes, steps}
 use Rattle.sts_model.specs.Joining.{cancels, result_of}
 use Rattle.sts_model.specs.Living.{lives, any_lives, is_closed, ends, subtask_count}
 use Rattle.sts_model.specs.Cancelling.{raised, marked, cancel}
 use Rattle.sts_model.specs.Misuse.{slot, is_entry_of}
-use Rattle.sts_model.specs.Effect.{effect, named, with_phase, join_verdict, join_scope, told}
-use Rattle.sts_model.specs.Effect.{decide, tell, ended, end_task}
+use Rattle.sts_model.specs.Effect.{effect, named, with_phase, join_verdict, join_scope, told, decide, tell, ended, end_task}
 use Rattle.sts_model.specs.Outside.{interrupt, can_expire, expire}
 use Rattle.laws_runs.proofs.ListLemmas.{at_set}
 use Rattle.laws_runs.proofs.KeptLemmas.{at_raised}

@@ -1,7 +1,6 @@
 -- Every event keeps all facts, and undoes nothing.
-use Rattle.std.proofs.Common.{◌≡◌, ℕ, zero, suc, List, [], ◌∷◌, Bool, true, false, Option, Some}
-use Rattle.std.proofs.Common.{None, refl, sym, ◌∙◌, length, arith, get_or, cond, not, fold, subst}
-use Rattle.std.proofs.Common.{◌-◌, length-set}
+use Rattle.std.proofs.Common.{◌≡◌, ℕ, zero, suc, List, [], ◌∷◌, Bool, true, false, Option, Some, None, refl, sym, ◌∙◌, length, arith, get_or, cond, not, fold}
+use Rattle.std.proofs.Common.{subst, ◌-◌, length-set}
 use Rattle.sts_code.specs.Program.{Program}
 use Rattle.sts_code.specs.declared.instr.Instr.{Instr}
 use Rattle.sts_code.specs.declared.instr.Joiner.{Joiner}
@@ -14,8 +13,7 @@ use Rattle.sts_model.specs.declared.event.Fault.{Fault}
 use Rattle.sts_model.specs.declared.record.Slot.TheVariants as slots
 use Rattle.sts_model.specs.declared.record.Frame.{Frame}
 use Rattle.sts_model.specs.declared.record.Task.{Task}
-use Rattle.sts_model.specs.World.{World, State, Running, Faulted, task_at, scope_at, no_task}
-use Rattle.sts_model.specs.World.{no_scope, instr_at, opening, entry_frame, with_frame}
+use Rattle.sts_model.specs.World.{World, State, Running, Faulted, task_at, scope_at, no_task, no_scope, instr_at, opening, entry_frame, with_frame}
 use Rattle.sts_model.specs.Local.{operand}
 use Rattle.sts_model.specs.Living.{lives}
 use Rattle.sts_model.specs.Misuse.{slot, is_opened, misuse, IsFine}
@@ -28,18 +26,14 @@ use Rattle.laws_runs.specs.Runs.{In, Ever, Between, Always, Each, Leads, LeadsBy
 use Rattle.std.proofs.lemmas.Bool.{and_parts}
 use Rattle.laws_runs.proofs.ListLemmas.{at_set}
 use Rattle.laws_runs.specs.Later.{LaterTask, Later}
-use Rattle.laws_runs.proofs.LaterLemmas.{later_task-refl, later_scope-refl, later-refl, later-trans}
-use Rattle.laws_runs.proofs.LaterLemmas.{none_fresh}
+use Rattle.laws_runs.proofs.LaterLemmas.{later_task-refl, later_scope-refl, later-refl, later-trans, none_fresh}
 use Rattle.laws_runs.proofs.KeptLemmas.{Kept, kept-later}
 use Rattle.laws_runs.proofs.StillLemmas.{Still}
 use Rattle.laws_runs.proofs.FrameLemmas.{own_slot, at_own-is}
 use Rattle.laws_runs.proofs.SoundLemmas.{Sound, Owner, sound-kept}
-use Rattle.laws_runs.proofs.EffectLemmas.{first_no, still-effect, kept-end, still-interrupt}
-use Rattle.laws_runs.proofs.EffectLemmas.{still-expire}
-use Rattle.laws_runs.proofs.BirthLemmas.{more_scopes, new_scope, opener, later-more_scopes}
-use Rattle.laws_runs.proofs.BirthLemmas.{sound-open, sound-fork, later-fork, new-owns_nothing}
-use Rattle.laws_runs.proofs.CompletionLemmas.{AllTold, told-new, told-still, told-open, told-fork}
-use Rattle.laws_runs.proofs.CompletionLemmas.{told-end}
+use Rattle.laws_runs.proofs.EffectLemmas.{first_no, still-effect, kept-end, still-interrupt, still-expire}
+use Rattle.laws_runs.proofs.BirthLemmas.{more_scopes, new_scope, opener, later-more_scopes, sound-open, sound-fork, later-fork, new-owns_nothing}
+use Rattle.laws_runs.proofs.CompletionLemmas.{AllTold, told-new, told-still, told-open, told-fork, told-end}
 use Rattle.laws_runs.proofs.RunLemmas.{after-append}
 use Rattle.sts_model.proofs.PhaseLemmas.{opened_not_closed}
 

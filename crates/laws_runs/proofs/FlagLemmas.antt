@@ -1,8 +1,6 @@
 -- Flags: what each effect does to them.
-use Rattle.std.proofs.Common.{◌≡◌, ◌⊎◌, inl, inr, ℕ, zero, suc, ◌<◌, List, [], ◌∷◌, Bool}
-use Rattle.std.proofs.Common.{true, false, Option, Some, None, refl, sym, ◌∙◌, ap, length}
-use Rattle.std.proofs.Common.{arith, get_or, set, cond, ◌||◌, ◌&&◌, not, unwrap_or, drop}
-use Rattle.std.proofs.Common.{get_or-set_same, get_or-set_other, length-set}
+use Rattle.std.proofs.Common.{◌≡◌, ◌⊎◌, inl, inr, ℕ, zero, suc, ◌<◌, List, [], ◌∷◌, Bool, true, false, Option, Some, None, refl, sym, ◌∙◌, ap, length, arith}
+use Rattle.std.proofs.Common.{get_or, set, cond, ◌||◌, ◌&&◌, not, unwrap_or, drop, get_or-set_same, get_or-set_other, length-set}
 use Rattle.std.specs.Prelude.{◌==◌}
 use Rattle.std.specs.Cmp.Derive.{both_true}
 use Rattle.std.proofs.lemmas.Bool.{cond_both, and_parts}
@@ -10,8 +8,7 @@ use Rattle.std.proofs.lemmas.Bool.Decides.{nat_tests}
 use Rattle.sts_code.specs.Program.{Program}
 use Rattle.sts_code.specs.declared.instr.Instr.{Instr}
 use Rattle.sts_code.specs.declared.instr.Joiner.{Joiner}
-use Rattle.sts_code.specs.declared.instr.Instr.TheVariants.{Open, Fork, Join, Close}
-use Rattle.sts_code.specs.declared.instr.Instr.TheVariants.{Interrupted, Ret, Fail}
+use Rattle.sts_code.specs.declared.instr.Instr.TheVariants.{Open, Fork, Join, Close, Interrupted, Ret, Fail}
 use Rattle.sts_model.specs.declared.event.Event.{Event}
 use Rattle.sts_model.specs.declared.event.Event.TheVariants as event
 use Rattle.sts_model.specs.declared.event.End.{End}
@@ -24,18 +21,15 @@ use Rattle.sts_model.specs.declared.record.Slot.TheVariants as slots
 use Rattle.sts_model.specs.declared.record.Frame.{Frame}
 use Rattle.sts_model.specs.declared.record.Task.{Task}
 use Rattle.sts_model.specs.declared.record.Scope.{Scope}
-use Rattle.sts_model.specs.World.{World, task_at, scope_at, no_task, no_scope, with_task}
-use Rattle.sts_model.specs.World.{with_scope, with_frame, instr_at}
+use Rattle.sts_model.specs.World.{World, task_at, scope_at, no_task, no_scope, with_task, with_scope, with_frame, instr_at}
 use Rattle.sts_model.specs.Local.{operand, goes, steps, truth}
 use Rattle.sts_model.specs.Joining.{cancels, result_of}
-use Rattle.sts_model.specs.Living.{lives, is_subtask, is_living_subtask, any_lives, ends}
-use Rattle.sts_model.specs.Living.{subtask_count}
+use Rattle.sts_model.specs.Living.{lives, is_subtask, is_living_subtask, any_lives, ends, subtask_count}
 use Rattle.sts_model.specs.Cancelling.{raise, raised, marked, cancel}
 use Rattle.sts_model.specs.Misuse.{slot}
 use Rattle.sts_model.specs.Waiting.{can_step}
-use Rattle.sts_model.specs.Effect.{effect, named, with_phase, open_scope, fork_task}
-use Rattle.sts_model.specs.Effect.{subtask_of, joined, join_verdict, join_scope, closed, cleared}
-use Rattle.sts_model.specs.Effect.{close_scope, told, decide, tell, ended, end_task}
+use Rattle.sts_model.specs.Effect.{effect, named, with_phase, open_scope, fork_task, subtask_of, joined, join_verdict, join_scope, closed, cleared, close_scope}
+use Rattle.sts_model.specs.Effect.{told, decide, tell, ended, end_task}
 use Rattle.sts_model.specs.Outside.{interrupt, can_expire, expire}
 use Rattle.laws_runs.specs.Runs.{Does, LeadsBy, Each}
 use Rattle.laws_runs.proofs.ListLemmas.{at_set, at_more, past, within}
@@ -44,8 +38,7 @@ use Rattle.laws_runs.proofs.SoundLemmas.{Sound}
 use Rattle.laws_runs.proofs.EffectLemmas.{first_no, is_in-some, some-is_in, owned_slot}
 use Rattle.laws_runs.proofs.BirthLemmas.{born_alive, more_tasks, more_scopes, new_scope}
 use Rattle.laws_runs.proofs.EventLemmas.{Right, each}
-use Rattle.laws_runs.specs.Flags.{IsCancelled, takes_flag, is_taken, Takes}
-use Rattle.laws_runs.specs.Flags.{CancelInterrupts, InterruptSetsFlag, FlagsHaveCause, FlagsAreTaken}
+use Rattle.laws_runs.specs.Flags.{IsCancelled, takes_flag, is_taken, Takes, CancelInterrupts, InterruptSetsFlag, FlagsHaveCause, FlagsAreTaken}
 
 -- ---- what changes no flag and cancels nothing
 

@@ -1,16 +1,13 @@
 -- The frames after a step: they own no more, and have the entries of open scopes and bindings.
-use Rattle.std.proofs.Common.{◌≡◌, ℕ, zero, suc, ◌+◌, List, [], ◌∷◌, Bool, true, false, Option}
-use Rattle.std.proofs.Common.{Some, None, refl, sym, ap, subst, ◌∙◌, get_or, set, drop, cond, ◌||◌}
-use Rattle.std.proofs.Common.{not, arith}
+use Rattle.std.proofs.Common.{◌≡◌, ℕ, zero, suc, ◌+◌, List, [], ◌∷◌, Bool, true, false, Option, Some, None, refl, sym, ap, subst, ◌∙◌, get_or, set, drop, cond}
+use Rattle.std.proofs.Common.{◌||◌, not, arith}
 use Rattle.std.proofs.lemmas.Bool.Decides.{nat_tests}
 use Rattle.std.specs.List.{list_any}
 use Rattle.std.specs.Prelude.{◌==◌, ◌-◌, nat_le, pos, unwrap_or}
 use Rattle.std.specs.Int.{int_wrapping_div, w64}
 use Rattle.std.specs.Ordering.{int_eq}
 use Rattle.sts_code.specs.declared.instr.Instr.{Instr}
-use Rattle.sts_code.specs.declared.instr.Instr.TheVariants.{Div, Times, Next, Cancelled, Case}
-use Rattle.sts_code.specs.declared.instr.Instr.TheVariants.{Get, Except, Tally, Total, Read, Bound}
-use Rattle.sts_code.specs.declared.instr.Instr.TheVariants.{OrElse}
+use Rattle.sts_code.specs.declared.instr.Instr.TheVariants.{Div, Times, Next, Cancelled, Case, Get, Except, Tally, Total, Read, Bound, OrElse}
 use Rattle.sts_code.specs.Program.{Program}
 use Rattle.sts_model.specs.declared.record.Slot.{Slot}
 use Rattle.sts_model.specs.declared.record.Slot.TheVariants as slots

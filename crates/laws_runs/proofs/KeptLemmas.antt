@@ -1,6 +1,5 @@
 -- The facts that every effect except those of `open` and `fork` keeps, and the building blocks.
-use Rattle.std.proofs.Common.{◌≡◌, ℕ, zero, suc, List, [], ◌∷◌, Bool, true, false, Option, Some}
-use Rattle.std.proofs.Common.{None, refl, ◌∙◌, length, arith, get_or, cond, length-set}
+use Rattle.std.proofs.Common.{◌≡◌, ℕ, zero, suc, List, [], ◌∷◌, Bool, true, false, Option, Some, None, refl, ◌∙◌, length, arith, get_or, cond, length-set}
 use Rattle.std.proofs.lemmas.List.{length-map}
 use Rattle.std.specs.List.{list_any}
 use Rattle.std.proofs.Math.Bool.{and-false}
@@ -8,17 +7,13 @@ use Rattle.sts_model.specs.declared.event.End.{End}
 use Rattle.sts_model.specs.declared.record.Slot.TheVariants.{Own}
 use Rattle.sts_model.specs.declared.record.Task.{Task}
 use Rattle.sts_model.specs.declared.record.Scope.{Scope}
-use Rattle.sts_model.specs.World.{World, task_at, scope_at, no_task, no_scope, with_task}
-use Rattle.sts_model.specs.World.{with_scope}
+use Rattle.sts_model.specs.World.{World, task_at, scope_at, no_task, no_scope, with_task, with_scope}
 use Rattle.sts_model.specs.Living.{lives, is_living_subtask, is_closed}
 use Rattle.sts_model.specs.Cancelling.{raise, raised, marked, cancel}
 use Rattle.sts_model.specs.Misuse.{slot, is_entry_of}
-use Rattle.laws_runs.specs.Later.{KeepsMarks}
+use Rattle.laws_runs.specs.Later.{KeepsMarks, LaterTask, LaterScope, Later}
 use Rattle.laws_runs.proofs.ListLemmas.{at_set}
-use Rattle.laws_runs.specs.Later.{LaterTask, LaterScope, Later}
-use Rattle.laws_runs.proofs.LaterLemmas.{later_task-refl, later_task-trans, later_scope-refl}
-use Rattle.laws_runs.proofs.LaterLemmas.{later_scope-trans, completes-refl, moves_on-same}
-use Rattle.laws_runs.proofs.LaterLemmas.{none_fresh}
+use Rattle.laws_runs.proofs.LaterLemmas.{later_task-refl, later_task-trans, later_scope-refl, later_scope-trans, completes-refl, moves_on-same, none_fresh}
 
 -- the task lives, and the scope is an entry of its frame
 pub record Holds (task : Task) (s : ℕ) : Type 0 where

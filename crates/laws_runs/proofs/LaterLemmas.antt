@@ -1,7 +1,6 @@
 -- A later state keeps what the specs say; a state is later than itself, and a later one than a
 -- later one is later.
-use Rattle.std.proofs.Common.{◌≡◌, ℕ, ◌≤◌, [], ◌++◌, Bool, true, false, Some, refl, sym, ◌∙◌, ap}
-use Rattle.std.proofs.Common.{length, arith, append_assoc, nat_lt}
+use Rattle.std.proofs.Common.{◌≡◌, ℕ, ◌≤◌, [], ◌++◌, Bool, true, false, Some, refl, sym, ◌∙◌, ap, length, arith, append_assoc, nat_lt}
 use Rattle.std.proofs.lemmas.Bool.Decides.{nat_tests}
 use Rattle.std.proofs.lemmas.List.{append-nil}
 use Rattle.sts_model.specs.declared.record.Task.{Task}
@@ -10,8 +9,7 @@ use Rattle.sts_model.specs.World.{World, task_at, scope_at, no_task, no_scope}
 use Rattle.sts_model.specs.declared.event.Phase.{Phase}
 use Rattle.sts_model.specs.declared.event.Phase.TheVariants.{Opened, Attempted}
 use Rattle.sts_model.specs.Misuse.{can_join}
-use Rattle.laws_runs.specs.Later.{stage, MovesOn, IsSameScope, KeepsMarks, Completes, NothingStarts}
-use Rattle.laws_runs.specs.Later.{LaterTask, LaterScope, Later}
+use Rattle.laws_runs.specs.Later.{stage, MovesOn, IsSameScope, KeepsMarks, Completes, NothingStarts, LaterTask, LaterScope, Later}
 use Rattle.laws_runs.proofs.ListLemmas.{past, within}
 
 pub later_task-refl : (x : Task) → LaterTask x x

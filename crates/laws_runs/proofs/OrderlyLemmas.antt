@@ -1,6 +1,5 @@
 -- Scopes in every state of every run: cancelled for a cause, settled, entered by their owners.
-use Rattle.std.proofs.Common.{◌≡◌, ℕ, zero, suc, ◌≤◌, List, [], ◌∷◌, true, false, refl, sym, ◌∙◌}
-use Rattle.std.proofs.Common.{arith, get_or, not}
+use Rattle.std.proofs.Common.{◌≡◌, ℕ, zero, suc, ◌≤◌, List, [], ◌∷◌, true, false, refl, sym, ◌∙◌, arith, get_or, not}
 use Rattle.sts_code.specs.Program.{Program}
 use Rattle.sts_code.specs.declared.instr.Instr.{Instr}
 use Rattle.sts_code.specs.declared.instr.Instr.TheVariants.{Open, Fork, Close, Ret, Fail}
@@ -18,16 +17,12 @@ use Rattle.sts_model.specs.Run.{after}
 use Rattle.laws_runs.specs.Runs.{In, Ever, Leads}
 use Rattle.laws_runs.proofs.KeptLemmas.{Kept}
 use Rattle.laws_runs.proofs.FrameLemmas.{own_slot, at_own-is}
-use Rattle.laws_runs.proofs.EffectLemmas.{first_no, still-effect, kept-end, still-interrupt}
-use Rattle.laws_runs.proofs.EffectLemmas.{still-expire}
+use Rattle.laws_runs.proofs.EffectLemmas.{first_no, still-effect, kept-end, still-interrupt, still-expire}
 use Rattle.laws_runs.proofs.EventLemmas.{Also, main, root-in_nothing, also-kept, ever-from}
-use Rattle.laws_runs.proofs.CauseLemmas.{follow-end, follow-effect, follow-interrupt}
-use Rattle.laws_runs.proofs.CauseLemmas.{follow-expire}
+use Rattle.laws_runs.proofs.CauseLemmas.{follow-end, follow-effect, follow-interrupt, follow-expire}
 use Rattle.laws_runs.proofs.SettledLemmas.{Settled, settled-kept, settled-open, settled-fork}
-use Rattle.laws_runs.proofs.EntryLemmas.{Has, times_in, enters-end, enters-effect}
-use Rattle.laws_runs.proofs.EntryLemmas.{enters-interrupt, enters-expire}
-use Rattle.laws_runs.proofs.EnteredLemmas.{Entered, entered-enters, entered-open}
-use Rattle.laws_runs.proofs.EnteredLemmas.{entered-fork, entered-close}
+use Rattle.laws_runs.proofs.EntryLemmas.{Has, times_in, enters-end, enters-effect, enters-interrupt, enters-expire}
+use Rattle.laws_runs.proofs.EnteredLemmas.{Entered, entered-enters, entered-open, entered-fork, entered-close}
 
 -- the facts about a state that these files add
 pub record Orderly (w : World) : Type 0 where

@@ -5,8 +5,7 @@ use Rattle.sts_model.specs.declared.record.Task.{Task}
 use Rattle.sts_model.specs.World.{World, task_at, scope_at}
 use Rattle.sts_model.specs.Living.{lives, sub_state}
 use Rattle.laws_runs.proofs.EventLemmas.{Also}
-use Rattle.laws_runs.specs.Scopes.{CancelledHasCause, LeftOutIsCancelled, JoinedIsSettled}
-use Rattle.laws_runs.specs.Scopes.{EntriesAreOpen}
+use Rattle.laws_runs.specs.Scopes.{CancelledHasCause, LeftOutIsCancelled, JoinedIsSettled, EntriesAreOpen}
 use Rattle.laws_runs.proofs.OrderlyLemmas.{Orderly, ever-orderly}
 
 pub cancelled_has_cause : CancelledHasCause

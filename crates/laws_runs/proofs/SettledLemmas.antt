@@ -1,6 +1,5 @@
 -- After a `join` had an outcome, which subtasks live, and which were started.
-use Rattle.std.proofs.Common.{◌⊎◌, inl, inr, ◌≡◌, ℕ, Bool, true, false, Option, Some, refl, sym}
-use Rattle.std.proofs.Common.{◌∙◌, arith, not}
+use Rattle.std.proofs.Common.{◌⊎◌, inl, inr, ◌≡◌, ℕ, Bool, true, false, Option, Some, refl, sym, ◌∙◌, arith, not}
 use Rattle.sts_code.specs.Program.{Program}
 use Rattle.sts_code.specs.declared.instr.Joiner.{Joiner}
 use Rattle.sts_model.specs.declared.event.Phase.{Phase}

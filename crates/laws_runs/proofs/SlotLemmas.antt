@@ -1,18 +1,14 @@
 -- Each effect keeps the law of slots: each scope and subtask that a slot of a living task names
 -- still counts.
-use Rattle.std.proofs.Common.{◌≡◌, ℕ, zero, suc, ◌<◌, List, [], ◌∷◌, Bool, true, false, Option}
-use Rattle.std.proofs.Common.{Some, None, refl, sym, ◌∙◌, ap, subst, length, arith, get_or, cond}
-use Rattle.std.proofs.Common.{replicate, take, drop, ◌||◌, not, unwrap_or}
-use Rattle.std.proofs.Common.{get_or-set_other}
+use Rattle.std.proofs.Common.{◌≡◌, ℕ, zero, suc, ◌<◌, List, [], ◌∷◌, Bool, true, false, Option, Some, None, refl, sym, ◌∙◌, ap, subst, length, arith, get_or}
+use Rattle.std.proofs.Common.{cond, replicate, take, drop, ◌||◌, not, unwrap_or, get_or-set_other}
 use Rattle.std.proofs.lemmas.Bool.Decides.{nat_tests}
 use Rattle.std.proofs.lemmas.List.{get_or_append_left}
 use Rattle.std.proofs.Math.Seq.{get_or-append_seam}
 use Rattle.std.specs.Prelude.{is_some, reverse, ℤ}
 use Rattle.sts_code.specs.Program.{Program, routine}
 use Rattle.sts_code.specs.declared.instr.Instr.{Instr}
-use Rattle.sts_code.specs.declared.instr.Instr.TheVariants.{Open, Fork, Join, Close}
-use Rattle.sts_code.specs.declared.instr.Instr.TheVariants.{Bind, Unbind}
-use Rattle.sts_code.specs.declared.instr.Instr.TheVariants.{Interrupted, Ret, Fail}
+use Rattle.sts_code.specs.declared.instr.Instr.TheVariants.{Open, Fork, Join, Close, Bind, Unbind, Interrupted, Ret, Fail}
 use Rattle.sts_code.specs.declared.instr.Joiner.{Joiner}
 use Rattle.sts_model.specs.declared.event.End.{End}
 use Rattle.sts_model.specs.declared.event.End.TheVariants.{Success, Failed}
@@ -25,18 +21,15 @@ use Rattle.sts_model.specs.declared.record.Slot.TheVariants.{Empty, Own, Lent, S
 use Rattle.sts_model.specs.declared.record.Frame.{Frame}
 use Rattle.sts_model.specs.declared.record.Task.{Task}
 use Rattle.sts_model.specs.declared.record.Scope.{Scope}
-use Rattle.sts_model.specs.World.{World, task_at, scope_at, no_task, no_scope, entry_frame}
-use Rattle.sts_model.specs.World.{with_task, with_scope, with_frame, opening}
+use Rattle.sts_model.specs.World.{World, task_at, scope_at, no_task, no_scope, entry_frame, with_task, with_scope, with_frame, opening}
 use Rattle.sts_model.specs.Local.{emptied_slot, operand, goes, steps}
 use Rattle.sts_model.specs.Joining.{cancels, result_of}
 use Rattle.sts_model.specs.Living.{lives, is_in, any_lives, is_closed, ends, subtask_count}
 use Rattle.sts_model.specs.Standing.{stands_in}
 use Rattle.sts_model.specs.Cancelling.{raised, marked, cancel}
 use Rattle.sts_model.specs.Misuse.{slot, IsFine}
-use Rattle.sts_model.specs.Effect.{effect, moved, named, with_phase, open_scope, fork_task, forked}
-use Rattle.sts_model.specs.Effect.{with_slot, subtask_of, joined, join_verdict, join_scope, is_of}
-use Rattle.sts_model.specs.Effect.{cleared, closed, close_scope, told, decide, tell, ended}
-use Rattle.sts_model.specs.Effect.{end_task}
+use Rattle.sts_model.specs.Effect.{effect, moved, named, with_phase, open_scope, fork_task, forked, with_slot, subtask_of, joined, join_verdict, join_scope}
+use Rattle.sts_model.specs.Effect.{is_of, cleared, closed, close_scope, told, decide, tell, ended, end_task}
 use Rattle.sts_model.specs.Outside.{interrupt, can_expire, expire}
 use Rattle.sts_model.proofs.LivesLemmas.{cancel_alive}
 use Rattle.laws_runs.proofs.ListLemmas.{at_set, at_put, at_more, within}

@@ -1,6 +1,5 @@
 -- Facts that no event undoes.
-use Rattle.std.proofs.Common.{◌≡◌, ℕ, ◌+◌, ◌<◌, ◌≤◌, [], ◌∷◌, ◌++◌, Bool, true, false, Some, refl}
-use Rattle.std.proofs.Common.{◌∙◌, ap, length, arith, cond, fold, ◌&&◌}
+use Rattle.std.proofs.Common.{◌≡◌, ℕ, ◌+◌, ◌<◌, ◌≤◌, [], ◌∷◌, ◌++◌, Bool, true, false, Some, refl, ◌∙◌, ap, length, arith, cond, fold, ◌&&◌}
 use Rattle.std.specs.Prelude.{is_some}
 use Rattle.std.proofs.Math.Bool.{and-false}
 use Rattle.std.proofs.lemmas.Bool.{and_left}
@@ -16,8 +15,7 @@ use Rattle.laws_runs.proofs.ListLemmas.{within}
 use Rattle.laws_runs.proofs.RunLemmas.{after-append, fault-fold, taken_one_more}
 use Rattle.laws_runs.proofs.CompletionLemmas.{completes, keeps_state}
 use Rattle.laws_runs.proofs.EventLemmas.{always}
-use Rattle.laws_runs.specs.Stays.{FaultsStay, StepsAreCounted, NothingIsLost, KeepsBorn, EndsStay}
-use Rattle.laws_runs.specs.Stays.{KeepsEnd, ClosedStays, PhasesGoForward, CompletionsGrow}
+use Rattle.laws_runs.specs.Stays.{FaultsStay, StepsAreCounted, NothingIsLost, KeepsBorn, EndsStay, KeepsEnd, ClosedStays, PhasesGoForward, CompletionsGrow}
 use Rattle.laws_runs.specs.Stays.{StatesStay, CancelledStartsNothing}
 
 -- ---- faults and steps

@@ -1,6 +1,5 @@
 -- The root ends last, and the living task that was born last never waits.
-use Rattle.std.proofs.Common.{◌≡◌, ℕ, zero, suc, ◌<◌, ◌≤◌, Bool, true, false, Option, Some, None}
-use Rattle.std.proofs.Common.{refl, ap, length, arith, cond, ◌||◌, not, nat_eq}
+use Rattle.std.proofs.Common.{◌≡◌, ℕ, zero, suc, ◌<◌, ◌≤◌, Bool, true, false, Option, Some, None, refl, ap, length, arith, cond, ◌||◌, not, nat_eq}
 use Rattle.std.proofs.lemmas.Bool.Decides.{nat_tests}
 use Rattle.sts_code.specs.Program.{Program}
 use Rattle.sts_code.specs.declared.instr.Instr.{Instr}
@@ -13,8 +12,7 @@ use Rattle.sts_model.specs.declared.record.Slot.TheVariants.{Empty, Own, Lent, S
 use Rattle.sts_model.specs.World.{World, task_at, scope_at, no_task, instr_at}
 use Rattle.sts_model.specs.Living.{lives, any_lives, is_closed}
 use Rattle.sts_model.specs.Misuse.{slot, misuse}
-use Rattle.sts_model.specs.Waiting.{stands_at_join, stands_at_close, stand_at_instr, can_go, is_closing}
-use Rattle.sts_model.specs.Waiting.{can_step}
+use Rattle.sts_model.specs.Waiting.{stands_at_join, stands_at_close, stand_at_instr, can_go, is_closing, can_step}
 use Rattle.laws_runs.specs.States.{IsLast, GoesOn, RootEndsLast, SomeTaskSteps}
 use Rattle.laws_runs.proofs.ListLemmas.{past}
 use Rattle.std.specs.Cmp.Derive.{both_true}

@@ -5,19 +5,16 @@ use Rattle.sts_model.specs.declared.record.Slot.TheVariants.{Own}
 use Rattle.sts_model.specs.declared.record.Frame.{Frame}
 use Rattle.sts_model.specs.declared.record.Task.{Task}
 use Rattle.sts_model.specs.declared.record.Scope.{Scope}
-use Rattle.sts_model.specs.World.{World, task_at, scope_at, no_task, no_scope, with_task}
-use Rattle.sts_model.specs.World.{with_scope, with_frame}
+use Rattle.sts_model.specs.World.{World, task_at, scope_at, no_task, no_scope, with_task, with_scope, with_frame}
 use Rattle.std.specs.List.{list_any}
 use Rattle.sts_model.specs.Living.{lives, is_closed}
 use Rattle.sts_model.specs.Cancelling.{marked, cancel}
 use Rattle.sts_model.specs.Misuse.{slot, is_entry_of}
 use Rattle.sts_model.specs.Effect.{with_phase}
-use Rattle.laws_runs.specs.Later.{stage}
+use Rattle.laws_runs.specs.Later.{stage, LaterScope}
 use Rattle.laws_runs.proofs.ListLemmas.{at_set}
-use Rattle.laws_runs.specs.Later.{LaterScope}
 use Rattle.laws_runs.proofs.LaterLemmas.{completes-refl}
-use Rattle.laws_runs.proofs.KeptLemmas.{Kept, kept-refl, kept-trans, kept-task, kept-scope}
-use Rattle.laws_runs.proofs.KeptLemmas.{kept-cancel, at_raised}
+use Rattle.laws_runs.proofs.KeptLemmas.{Kept, kept-refl, kept-trans, kept-task, kept-scope, kept-cancel, at_raised}
 
 -- like `Kept`; also no task ends, and no joiner is told
 pub record Still (w v : World) : Type 0 where

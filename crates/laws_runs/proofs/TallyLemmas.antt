@@ -1,6 +1,5 @@
 -- Tallies: each subtask that completed is counted once, by the state it completed with.
-use Rattle.std.proofs.Common.{◌≡◌, ℕ, zero, suc, ◌+◌, ◌<◌, ◌≤◌, List, [], ◌∷◌, Bool, true}
-use Rattle.std.proofs.Common.{false, Option, Some, None, refl, sym, ◌∙◌, ap, length, arith, get_or}
+use Rattle.std.proofs.Common.{◌≡◌, ℕ, zero, suc, ◌+◌, ◌<◌, ◌≤◌, List, [], ◌∷◌, Bool, true, false, Option, Some, None, refl, sym, ◌∙◌, ap, length, arith, get_or}
 use Rattle.std.proofs.Common.{cond, ◌&&◌}
 use Rattle.std.specs.Prelude.{◌==◌, find, count_by, is_some, is_none}
 use Rattle.std.specs.List.{range_with_len}
@@ -15,16 +14,14 @@ use Rattle.sts_model.specs.declared.record.Task.{Task}
 use Rattle.sts_model.specs.declared.record.Completion.{Completion}
 use Rattle.sts_model.specs.World.{World, task_at, scope_at, no_task}
 use Rattle.sts_model.specs.Joining as joining
-use Rattle.sts_model.specs.Living.{is_subtask, subtask_count, ends_of, completion_of, sub_state}
-use Rattle.sts_model.specs.Living.{parent}
+use Rattle.sts_model.specs.Living.{is_subtask, subtask_count, ends_of, completion_of, sub_state, parent}
 use Rattle.sts_model.specs.Misuse.{has_succeeded, has_failed}
 use Rattle.sts_model.specs.Effect.{tally}
 use Rattle.laws_runs.proofs.ListLemmas.{within}
 use Rattle.laws_runs.proofs.EffectLemmas.{is_in-some, some-is_in}
 use Rattle.laws_runs.proofs.CompletionLemmas.{ToldIn, Test, EndOf}
 use Rattle.laws_runs.proofs.EventLemmas.{ever}
-use Rattle.laws_runs.specs.Tallies.{is_kind, is_in_state, births, number_in, IsTallied}
-use Rattle.laws_runs.specs.Tallies.{TalliesAreCounts}
+use Rattle.laws_runs.specs.Tallies.{is_kind, is_in_state, births, number_in, IsTallied, TalliesAreCounts}
 
 -- ---- counts
 

@@ -6,8 +6,7 @@ use Rattle.std.specs.String.{string_bytes}
 use Rattle.std.specs.declared.alloc.Global.{Global}
 use Rattle.clap.specs.Words.{Text}
 use Rattle.sts_output.specs.Streams.{Differ, Files, NoneIsYes, Prints, SameFile, Streams, Tells}
-use Rattle.sts_output.specs.Streams.{most_of_a_stream, most_of_a_text}
-use Rattle.sts_output.specs.Streams.{not_text_output}
+use Rattle.sts_output.specs.Streams.{most_of_a_stream, most_of_a_text, not_text_output}
 use Rattle.sts_output.specs.Output.{Output, failure_output, memory_output}
 use Rattle.sts_output.specs.Taking.{IsTakenOf}
 use Rattle.sts_output.specs.declared.taking.TakeError.{TakeError}

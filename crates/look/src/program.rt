@@ -1,7 +1,7 @@
 //! The program `look`, except its `main`: opens the files that a command line names, and writes the
 //! output.
 
-ghost use Rattle.std.specs.Prelude.{◌≡◌, IfOk, map, ⊤};
+ghost use Rattle.std.specs.Prelude.{IfOk, map, ⊤};
 ghost use Rattle.sts_output.specs.Output.{Output, Writes};
 ghost use Rattle.sts_output.specs.Streams.{same_file};
 ghost use Rattle.look_cases.specs.Lines.{IsRepliesTo};

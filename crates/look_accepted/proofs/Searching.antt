@@ -1,6 +1,6 @@
 -- How a search grows, and that it finds all nodes.
 use Rattle.std.proofs.Common.{◌≡◌, ℕ, ◌+◌, ◌<◌, ◌≤◌, ◌⊎◌, List, [], ◌∷◌, ◌++◌, length, ap, sym, ◌∙◌, arith, inl, inr, subst, length-append, append_assoc}
-use Rattle.std.proofs.lemmas.List.{get_or_default, append-nil}
+use Rattle.std.proofs.lemmas.List.{get_or_default}
 use Rattle.std.specs.Prelude.{slice_index_or}
 use Rattle.std.specs.List.{Contains}
 use Rattle.std.proofs.Math.ListN.{get_or-append}
@@ -12,9 +12,6 @@ use Rattle.look_accepted.specs.Found.{AreFound, Grows, Adds, IsSpread, AreAll}
 use Rattle.laws_words.proofs.NumberLemmas.{split}
 
 -- ---- lists that grow
-
-pub grows_none : (xs : List Node) → Grows xs xs
-grows_none xs = record { more = []; same = sym (append-nil xs) }
 
 pub grows_on : (a b c : List Node) → Grows a b → Grows b c → Grows a c
 grows_on a b c h i = record { more = h.more ++ i.more; same = i.same ∙ ap (λ xs. xs ++ i.more) h.same ∙ append_assoc a h.more i.more }

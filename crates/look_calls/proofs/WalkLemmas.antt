@@ -1,5 +1,5 @@
 -- Walks, and what they show of a call.
-use Rattle.std.proofs.Common.{◌≡◌, ℕ, ℤ, ◌<◌, ◌⊎◌, inl, inr, List, [], ◌∷◌, ◌++◌, Bool, ap, sym, subst, ◌∙◌, arith, append_assoc}
+use Rattle.std.proofs.Common.{◌≡◌, ℕ, ℤ, ◌⊎◌, inl, inr, List, [], ◌∷◌, ◌++◌, Bool, ap, sym, subst, ◌∙◌, append_assoc}
 use Rattle.std.specs.List.{Contains}
 use Rattle.std.proofs.lemmas.List.{append-nil}
 use Rattle.std.proofs.lemmas.List.Elements.{Contains-append_cases}
@@ -66,9 +66,6 @@ shows g f last t end heard by on ended = record {
 }
 
 -- ---- lists
-
-pub no_ends : (g : Setting) → AreCallEnds g []
-no_ends g c there = let less : there.0 < 0 = there.1 in absurd (omega arith)
 
 pub ends_more : (g : Setting) (found : List CallEnd) (c : CallEnd) → AreCallEnds g found → IsCallEnd g c → AreCallEnds g (found ++ c ∷ [])
 ends_more g found c all here e there = by (Contains-append_cases found (c ∷ []) e there)

@@ -3,7 +3,7 @@
 ghost use Rattle.std.specs.Prelude.{◌≡◌, ℕ, IfOk, List, length};
 ghost use Rattle.serde_json.specs.Data.{Items};
 ghost use Rattle.serde_json.specs.View.{view, items_view, items_of};
-ghost use Rattle.sts_asm.specs.Source.{outlined as outlined_of, sentence_at};
+ghost use Rattle.sts_asm.specs.Source.{sentence_at};
 ghost use Rattle.look_cases.specs.Answer as def;
 ghost use Rattle.look_cases.specs.Objects.{Makes, MakesList};
 

@@ -1,6 +1,6 @@
 //! Which tasks and scopes a column can show, so that no column goes over all that were ever born.
 
-ghost use Rattle.std.specs.Prelude.{◌≡◌, ◌++◌, ◌-◌, ◌≤◌, IfOk, OnOk, length, filter};
+ghost use Rattle.std.specs.Prelude.{◌≡◌, ◌++◌, ◌-◌, ◌≤◌, IfOk, OnOk, filter};
 ghost use Rattle.std.specs.List.{range_with_len};
 ghost use Rattle.sts_code.specs.declared.limits.TheConstants.{MAX_BIRTHS};
 ghost use Rattle.sts_model.specs.World.{scope_at, task_at};

@@ -2,11 +2,10 @@
 -- project's own).
 use Rattle.std.specs.Prelude.{ℕ, ◌==◌, ◌-◌, ℤ, List, [], ◌∷◌, length, take, drop, Bool, ◌&&◌, false}
 use Rattle.std.specs.Prelude.{nat_le, slice_index, Option, Some, None, option_map, option_and_then}
-use Rattle.std.specs.Prelude.{if◌then◌else◌}
+use Rattle.std.specs.Prelude.{if◌then◌else◌, codes}
 use Rattle.std.specs.Char.{is_ascii_whitespace}
 use Rattle.std.specs.List.{after_first, before_first, list_all, prefix_len, suffix_len}
 use Rattle.std.specs.Str.{bytes_eq}
-use Rattle.std.specs.Prelude.{codes}
 use Rattle.sts_asm.specs.Outline.{is_semicolon}
 use Rattle.sts_text.specs.Number.{number}
 use Rattle.sts_text.specs.Words.{is_blank, is_filled, words}

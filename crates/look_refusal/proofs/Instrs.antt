@@ -1,9 +1,7 @@
 -- The effect of instructions on a path.
 use Rattle.std.proofs.Common.{◌≡◌, ◌+◌, ℕ, [], ◌∷◌, ◌++◌, true, false, refl, sym, ◌∙◌}
 use Rattle.sts_code.specs.declared.instr.Instr.{Instr}
-use Rattle.sts_code.specs.declared.instr.Instr.TheVariants.{Times}
-use Rattle.sts_code.specs.declared.instr.Instr.TheVariants.{Next}
-use Rattle.sts_code.specs.declared.instr.Instr.TheVariants.{Ret, Fail}
+use Rattle.sts_code.specs.declared.instr.Instr.TheVariants.{Times, Next, Ret, Fail}
 use Rattle.sts_code.specs.Facts.{targets}
 use Rattle.sts_rules.specs.Around.{next_place}
 use Rattle.sts_rules.specs.Budget.{shape_of}

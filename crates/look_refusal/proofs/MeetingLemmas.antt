@@ -124,12 +124,6 @@ module _ (p : Program) (f from : ℕ) (s : TypeState) (es seen : List (ℕ × Ty
 -- ---- from place to place
 
 module _ (p : Program) (f : ℕ) where
-  pub spread_here : (pc : ℕ) (old new : List (Option Way)) (w : Way) → slice_index_or old pc None ≡ Some w → KeepsMore pc old new → IsSpread p f pc w.state new → IsSpreadFrom p f pc new
-  spread_here pc old new w here k h = subst (λ o. IfSome o (λ v. IsSpread p f pc v.state new)) (sym (k.same pc (omega arith) ∙ here)) h
-
-  pub spread_nowhere : (pc : ℕ) (table : List (Option Way)) → slice_index_or table pc None ≡ None → IsSpreadFrom p f pc table
-  spread_nowhere pc table none = subst (λ o. IfSome o (λ v. IsSpread p f pc v.state table)) (sym none) tt
-
   pub begin_spread : (last : ℕ) (w : Way) (table : List (Option Way)) → table ≡ replicate (last + 1) None → AreSpread p f last 0 (kept table 0 w)
   begin_spread last w table is =
       let long : length table ≡ last + 1 = ap length is ∙ length-replicate (last + 1) None in
@@ -145,18 +139,6 @@ module _ (p : Program) (f : ℕ) where
       by : (from : ℕ) → from < pc + 1 → (from < pc) ⊎ (pc ≤ from) → IsSpreadFrom p f from new
       by from lt (inl less) = subst (λ o. IfSome o (λ w. IsSpread p f from w.state new)) (sym (k.same from (omega arith))) (weaker from (slice_index_or old from None) (h.spread from less))
       by from lt (inr ge) = let same : pc ≡ from = omega arith in subst (λ (j : ℕ). IsSpreadFrom p f j new) same more
-
-  pub none_meet : (pc : ℕ) (table : List (Option Way)) (one : Way) → slice_index_or table pc None ≡ Some one → ((from : ℕ) → from < pc → IfSome (slice_index_or table from None) (λ way. LeadsAlike p f from way.state pc one.state)) → NoneMeet p f pc table
-  none_meet pc table one here h = subst (λ o. IfSome o (λ (w : Way). (from : ℕ) → from < pc → IfSome (slice_index_or table from None) (λ way. LeadsAlike p f from way.state pc w.state))) (sym here) h
-
-  pub meet_nowhere : (pc : ℕ) (table : List (Option Way)) → slice_index_or table pc None ≡ None → NoneMeet p f pc table
-  meet_nowhere pc table none = subst (λ o. IfSome o (λ (w : Way). (from : ℕ) → from < pc → IfSome (slice_index_or table from None) (λ way. LeadsAlike p f from way.state pc w.state))) (sym none) tt
-
-  pub turn_nowhere : (pc : ℕ) (table : List (Option Way)) → slice_index_or table pc None ≡ None → TurnsAlike p f pc table
-  turn_nowhere pc table none = subst (λ o. IfSome o (λ (w : Way). (at : ℕ) → back_of (instr_at (routine p f).code pc) w.state ≡ Some at → IfSome (slice_index_or table at None) (λ (one : Way). one.state ≡ w.state))) (sym none) tt
-
-  pub turn_alike : (pc : ℕ) (table : List (Option Way)) (w : Way) → slice_index_or table pc None ≡ Some w → ((at : ℕ) → back_of (instr_at (routine p f).code pc) w.state ≡ Some at → IfSome (slice_index_or table at None) (λ (one : Way). one.state ≡ w.state)) → TurnsAlike p f pc table
-  turn_alike pc table w here h = subst (λ o. IfSome o (λ (v : Way). (at : ℕ) → back_of (instr_at (routine p f).code pc) v.state ≡ Some at → IfSome (slice_index_or table at None) (λ (one : Way). one.state ≡ v.state))) (sym here) h
 
 -- ---- no way is left out
 

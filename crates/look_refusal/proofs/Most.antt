@@ -14,7 +14,7 @@ use Rattle.sts_budget.specs.Known.{KnowsNames}
 use Rattle.sts_budget.specs.Layout.{EntryNames}
 use Rattle.sts_budget.specs.Ready.{names_in}
 use Rattle.sts_budget.specs.Structured.{IsStructured}
-use Rattle.sts_budget.specs.Sums.{Sums}
+use Rattle.sts_budget.specs.Sums.{Sums, Stands}
 use Rattle.look_refusal.specs.declared.search.Search.{Search}
 use Rattle.look_refusal.specs.declared.trail.Trail.{Trail}
 use Rattle.look_refusal.specs.Heavy.{Weighs, NoneHeavier, IsTooHeavy}
@@ -26,11 +26,8 @@ use Rattle.look_refusal.proofs.Instrs.{ends_paths}
 use Rattle.sts_budget.proofs.SumsLemmas.{bounded, point_most}
 use Rattle.look_refusal.proofs.Tables.{fits_here, is_table}
 use Rattle.sts_budget.specs.Laws.{PointsLieOnPaths}
-use Rattle.sts_budget.specs.Sums.{Stands}
 use Rattle.sts_budget.proofs.EntryLemmas.{front_all, front_le, long}
-use Rattle.sts_budget.proofs.FourKindLemmas.{counts_one, comes_names, to_sums, to_steps}
-use Rattle.sts_budget.proofs.FourKindLemmas.{from_sums, from_steps}
-use Rattle.sts_budget.proofs.FourKindLemmas.{end_counts}
+use Rattle.sts_budget.proofs.FourKindLemmas.{counts_one, comes_names, to_sums, to_steps, from_sums, from_steps, end_counts}
 
 module _ (earlier : List Budgets) (code : List Instr) (round : ℕ → List ℕ) (good : IsStructured (skeleton earlier code) round) (names_at : ℕ → EntryNames) (known : KnowsNames code (skeleton earlier code) round names_at) where
   -- the count at a point is one of the sums

@@ -10,7 +10,7 @@ use Rattle.sts_rules.specs.declared.budget.Budgets.{Budgets}
 use Rattle.sts_rules.specs.Budget.{Exceeds}
 use Rattle.sts_rules.specs.Edges.{typing}
 use Rattle.sts_rules.specs.Flow.{HasCause, dead, two, edge, turn}
-use Rattle.sts_rules.specs.Refusal.{IsUnsound, IsWellTyped, IsTypeRefusal, ill_typed, too_much}
+use Rattle.sts_rules.specs.Refusal.{IsUnsound, IsWellTyped, IsTypeRefusal, ill_typed, too_much, IsRefusal}
 use Rattle.sts_budget.specs.declared.change.Resource.{Resource}
 use Rattle.sts_budget.specs.declared.change.Resource.TheVariants.{Steps, Tasks, Scopes, Binds}
 use Rattle.sts_budget.specs.Change.{cause_of, limit_of}
@@ -23,7 +23,6 @@ use Rattle.look_refusal.specs.declared.ways.Meeting.{Meeting}
 use Rattle.look_refusal.specs.Ways.{Meets}
 use Rattle.look_refusal.specs.Differences.{difference_lines, SaysDifferences}
 use Rattle.sts_asm.specs.Source.{sentence_at}
-use Rattle.sts_rules.specs.Refusal.{IsRefusal}
 use Rattle.look_refusal.specs.declared.remedy.Remedy.{Remedy}
 use Rattle.look_refusal.specs.Remedies.{IsRemedy}
 use Rattle.look_refusal.specs.Lines.{refused_lines}

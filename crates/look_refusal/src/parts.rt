@@ -3,7 +3,7 @@
 ghost use Rattle.std.specs.Prelude.{◌≡◌, ◌↔◌, ◌++◌, IsTrue, OnOk};
 ghost use Rattle.std.specs.List.{AllByRecursion};
 ghost use Rattle.std.specs.String.{string_bytes};
-ghost use Rattle.sts_list.specs.Spelling.{after_spaces, joiner_words, timed_words};
+ghost use Rattle.sts_list.specs.Spelling.{after_spaces, timed_words};
 ghost use Rattle.look_refusal.specs.Differences as def;
 ghost use Rattle.look_refusal.specs.Reading.{IsHeldKind, IsHeldEntry, IsHeldLoop, IsHeldIn};
 

@@ -1,8 +1,7 @@
 //! What to do about each cause of a refusal. It depends on the instruction, and on what is known of
 //! the task there.
 
-ghost use Rattle.std.specs.Prelude.{◌≡◌, ◌<◌, ◌≤◌, length, IfOk, None, slice_get};
-ghost use Rattle.std.specs.Prelude.{if◌then◌else◌};
+ghost use Rattle.std.specs.Prelude.{◌≡◌, ◌<◌, ◌≤◌, length, IfOk, None, slice_get, if◌then◌else◌};
 ghost use Rattle.sts_code.specs.Program.{instr_at};
 ghost use Rattle.sts_rules.specs.Causes as causes;
 ghost use Rattle.sts_rules.specs.Refusal.{IsRefusal};

@@ -1,7 +1,7 @@
 //! The input of a search: the sums of one resource in one function.
 
 ghost use Rattle.std.specs.Prelude.{◌≡◌, ◌<◌, ◌≤◌, length, true};
-ghost use Rattle.sts_budget.specs.Ready.{IsLaidFor, head_in};
+ghost use Rattle.sts_budget.specs.Ready.{head_in};
 ghost use Rattle.sts_code.specs.Program.{instr_at};
 ghost use Rattle.look_refusal.specs.Search as def;
 

@@ -1,8 +1,8 @@
 //! A trail. It is found by one pass, and names for each place the place before it on the way that
 //! adds most.
 
-ghost use Rattle.std.specs.Prelude.{◌≡◌, ◌<◌, ◌≤◌, ◌+◌, ℕ, length, get_or, IfOk, IsTrue, IsFalse};
-ghost use Rattle.std.specs.Prelude.{MatchOption, None, []};
+ghost use Rattle.std.specs.Prelude.{◌≡◌, ◌<◌, ◌+◌, ℕ, length, get_or, IfOk, IsTrue, IsFalse};
+ghost use Rattle.std.specs.Prelude.{MatchOption, None};
 ghost use Rattle.look_refusal.specs.Leads.{AreLeads};
 ghost use Rattle.look_refusal.specs.Search as def;
 ghost use Rattle.look_refusal.specs.Trail as trails;

@@ -1,8 +1,6 @@
 //! What a step does, seen from the world before it.
 
-ghost use Rattle.std.specs.Prelude.{◌≡◌, ◌<◌, length, true};
-ghost use Rattle.sts_model.specs.Living as living;
-ghost use Rattle.sts_model.specs.World as model;
+ghost use Rattle.std.specs.Prelude.{◌≡◌, ◌<◌};
 ghost use Rattle.look_tell.specs.Deed as def;
 
 use sts_code::{Instr, Program};

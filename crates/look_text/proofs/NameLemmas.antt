@@ -21,10 +21,8 @@ use Rattle.sts_asm.specs.declared.mnemonic.Mnemonic.TheVariants as m
 use Rattle.sts_asm.specs.Fault.{◌>>=◌, at_line}
 use Rattle.sts_asm.specs.Line.{operated, known, mnemonic_of, instr_of, with_number, with_slot, with_target}
 use Rattle.sts_asm.specs.Marks.{Mark, Names, marked}
-use Rattle.sts_asm.specs.Operand.{wanted, looked_up, number_at, value_at, slot, slot_at, handle, handle_at}
-use Rattle.sts_asm.specs.Operand.{target_at, function_at, maybe_target_at, until_count_at}
-use Rattle.sts_asm.specs.Operand.{until_value_at, until_at, joiners, joiner_at, timed_at, kinds_counted}
-use Rattle.sts_asm.specs.Operand.{kind_at, finished}
+use Rattle.sts_asm.specs.Operand.{wanted, looked_up, number_at, value_at, slot, slot_at, handle, handle_at, target_at, function_at, maybe_target_at}
+use Rattle.sts_asm.specs.Operand.{until_count_at, until_value_at, until_at, joiners, joiner_at, timed_at, kinds_counted, kind_at, finished}
 use Rattle.sts_asm.specs.Outline.{Sentence, Draft, Outline, outline_of}
 use Rattle.sts_asm.specs.Source.{sentence_at, names_at}
 use Rattle.sts_asm.specs.Text.{each, instr_at, routine_of, checked, program_of}

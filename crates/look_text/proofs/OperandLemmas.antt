@@ -18,10 +18,8 @@ use Rattle.sts_asm.specs.declared.mnemonic.Mnemonic.TheVariants as m
 use Rattle.sts_asm.specs.Fault.{◌>>=◌}
 use Rattle.sts_asm.specs.Line.{operated, with_number, with_slot, with_target}
 use Rattle.sts_asm.specs.Marks.{label_in}
-use Rattle.sts_asm.specs.Operand.{Read, wanted, looked_up, number_at, slot, slot_at, handle, handle_at}
-use Rattle.sts_asm.specs.Operand.{named, target_at, function_at, maybe_target_at, until_count_at}
-use Rattle.sts_asm.specs.Operand.{until_value_at, until_at, joiners, joiner_at, timed_at, kinds_counted}
-use Rattle.sts_asm.specs.Operand.{kind_at, finished}
+use Rattle.sts_asm.specs.Operand.{Read, wanted, looked_up, number_at, slot, slot_at, handle, handle_at, named, target_at, function_at, maybe_target_at}
+use Rattle.sts_asm.specs.Operand.{until_count_at, until_value_at, until_at, joiners, joiner_at, timed_at, kinds_counted, kind_at, finished}
 use Rattle.look_text.specs.declared.wanted.Expected.{Expected}
 use Rattle.look_text.specs.declared.wanted.Expected.TheVariants as w
 use Rattle.look_text.specs.Wanted.{fits, after, of_mnemonic}

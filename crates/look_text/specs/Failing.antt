@@ -1,7 +1,6 @@
 -- The word at which a program check fails, in its place (this project's own).
-use Rattle.std.specs.Prelude.{ℕ, List, [], ◌∷◌, ◌++◌, take, Bool, true, false, not, ◌&&◌, nat_lt, nat_le}
-use Rattle.std.specs.Prelude.{Option, Some, None, is_some, option_map}
-use Rattle.std.specs.Prelude.{if◌then◌else◌}
+use Rattle.std.specs.Prelude.{ℕ, List, [], ◌∷◌, ◌++◌, take, Bool, true, false, not, ◌&&◌, nat_lt}
+use Rattle.std.specs.Prelude.{nat_le, Option, Some, None, is_some, option_map, if◌then◌else◌}
 use Rattle.std.specs.List.{list_any}
 use Rattle.std.specs.Str.{bytes_eq}
 use Rattle.sts_code.specs.declared.checking.CodeCause.{CodeCause}

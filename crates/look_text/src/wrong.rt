@@ -3,14 +3,12 @@
 ghost use Rattle.std.specs.Prelude.{◌≡◌, ◌<◌, ◌++◌, [], OnOk, IfSome, MatchOption, Some, None, length};
 ghost use Rattle.std.specs.Prelude.{slice_get, option_map, codes};
 ghost use Rattle.std.specs.Option.{option_copied};
-ghost use Rattle.sts_asm.specs.Source.{line_at, names_at, sentences_of};
-ghost use Rattle.sts_asm.specs.Source.{words_at};
+ghost use Rattle.sts_asm.specs.Source.{line_at, names_at, sentences_of, words_at};
 ghost use Rattle.look_text.specs.Inside.{is_inside};
 ghost use Rattle.look_text.specs.Sentences.{join_form};
-ghost use Rattle.look_text.specs.Names.{line_stop, lines_stop, name_stop, unknown_name};
+ghost use Rattle.look_text.specs.Names.{line_stop, lines_stop, name_stop};
 ghost use Rattle.look_text.specs.Wanted.{stop, first_wrong, wrong_place};
 ghost use Rattle.look_text.specs.Functions.{functions_of};
-ghost use Rattle.look_text.specs.NearName.{near_in};
 ghost use Rattle.look_text.specs.Wrong as def;
 
 use crate::colon::colon_part;

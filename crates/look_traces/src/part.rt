@@ -1,6 +1,6 @@
 //! A word of a trace in the short form.
 
-ghost use Rattle.std.specs.Prelude.{◌≡◌, IfSome, ◌<◌, ◌^◌};
+ghost use Rattle.std.specs.Prelude.{◌≡◌, ◌<◌};
 ghost use Rattle.look_traces.specs.Short as def;
 
 use sts_text::{cut_at, numeral};

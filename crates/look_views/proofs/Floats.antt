@@ -22,8 +22,7 @@ use Rattle.sts_plain.specs.declared.misstep.PlainState.TheVariants as plain
 use Rattle.sts_asm.specs.Fault.{code_error}
 use Rattle.sts_asm.specs.declared.fault.AsmError.{AsmError}
 use Rattle.sts_trace.specs.declared.error.TraceError.{TraceError}
-use Rattle.look_cases.proofs.FloatLemmas.{integer_plain, maybe_plain, text_fault_plain}
-use Rattle.look_cases.proofs.FloatLemmas.{trace_fault_plain}
+use Rattle.look_cases.proofs.FloatLemmas.{integer_plain, maybe_plain, text_fault_plain, trace_fault_plain}
 use Rattle.look_cases.proofs.FloatLemmas as answers
 use Rattle.look_lines.specs.Lines.{is_heard, keys}
 use Rattle.look_lines.specs.Watched.{Watched}

@@ -1,6 +1,5 @@
-use Rattle.std.proofs.Common.{◌≡◌, ◌≢◌, ◌++◌, ℕ, zero, suc, List, [], ◌∷◌, Bool, true, false}
-use Rattle.std.proofs.Common.{Option, Some, None, refl, sym, ◌∙◌, ap, cond, nat_eq, slice_set, arith}
-use Rattle.std.proofs.Common.{length, replicate, ◌<◌}
+use Rattle.std.proofs.Common.{◌≡◌, ◌≢◌, ◌++◌, ℕ, zero, suc, List, [], ◌∷◌, Bool, true, false, Option, Some, None, refl, sym, ◌∙◌, ap, cond, nat_eq, slice_set}
+use Rattle.std.proofs.Common.{arith, length, ◌<◌}
 use Rattle.std.specs.Prelude.{Result, Ok, Err, OnOk, OnErr}
 use Rattle.std.specs.Borrow.{Bor}
 use Rattle.std.specs.List.{slice_get}
@@ -27,17 +26,6 @@ first_there (x ∷ xs) zero zero f h = absurd (h refl)
 first_there (x ∷ xs) zero (suc j) f h = refl
 first_there (x ∷ xs) (suc i) zero f h = refl
 first_there (x ∷ xs) (suc i) (suc j) f h = first_there xs i j f (λ e. h (ap suc e))
-
-first_blank : (n i : ℕ) → first_of (replicate n None) i ≡ None
-first_blank zero i = refl
-first_blank (suc n) zero = refl
-first_blank (suc n) (suc i) = first_blank n i
-
--- further buckets without names change nothing
-pub first_filled : (firsts : List (Option ℕ)) (n i : ℕ) → first_of (firsts ++ replicate n None) i ≡ first_of firsts i
-first_filled [] n i = first_blank n i
-first_filled (x ∷ xs) n zero = refl
-first_filled (x ∷ xs) n (suc i) = first_filled xs n i
 
 -- ---- lists of names
 

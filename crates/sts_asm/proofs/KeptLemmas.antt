@@ -1,6 +1,5 @@
 -- A function is assembled alike from what is kept of it.
-use Rattle.std.proofs.Common.{◌≡◌, ℕ, zero, suc, ◌+◌, get_or, ◌<◌, ◌≤◌, Bool, true, false}
-use Rattle.std.proofs.Common.{List, [], ◌∷◌, ◌++◌, length, take, drop, refl, sym, ◌∙◌, ap, arith}
+use Rattle.std.proofs.Common.{◌≡◌, ℕ, zero, suc, ◌+◌, get_or, ◌<◌, ◌≤◌, Bool, true, false, List, [], ◌∷◌, ◌++◌, length, take, drop, refl, sym, ◌∙◌, ap, arith}
 use Rattle.std.specs.Prelude.{Some, None, Option, Result, Ok, Err, if◌then◌else◌, map, slice_set}
 use Rattle.std.proofs.lemmas.List.Folds.{list_all_at}
 use Rattle.std.proofs.lemmas.List.{append-nil, append_assoc, drop_all, take_all}
@@ -14,8 +13,7 @@ use Rattle.sts_asm.specs.Line.{has_names, instr_of}
 use Rattle.sts_asm.specs.Outline.{Sentence, Draft, AreUnnamed}
 use Rattle.sts_asm.specs.Text.{each, instr_at, routine_of}
 use Rattle.sts_asm.specs.Kept as kept
-use Rattle.sts_asm.specs.Kept.{Kept, IsShortened, IsKept, AreKept, naming_lines, is_naming_read}
-use Rattle.sts_asm.specs.Kept.{are_naming, without_names, filled}
+use Rattle.sts_asm.specs.Kept.{Kept, IsShortened, IsKept, AreKept, naming_lines, is_naming_read, are_naming, without_names, filled}
 use Rattle.sts_asm.proofs.EachLemmas.{with_front, each_later}
 use Rattle.sts_asm.proofs.InPlaceLemmas.{moved, next_of}
 use Rattle.sts_asm.proofs.NamelessLemmas.{bool_cases, nameless, named_again, later_read}

@@ -1,5 +1,4 @@
-use Rattle.std.proofs.Common.{◌≡◌, ℕ, ◌^◌, ◌-◌, Bool, true, false, cond, List, [], ◌∷◌, ◌++◌, refl}
-use Rattle.std.proofs.Common.{◌∙◌, ap, sym, ◌⊎◌, inl, inr, append-nil}
+use Rattle.std.proofs.Common.{◌≡◌, ℕ, ◌^◌, ◌-◌, Bool, true, false, cond, List, [], ◌∷◌, ◌++◌, refl, ◌∙◌, ap, sym, ◌⊎◌, inl, inr, append-nil}
 use Rattle.std.specs.Prelude.{Option, Some, None, option_map, Result, Ok, Err, ℤ, codes}
 use Rattle.std.specs.List.{AllByRecursion}
 use Rattle.std.specs.Option.{option_or}
@@ -11,8 +10,7 @@ use Rattle.sts_code.specs.declared.instr.Instr.{Instr}
 use Rattle.sts_code.specs.Shape.{Operand, shape}
 use Rattle.sts_code.specs.declared.instr.Instr.TheVariants as i
 use Rattle.sts_code.specs.declared.instr.Joiner.{Joiner}
-use Rattle.sts_code.specs.declared.instr.Joiner.TheVariants.{AllSucceed, AnySucceeds, AwaitOk}
-use Rattle.sts_code.specs.declared.instr.Joiner.TheVariants.{AwaitAll, Until}
+use Rattle.sts_code.specs.declared.instr.Joiner.TheVariants.{AllSucceed, AnySucceeds, AwaitOk, AwaitAll, Until}
 use Rattle.sts_code.specs.declared.instr.Pred.{Pred}
 use Rattle.sts_code.specs.declared.instr.Pred.TheVariants.{Failed, Success, AtLeast}
 use Rattle.sts_code.specs.declared.instr.Kind.{Kind}
@@ -22,14 +20,10 @@ use Rattle.sts_asm.specs.declared.fault.AsmKind.{AsmKind}
 use Rattle.sts_asm.specs.declared.fault.AsmKind.TheVariants.{BadNumber, BadOperands, UnknownLabel}
 use Rattle.sts_asm.specs.Fault.{◌>>=◌}
 use Rattle.sts_asm.specs.Marks.{Names, label_in, function_in}
-use Rattle.sts_asm.specs.Operand.{Read, wanted, looked_up, number_at, value_at, slot, slot_at}
-use Rattle.sts_asm.specs.Operand.{handle, handle_at, named, name_at, target_at, function_at}
-use Rattle.sts_asm.specs.Operand.{maybe_target_at, until_count_at, until_value_at, until_at}
-use Rattle.sts_asm.specs.Operand.{joiners, joiner_at, timed_at, kinds_counted, kind_at, finished}
+use Rattle.sts_asm.specs.Operand.{Read, wanted, looked_up, number_at, value_at, slot, slot_at, handle, handle_at, named, name_at, target_at, function_at}
+use Rattle.sts_asm.specs.Operand.{maybe_target_at, until_count_at, until_value_at, until_at, joiners, joiner_at, timed_at, kinds_counted, kind_at, finished}
 use Rattle.sts_asm.specs.declared.mnemonic.Mnemonic.{Mnemonic}
-use Rattle.sts_asm.specs.declared.mnemonic.Mnemonic.TheVariants.{Plain, WithNumber, WithSlot}
-use Rattle.sts_asm.specs.declared.mnemonic.Mnemonic.TheVariants.{WithTarget, Push, Times, Open}
-use Rattle.sts_asm.specs.declared.mnemonic.Mnemonic.TheVariants.{Fork, Join, Case, Tally}
+use Rattle.sts_asm.specs.declared.mnemonic.Mnemonic.TheVariants.{Plain, WithNumber, WithSlot, WithTarget, Push, Times, Open, Fork, Join, Case, Tally}
 use Rattle.sts_asm.specs.declared.mnemonic.Numbered.{Numbered}
 use Rattle.sts_asm.specs.declared.mnemonic.Numbered.TheVariants as numbered
 use Rattle.sts_asm.specs.declared.mnemonic.Slotted.{Slotted}
@@ -39,8 +33,7 @@ use Rattle.sts_asm.specs.declared.mnemonic.Targeted.TheVariants as targeted
 use Rattle.sts_asm.specs.Line.{plain_words, numbered_words, slotted_words, other_words, with_number}
 use Rattle.sts_asm.specs.Line.{with_slot, with_target, operated, known, mnemonic_of, instr_of, sample}
 use Rattle.sts_asm.proofs.TextLemmas.{bind_ok}
-use Rattle.sts_asm.specs.Table.{Spells, IsLabel, IsMaybeLabel, IsFunction, IsHandle, IsKind}
-use Rattle.sts_asm.specs.Table.{IsWord, IsJoiner, IsTimed, ReadByTable}
+use Rattle.sts_asm.specs.Table.{Spells, IsLabel, IsMaybeLabel, IsFunction, IsHandle, IsKind, IsWord, IsJoiner, IsTimed, ReadByTable}
 
 -- ---- from the table to what is read
 

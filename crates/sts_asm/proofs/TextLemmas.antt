@@ -1,9 +1,7 @@
-use Rattle.std.proofs.Common.{◌≡◌, ℕ, ◌+◌, Bool, true, false, List, [], ◌∷◌, length, arith, refl}
-use Rattle.std.proofs.Common.{sym, ◌∙◌, ap}
+use Rattle.std.proofs.Common.{◌≡◌, ℕ, ◌+◌, Bool, true, false, List, [], ◌∷◌, length, arith, refl, sym, ◌∙◌, ap}
 use Rattle.std.specs.Prelude.{Result, Ok, Err, is_some}
 use Rattle.sts_asm.specs.declared.fault.AsmKind.{AsmKind}
-use Rattle.sts_asm.specs.declared.fault.AsmKind.TheVariants.{Unclosed}
-use Rattle.sts_asm.specs.declared.fault.AsmKind.TheVariants.{Memory}
+use Rattle.sts_asm.specs.declared.fault.AsmKind.TheVariants.{Unclosed, Memory}
 use Rattle.sts_asm.specs.declared.fault.AsmError.{AsmError}
 use Rattle.sts_text.specs.Words.{lines}
 use Rattle.sts_asm.specs.Fault.{◌>>=◌, at_line, FailsAt}
@@ -27,10 +25,6 @@ line_last at o p text last e = rw (last, e) refl
 pub fails_on : {X Y : Type 0} (k : AsmKind) (e : AsmError) (a : Result X AsmError) (b : Result Y AsmError) → (a ≡ Err e → b ≡ Err e) → FailsAt e k a → FailsAt e k b
 fails_on Memory e a b f h = h
 fails_on _ e a b f h = f h
-
--- the first fault of the lines is that of this line
-pub line_fails : (at : ℕ) (o : Outline) (e : AsmError) (line : List ℕ) (more : List (List ℕ)) → FailsAt e e.kind (at_line at (line_read at o line)) → FailsAt e e.kind (lines_read at o (line ∷ more))
-line_fails at o e line more h = fails_on e.kind e (at_line at (line_read at o line)) (lines_read at o (line ∷ more)) (line_fault at o e line more) h
 
 pub ruleset reads = (line_step, line_last)
 

@@ -46,6 +46,9 @@ impl<'a> Model for Kept<'a> {
     } };
 }
 
+/// How many lines that are read again have room from the first on. Most functions have fewer.
+const FIRST_ROOM: usize = 64;
+
 /// Adds a line if its instruction names a label or a function.
 fn add_naming<'a>(
     again: &mut Vec<Sentence<'a>>,
@@ -70,7 +73,7 @@ fn naming_lines<'a>(
     requires { length lines.now ≡ length code.now }
     ensures { IfOk result (λ again. again.items ≡ def.naming_lines lines.now code.now) }
 {
-    let mut again = Vec::new(alloc);
+    let mut again = Vec::with_capacity(alloc, lines.len().min(FIRST_ROOM))?;
     for at in 0..lines.len() {
         add_naming(&mut again, &lines[at], &code[at])?;
     }

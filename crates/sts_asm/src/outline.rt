@@ -9,9 +9,8 @@ ghost use Rattle.sts_asm.specs.Fault.{Steps, Fails};
 ghost use Rattle.sts_asm.specs.Line.{instr_of};
 ghost use Rattle.sts_asm.specs.Operand.{finished};
 ghost use Rattle.sts_asm.specs.Outline as def;
-ghost use Rattle.sts_asm.specs.Outline.{no_needs, profile_at, with_keys, keys_at, needs_at};
+ghost use Rattle.sts_asm.specs.Outline.{profile_at, with_keys, keys_at, needs_at};
 ghost use Rattle.sts_asm.specs.Outline.{label_of, is_allowed, is_semicolon, is_plain, size_of};
-ghost use Rattle.sts_asm.specs.Outline.{instructions};
 ghost use Rattle.sts_asm.specs.Kept.{no_draft};
 
 use crate::fault::{AsmKind, LineFault, LineKind};

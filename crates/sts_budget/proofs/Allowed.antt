@@ -1,7 +1,6 @@
 -- The facts of an instruction that follow if no cause holds at it.
-use Rattle.std.proofs.Common.{◌≡◌, ℕ, ◌<◌, ◌⊎◌, inl, inr, List, [], ◌∷◌, ◌++◌, length, Bool, true}
-use Rattle.std.proofs.Common.{false, cond, ◌||◌, Option, Some, None, Ok, find, refl, sym, ap}
-use Rattle.std.proofs.Common.{◌∙◌}
+use Rattle.std.proofs.Common.{◌≡◌, ℕ, ◌<◌, ◌⊎◌, inl, inr, List, [], ◌∷◌, ◌++◌, length, Bool, true, false, cond, ◌||◌, Option, Some, None, Ok, find, refl, sym}
+use Rattle.std.proofs.Common.{ap, ◌∙◌}
 use Rattle.std.specs.List.{list_any}
 use Rattle.std.proofs.lemmas.Bool.{leb-false, or_parts}
 use Rattle.sts_types.proofs.AmongLemmas.{none_passes}
@@ -13,8 +12,7 @@ use Rattle.sts_rules.specs.declared.typing.Cause.TheVariants as cause
 use Rattle.sts_rules.specs.TypeState.{TypeState, heads}
 use Rattle.sts_rules.specs.Around.{next_place, skipped_to, open_after, around}
 use Rattle.sts_code.specs.Facts.{targets}
-use Rattle.sts_rules.specs.Causes.{holds, causes, least_cause, is_unmatched, breaks_structure}
-use Rattle.sts_rules.specs.Causes.{is_nested, is_illegal, has_wrong_slot, is_strangers}
+use Rattle.sts_rules.specs.Causes.{holds, causes, least_cause, is_unmatched, breaks_structure, is_nested, is_illegal, has_wrong_slot, is_strangers}
 use Rattle.sts_rules.specs.Causes.{is_other_loop}
 use Rattle.sts_rules.specs.Edges.{follows, or_cause, edges_of}
 use Rattle.sts_rules.specs.ControlPaths.{Among}

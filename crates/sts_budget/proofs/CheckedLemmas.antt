@@ -1,7 +1,5 @@
 -- The facts of a function's code that follow from the program checks.
-use Rattle.std.proofs.Common.{◌≡◌, ℕ, zero, suc, ◌<◌, ◌≤◌, length}
-use Rattle.std.proofs.Common.{false, Option, None, ◌||◌, nat_lt, ◌==◌}
-use Rattle.std.proofs.Common.{arith}
+use Rattle.std.proofs.Common.{◌≡◌, ℕ, zero, suc, ◌<◌, ◌≤◌, length, false, Option, None, ◌||◌, nat_lt, ◌==◌, arith}
 use Rattle.std.proofs.lemmas.Bool.{leb-false, ltb-false, or_parts}
 use Rattle.sts_code.specs.Checks as def
 use Rattle.sts_code.specs.Program.{Program, routine, instr_at}

@@ -1,13 +1,11 @@
 -- The open entries at a point of a path, and the sums over the first d of them.
-use Rattle.std.proofs.Common.{◌≡◌, ℕ, suc, ◌+◌, ◌<◌, ◌≤◌, ◌⊎◌, min, inl, inr, List, [], ◌∷◌, length}
-use Rattle.std.proofs.Common.{drop, map, Bool, true, false, cond, ltb, ◌==◌, Option, Some, None}
-use Rattle.std.proofs.Common.{refl, sym, ap, ◌∙◌, arith, add-zero}
+use Rattle.std.proofs.Common.{◌≡◌, ℕ, suc, ◌+◌, ◌<◌, ◌≤◌, ◌⊎◌, min, inl, inr, List, [], ◌∷◌, length, drop, map, Bool, true, false, cond, ltb, ◌==◌, Option}
+use Rattle.std.proofs.Common.{Some, None, refl, sym, ap, ◌∙◌, arith, add-zero}
 use Rattle.std.specs.List.{sum_by}
 use Rattle.std.proofs.lemmas.Bool.{cases_lt, lt-ltb, le-ltb, eqb-false}
 use Rattle.std.proofs.lemmas.List.Sums.{sum_by-cons}
 use Rattle.sts_code.specs.declared.instr.Instr.{Instr}
-use Rattle.sts_code.specs.declared.instr.Instr.TheVariants.{Open, Fork, Close}
-use Rattle.sts_code.specs.declared.instr.Instr.TheVariants.{Bind, Unbind}
+use Rattle.sts_code.specs.declared.instr.Instr.TheVariants.{Open, Fork, Close, Bind, Unbind}
 use Rattle.sts_rules.specs.ControlPaths.{OpenEntry, OpenScope, OpenBinding}
 use Rattle.sts_rules.specs.Budget.{Measure, entry_sum, entries_sum, forked, entries_of}
 use Rattle.sts_budget.specs.Layout.{EntryNames, names_after, HasScope, FitsNames}

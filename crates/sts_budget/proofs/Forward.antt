@@ -1,14 +1,11 @@
 -- One forward pass over the places makes the table of greatest sums.
-use Rattle.std.proofs.Common.{◌≡◌, ℕ, ◌+◌, ◌*◌, ◌<◌, ◌≤◌, ◌⊎◌, max, inl, inr, List, [], ◌∷◌, refl}
-use Rattle.std.proofs.Common.{sym, ap, ◌∙◌, subst, arith}
+use Rattle.std.proofs.Common.{◌≡◌, ℕ, ◌+◌, ◌*◌, ◌<◌, ◌≤◌, ◌⊎◌, max, inl, inr, List, [], ◌∷◌, refl, sym, ap, ◌∙◌, subst, arith}
 use Rattle.std.proofs.lemmas.Bool.{cases_eq, cases_lt}
-use Rattle.sts_rules.specs.ControlPaths.{Shape, GoesTo, Repeats, EndsTurn, EndsPath, Skeleton}
-use Rattle.sts_rules.specs.ControlPaths.{Among}
+use Rattle.sts_rules.specs.ControlPaths.{Shape, GoesTo, Repeats, EndsTurn, EndsPath, Skeleton, Among}
 use Rattle.sts_budget.proofs.SumsLemmas.{IsTable, IsSourced, Source, by_go, by_turn, by_loop}
 use Rattle.sts_budget.specs.Structured.{IsStructured, bound_of, Led, from_go, from_head, from_end}
 use Rattle.sts_budget.specs.Sums.{Flows, FitsEntries, gain}
-use Rattle.sts_budget.specs.Table.{MaxOf, read, Handed, New, IsSpread, IsPartial, over_go}
-use Rattle.sts_budget.specs.Table.{over_loop}
+use Rattle.sts_budget.specs.Table.{MaxOf, read, Handed, New, IsSpread, IsPartial, over_go, over_loop}
 
 max_more : (P : ℕ → Type 0) (x v : ℕ) → MaxOf P x → MaxOf (λ m. P m ⊎ (v ≡ m)) (max x v)
 max_more P x v h = by (cases_lt v x)

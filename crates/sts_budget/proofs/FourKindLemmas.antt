@@ -1,28 +1,20 @@
 -- The four budgets: the sums of the pass are the counts of control paths.
-use Rattle.std.proofs.Common.{◌≡◌, ℕ, suc, ◌+◌, ◌<◌, ◌≤◌, List, [], ◌∷◌, length, refl, sym, ap, ◌∙◌}
-use Rattle.std.proofs.Common.{subst, arith}
+use Rattle.std.proofs.Common.{◌≡◌, ℕ, suc, ◌+◌, ◌<◌, ◌≤◌, List, [], ◌∷◌, length, refl, sym, ap, ◌∙◌, subst, arith}
 use Rattle.sts_code.specs.declared.instr.Instr.{Instr}
-use Rattle.sts_code.specs.declared.instr.Instr.TheVariants.{Push}
-use Rattle.sts_code.specs.declared.instr.Instr.TheVariants.{Times}
-use Rattle.sts_code.specs.declared.instr.Instr.TheVariants.{Next}
-use Rattle.sts_code.specs.declared.instr.Instr.TheVariants.{Ret, Fail}
+use Rattle.sts_code.specs.declared.instr.Instr.TheVariants.{Push, Times, Next, Ret, Fail}
 use Rattle.sts_code.specs.Program.{instr_at}
-use Rattle.sts_rules.specs.ControlPaths.{EndsPath, OpenEntry, Skeleton, Loops, Follows, go, skip}
-use Rattle.sts_rules.specs.ControlPaths.{enter, again, leave, Comes, start, step, PathCounts}
+use Rattle.sts_rules.specs.ControlPaths.{EndsPath, OpenEntry, Skeleton, Loops, Follows, go, skip, enter, again, leave, Comes, start, step, PathCounts}
 use Rattle.sts_rules.specs.ControlPaths.{IsGreatest, PointHolds, IsPeak}
 use Rattle.sts_rules.specs.declared.budget.Budgets.{Budgets}
-use Rattle.sts_rules.specs.Budget.{Measure, entries_sum, entries_of, skeleton, shape_of, steps_of}
-use Rattle.sts_rules.specs.Budget.{tasks_measure, scopes_measure, binds_measure, scopes_sum}
+use Rattle.sts_rules.specs.Budget.{Measure, entries_sum, entries_of, skeleton, shape_of, steps_of, tasks_measure, scopes_measure, binds_measure, scopes_sum}
 use Rattle.sts_rules.specs.Budget.{binds_sum, Exceeds, PathExceeds}
 use Rattle.sts_budget.specs.Layout.{EntryNames, names_after, FitsNames}
 use Rattle.sts_budget.specs.declared.change.Resource.{Resource}
 use Rattle.sts_budget.specs.declared.change.Resource.TheVariants.{Steps, Tasks, Scopes, Binds}
-use Rattle.sts_budget.specs.Change.{source_of, added_of, measured, own_of, limit_of, cause_of}
-use Rattle.sts_budget.specs.Change.{IsMost}
+use Rattle.sts_budget.specs.Change.{source_of, added_of, measured, own_of, limit_of, cause_of, IsMost}
 use Rattle.sts_budget.proofs.StructuredLemmas.{own_loop, IsInside, comes_inside, at_points}
 use Rattle.sts_budget.proofs.SumsLemmas.{IsTable, point_most, point_attained}
-use Rattle.sts_budget.proofs.EntryLemmas.{names, front, front_all, front_le, names_of, front_of}
-use Rattle.sts_budget.proofs.EntryLemmas.{source_low, source_kept, long}
+use Rattle.sts_budget.proofs.EntryLemmas.{names, front, front_all, front_le, names_of, front_of, source_low, source_kept, long}
 use Rattle.sts_budget.specs.Flowing.{flows, flows_by}
 use Rattle.sts_budget.specs.Known.{KnowsNames}
 use Rattle.sts_budget.specs.Structured.{IsStructured}

@@ -1,21 +1,16 @@
 -- The code and the pass hand on the same values at a place.
-use Rattle.std.proofs.Common.{◌≡◌, ℕ, ◌+◌, ◌*◌, ◌<◌, ◌≤◌, max, min, inl, inr, List, []}
-use Rattle.std.proofs.Common.{◌∷◌, ◌++◌, length, get_or, replicate, true, false, Option, unwrap_or}
+use Rattle.std.proofs.Common.{◌≡◌, ℕ, ◌+◌, ◌*◌, ◌<◌, ◌≤◌, max, min, inl, inr, List, [], ◌∷◌, ◌++◌, length, get_or, replicate, true, false, Option, unwrap_or}
 use Rattle.std.proofs.Common.{refl, sym, ap, ◌∙◌, subst, arith, Bool, pos}
-use Rattle.std.proofs.lemmas.List.{length-replicate, get_or-replicate}
+use Rattle.std.proofs.lemmas.List.{length-replicate, get_or-replicate, get_or_default}
 use Rattle.sts_code.specs.Program.{Program, instr_at}
 use Rattle.sts_code.specs.declared.profile.Profile.TheVariants.{One}
 use Rattle.sts_code.specs.declared.instr.Instr.{Instr}
-use Rattle.sts_code.specs.declared.instr.Instr.TheVariants.{Push}
-use Rattle.sts_code.specs.declared.instr.Instr.TheVariants.{Times}
-use Rattle.sts_code.specs.declared.instr.Instr.TheVariants.{Next}
-use Rattle.sts_code.specs.declared.instr.Instr.TheVariants.{Ret, Fail}
+use Rattle.sts_code.specs.declared.instr.Instr.TheVariants.{Push, Times, Next, Ret, Fail}
 use Rattle.sts_rules.specs.Around.{next_place, around}
 use Rattle.sts_code.specs.Facts.{goes_straight_on, targets}
 use Rattle.sts_rules.specs.declared.budget.Budgets.{Budgets}
 use Rattle.sts_rules.specs.Budget.{skeleton, shape_of}
-use Rattle.sts_rules.specs.ControlPaths.{Shape, GoesTo, Repeats, EndsTurn, EndsPath, Skeleton}
-use Rattle.sts_rules.specs.ControlPaths.{Among}
+use Rattle.sts_rules.specs.ControlPaths.{Shape, GoesTo, Repeats, EndsTurn, EndsPath, Skeleton, Among}
 use Rattle.sts_budget.specs.declared.change.Resource.{Resource}
 use Rattle.sts_budget.specs.declared.change.Resource.TheVariants.{Steps}
 use Rattle.sts_budget.specs.declared.layout.Layout.{Layout}
@@ -24,11 +19,8 @@ use Rattle.sts_budget.specs.Handing.{is_quiet, is_ordinary, turns_of, value_by, 
 use Rattle.sts_budget.specs.Ready.{IsLaidFor, first_of, names_in, head_in, flows_in}
 use Rattle.sts_budget.specs.Structured.{bound_of}
 use Rattle.sts_budget.specs.Sums.{Flows, FitsEntries, Stands}
-use Rattle.sts_budget.specs.Table.{read, New, Handed, over_go, over_loop, IsSpread, IsPartial}
-use Rattle.sts_budget.specs.Table.{IsCarried, IsSent, IsStopped, HandsTooMuch, Passes}
-use Rattle.std.proofs.lemmas.List.{get_or_default}
+use Rattle.sts_budget.specs.Table.{read, New, Handed, over_go, over_loop, IsSpread, IsPartial, IsCarried, IsSent, IsStopped, HandsTooMuch, Passes}
 use Rattle.sts_budget.proofs.Sorts.{Sort, sort, is_times, is_next, is_end, goes_on, GoesOn, among_at, straight}
-use Rattle.sts_budget.proofs.TypedLemmas.{next_of}
 use Rattle.sts_budget.proofs.SumsLemmas.{IsSourced, go_stands, loop_stands}
 use Rattle.sts_budget.proofs.Forward.{among_cases, partial_more, sourced}
 use Rattle.sts_budget.proofs.FourKindLemmas.{fits}
@@ -80,9 +72,6 @@ module _ (k : Resource) (earlier : List Budgets) (code : List Instr) (l : Layout
 
   pub fits_here : FitsEntries c (around code) f
   fits_here = fits earlier code (around code) ready.good (names_in l) ready.known k
-
-  shaped_end : (pc : ℕ) → c.shape pc ≡ EndsTurn → instr_at code pc ≡ Next
-  shaped_end pc e = next_of any_program code pc (instr_at code pc) (sort any_program code pc (instr_at code pc)) e
 
   -- the head of the loop that a place ends
   pub heads_right : (pc : ℕ) → c.shape pc ≡ EndsTurn → ((n : ℕ) × (c.shape (head_in l pc) ≡ Repeats n)) × (c.mate (head_in l pc) ≡ pc)

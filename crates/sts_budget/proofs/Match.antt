@@ -1,16 +1,13 @@
 -- The match of a `times` is a `next`, and comes after it.
-use Rattle.std.proofs.Common.{◌≡◌, ◌≢◌, ℕ, zero, suc, ◌+◌, ◌-◌, ◌<◌, ◌≤◌, List, [], ◌∷◌, length}
-use Rattle.std.proofs.Common.{take, drop, get_or, add-zero, Bool, true, false, cond, Some, find}
-use Rattle.std.proofs.Common.{refl, sym, ap, ◌∙◌, arith, length-drop, slice_range}
+use Rattle.std.proofs.Common.{◌≡◌, ◌≢◌, ℕ, zero, suc, ◌+◌, ◌-◌, ◌<◌, ◌≤◌, List, [], ◌∷◌, length, take, drop, get_or, add-zero, Bool, true, false, cond, Some}
+use Rattle.std.proofs.Common.{find, refl, sym, ap, ◌∙◌, arith, length-drop, slice_range}
 use Rattle.std.specs.List.{range_with_len, count_by, sum_by}
 use Rattle.std.proofs.Math.Seq.{take-suc}
 use Rattle.std.proofs.lemmas.Bool.{eqb-true, eqb-false}
 use Rattle.std.proofs.lemmas.List.{get_or-drop}
 use Rattle.std.proofs.lemmas.List.Sums.{sum_by-append, sum_by-cons}
 use Rattle.sts_code.specs.declared.instr.Instr.{Instr}
-use Rattle.sts_code.specs.declared.instr.Instr.TheVariants.{Times}
-use Rattle.sts_code.specs.declared.instr.Instr.TheVariants.{Next}
-use Rattle.sts_code.specs.declared.instr.Instr.TheVariants.{Ret}
+use Rattle.sts_code.specs.declared.instr.Instr.TheVariants.{Times, Next, Ret}
 use Rattle.sts_code.specs.Loops.{is_times, is_next, is_balanced, match_of}
 use Rattle.sts_code.specs.Program.{instr_at}
 

@@ -1,9 +1,7 @@
 -- The place in a well-typed function gives the names of the open entries, and a loop closes nothing
 -- that was opened before it.
-use Rattle.std.proofs.Common.{◌≡◌, ℕ, suc, ◌+◌, ◌<◌, ◌≤◌, ◌⊎◌, inl, inr, List, [], ◌∷◌, ◌++◌}
-use Rattle.std.proofs.Common.{length, drop, map, Bool, true, false, cond, not, ◌||◌, ◌==◌}
-use Rattle.std.proofs.Common.{Some, refl, sym, ap, ◌∙◌, subst, arith, option_map}
-use Rattle.std.proofs.Common.{option_to_list, slice_get, nat_le}
+use Rattle.std.proofs.Common.{◌≡◌, ℕ, suc, ◌+◌, ◌<◌, ◌≤◌, ◌⊎◌, inl, inr, List, [], ◌∷◌, ◌++◌, length, drop, map, Bool, true, false, cond, not, ◌||◌, ◌==◌, Some}
+use Rattle.std.proofs.Common.{refl, sym, ap, ◌∙◌, subst, arith, option_map, option_to_list, slice_get, nat_le}
 use Rattle.std.specs.List.{list_any}
 use Rattle.std.proofs.lemmas.Bool.{cases_lt, leb-false, eqb-true, not-false, or_parts}
 use Rattle.std.proofs.lemmas.List.{length-map}
@@ -11,9 +9,7 @@ use Rattle.sts_types.proofs.RoomLemmas.{is_owned}
 use Rattle.laws_words.proofs.BoolLemmas.{other_false}
 use Rattle.sts_code.specs.Program.{Program, routine, instr_at}
 use Rattle.sts_code.specs.declared.instr.Instr.{Instr}
-use Rattle.sts_code.specs.declared.instr.Instr.TheVariants.{Times}
-use Rattle.sts_code.specs.declared.instr.Instr.TheVariants.{Fork, Close}
-use Rattle.sts_code.specs.declared.instr.Instr.TheVariants.{Unbind}
+use Rattle.sts_code.specs.declared.instr.Instr.TheVariants.{Times, Fork, Close, Unbind}
 use Rattle.sts_rules.specs.declared.typing.TypedLoop.{TypedLoop}
 use Rattle.sts_rules.specs.declared.typing.TypedEntry.{TypedEntry}
 use Rattle.sts_rules.specs.declared.typing.TypedEntry.TheVariants.{Scope, Binding}
@@ -21,8 +17,7 @@ use Rattle.sts_rules.specs.Flow.{Leads, Reaches, first, then}
 use Rattle.sts_rules.specs.TypeState.{TypeState, heads, kind, scope_in}
 use Rattle.sts_rules.specs.Around.{next_place, around}
 use Rattle.sts_code.specs.Facts.{targets}
-use Rattle.sts_rules.specs.Causes.{breaks_structure, is_illegal, has_wrong_slot, is_strangers}
-use Rattle.sts_rules.specs.Causes.{is_held, is_own, is_lent, passes, is_opened, innermost}
+use Rattle.sts_rules.specs.Causes.{breaks_structure, is_illegal, has_wrong_slot, is_strangers, is_held, is_own, is_lent, passes, is_opened, innermost}
 use Rattle.sts_rules.specs.Causes.{is_scope_in, is_binding}
 use Rattle.sts_rules.specs.Edges.{follows, moved, typing, back_of}
 use Rattle.sts_rules.specs.Refusal.{IsWellTyped}
@@ -31,9 +26,8 @@ use Rattle.sts_rules.specs.declared.budget.Budgets.{Budgets}
 use Rattle.sts_rules.specs.Budget.{skeleton, shape_of}
 use Rattle.sts_budget.specs.Layout.{EntryNames, names_after, HasScope, FitsNames}
 use Rattle.sts_budget.proofs.Allowed.{allowed}
-use Rattle.sts_budget.proofs.TypedLemmas.{IsEdge, over_go, into_loop, past_loop, over_next, edge_at, here}
-use Rattle.sts_budget.proofs.TypedLemmas.{times_at, next_at, goes_at, within_code, opened, ended}
-use Rattle.sts_budget.proofs.TypedLemmas.{none_past}
+use Rattle.sts_budget.proofs.TypedLemmas.{IsEdge, over_go, into_loop, past_loop, over_next, edge_at, here, times_at, next_at, goes_at, within_code, opened}
+use Rattle.sts_budget.proofs.TypedLemmas.{ended, none_past}
 use Rattle.sts_budget.specs.Known.{KnowsNames, NamesRight}
 use Rattle.sts_budget.specs.Structured.{Led, from_go, from_head, from_end}
 use Rattle.sts_budget.specs.TypedNames.{name_of, names}

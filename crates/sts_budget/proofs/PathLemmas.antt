@@ -12,8 +12,7 @@ use Rattle.sts_budget.specs.TypedNames.{names as typed_names}
 use Rattle.sts_rules.specs.Refusal.{IsWellTyped}
 use Rattle.sts_rules.specs.declared.budget.Budgets.{Budgets}
 use Rattle.sts_rules.specs.ControlPaths.{GoesTo, OpenEntry, step, go}
-use Rattle.sts_rules.specs.Budget.{IsBudget, skeleton, shape_of, steps_of, budget_at, Measure}
-use Rattle.sts_rules.specs.Budget.{entries_sum, entries_of, forked, tasks_measure, scopes_measure}
+use Rattle.sts_rules.specs.Budget.{IsBudget, skeleton, shape_of, steps_of, budget_at, Measure, entries_sum, entries_of, forked, tasks_measure, scopes_measure}
 use Rattle.sts_rules.specs.Budget.{binds_measure}
 use Rattle.sts_budget.specs.Laws.{PointsLieOnPaths, PointsAreWithin, ChildrenArePart}
 use Rattle.sts_budget.specs.Layout.{EntryNames, HasScope, FitsNames}

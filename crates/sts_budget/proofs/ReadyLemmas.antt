@@ -1,6 +1,5 @@
 -- The typing of a function fits its code.
-use Rattle.std.proofs.Common.{◌≡◌, ℕ, ◌<◌, List, Option, None, [], ◌∷◌, length, slice_get}
-use Rattle.std.proofs.Common.{refl, sym, ap, ◌∙◌, subst, arith, unwrap_or, get_or, ◌≤◌}
+use Rattle.std.proofs.Common.{◌≡◌, ℕ, ◌<◌, List, Option, None, [], ◌∷◌, length, slice_get, refl, sym, ap, ◌∙◌, subst, arith, unwrap_or, get_or, ◌≤◌}
 use Rattle.sts_code.specs.Checks.{program_fault}
 use Rattle.sts_code.specs.Loops.{is_times}
 use Rattle.sts_code.specs.Program.{Program, routine, instr_at}

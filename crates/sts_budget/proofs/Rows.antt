@@ -1,16 +1,14 @@
 -- Rows that are filled from the front.
-use Rattle.std.proofs.Common.{◌≡◌, ◌≢◌, ℕ, suc, ◌+◌, ◌<◌, ◌≤◌, ◌⊎◌, max, inl, inr, List, length}
-use Rattle.std.proofs.Common.{set, get_or, refl, sym, ap, ◌∙◌, subst, arith, [], ◌∷◌, ◌++◌, take}
-use Rattle.std.proofs.Common.{get_or-set_same, get_or-set_other, length-set}
+use Rattle.std.proofs.Common.{◌≡◌, ◌≢◌, ℕ, suc, ◌+◌, ◌<◌, ◌≤◌, ◌⊎◌, max, inl, inr, List, length, set, get_or, refl, sym, ap, ◌∙◌, subst, arith, [], ◌∷◌, ◌++◌}
+use Rattle.std.proofs.Common.{take, get_or-set_same, get_or-set_other, length-set}
 use Rattle.std.proofs.Math.Seq.{take-suc}
 use Rattle.std.proofs.lemmas.Bool.{cases_eq}
 use Rattle.sts_types.proofs.AmongLemmas.{among_left, among_right}
 use Rattle.sts_rules.specs.ControlPaths.{Among}
 use Rattle.sts_budget.specs.Row.{IsRaised, IsOver}
 use Rattle.sts_budget.specs.Table.{read, IsRaisedAt, IsSent, IsStopped}
-use Rattle.sts_budget.proofs.Sorts.{among_of}
+use Rattle.sts_budget.proofs.Sorts.{among_of, among_at}
 use Rattle.sts_budget.proofs.Forward.{among_cases}
-use Rattle.sts_budget.proofs.Sorts.{among_at}
 
 -- one more of the values below i + 1
 pub set_below : (P : ℕ → ℕ → Type 0) (xs : List ℕ) (i v : ℕ) → i < length xs → ((d : ℕ) → d < i → P d (get_or xs d 0)) → P i v → (d : ℕ) → d < i + 1 → P d (get_or (set xs i v) d 0)

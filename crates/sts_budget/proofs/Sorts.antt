@@ -1,13 +1,11 @@
 -- The facts of the control flow and of the open entries that follow from the typing of each
 -- instruction.
-use Rattle.std.proofs.Common.{◌≡◌, ℕ, ◌+◌, ◌-◌, ◌⊎◌, inl, inr, List, [], ◌∷◌, ◌++◌, drop, map, true}
-use Rattle.std.proofs.Common.{false, cond, ◌==◌, Option, Some, None, refl, sym, ap, ◌∙◌, subst}
-use Rattle.std.proofs.Common.{zero, suc, ◌<◌, length, get_or, arith}
+use Rattle.std.proofs.Common.{◌≡◌, ℕ, ◌+◌, ◌-◌, ◌⊎◌, inl, inr, List, [], ◌∷◌, ◌++◌, drop, map, true, false, cond, ◌==◌, Option, Some, None, refl, sym, ap, ◌∙◌}
+use Rattle.std.proofs.Common.{subst, zero, suc, ◌<◌, length, get_or, arith}
 use Rattle.sts_types.proofs.AmongLemmas.{among_left}
 use Rattle.sts_code.specs.Program.{Program}
 use Rattle.sts_code.specs.declared.instr.Instr.{Instr}
-use Rattle.sts_code.specs.declared.instr.Instr.TheVariants.{Div, Jmp, Jz, Times, Next, Fork, Join}
-use Rattle.sts_code.specs.declared.instr.Instr.TheVariants.{Close, Case, Unbind, Ret, Fail}
+use Rattle.sts_code.specs.declared.instr.Instr.TheVariants.{Div, Jmp, Jz, Times, Next, Fork, Join, Close, Case, Unbind, Ret, Fail}
 use Rattle.sts_rules.specs.declared.typing.TypedEntry.{TypedEntry}
 use Rattle.sts_rules.specs.declared.typing.TypedEntry.TheVariants.{Scope, Binding}
 use Rattle.sts_rules.specs.declared.typing.TypedPhase.{TypedPhase}
@@ -19,8 +17,7 @@ use Rattle.sts_rules.specs.TypeState.{TypeState, scope_in}
 use Rattle.sts_rules.specs.Flow.{Leads}
 use Rattle.sts_rules.specs.Around.{next_place, skipped_to, open_after}
 use Rattle.sts_code.specs.Facts.{goes_straight_on, targets}
-use Rattle.sts_rules.specs.Edges.{follows, moved, with_slot, with_known, with_phase, phase_set}
-use Rattle.sts_rules.specs.Edges.{raised, after_ok, joiner_of, join_follows}
+use Rattle.sts_rules.specs.Edges.{follows, moved, with_slot, with_known, with_phase, phase_set, raised, after_ok, joiner_of, join_follows}
 use Rattle.sts_rules.specs.ControlPaths.{GoesTo, EndsPath, Among}
 use Rattle.sts_rules.specs.Budget.{shape_of}
 use Rattle.sts_budget.specs.Layout.{names_after}

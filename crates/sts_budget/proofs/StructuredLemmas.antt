@@ -1,10 +1,8 @@
 -- Structured code: its paths go forward. They enter a loop only by its head, and leave it only by
 -- its end. Every point of a path is on a whole path.
-use Rattle.std.proofs.Common.{◌≡◌, ℕ, zero, suc, ◌+◌, ◌-◌, ◌<◌, ◌≤◌, List, [], ◌∷◌, refl, sym, ap}
-use Rattle.std.proofs.Common.{◌∙◌, subst, arith}
-use Rattle.sts_rules.specs.ControlPaths.{Shape, GoesTo, Repeats, EndsTurn, EndsPath, OpenEntry}
-use Rattle.sts_rules.specs.ControlPaths.{Skeleton, Loops, Follows, go, skip, enter, again, leave}
-use Rattle.sts_rules.specs.ControlPaths.{Comes, start, step, PathCounts}
+use Rattle.std.proofs.Common.{◌≡◌, ℕ, zero, suc, ◌+◌, ◌-◌, ◌<◌, ◌≤◌, List, [], ◌∷◌, refl, sym, ap, ◌∙◌, subst, arith}
+use Rattle.sts_rules.specs.ControlPaths.{Shape, GoesTo, Repeats, EndsTurn, EndsPath, OpenEntry, Skeleton, Loops, Follows, go, skip, enter, again, leave, Comes}
+use Rattle.sts_rules.specs.ControlPaths.{start, step, PathCounts}
 use Rattle.sts_budget.specs.Structured.{heads, bound_of, IsStructured}
 
 module _ (c : Skeleton) (around : ℕ → List ℕ) (good : IsStructured c around) where

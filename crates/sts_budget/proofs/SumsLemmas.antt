@@ -1,15 +1,12 @@
 -- One pass finds the greatest sum of all points. It keeps, for each d, the greatest sum over the
 -- first d open entries. The steps of paths are such a sum over no entry.
-use Rattle.std.proofs.Common.{◌≡◌, ◌≢◌, ℕ, zero, suc, ◌+◌, ◌-◌, ◌*◌, ◌<◌, ◌≤◌, ◌⊎◌, min, inl, inr}
-use Rattle.std.proofs.Common.{List, [], ◌∷◌, refl, sym, ap, ◌∙◌, subst, arith, suc-mul, zero-mul}
-use Rattle.std.proofs.Common.{mul-le-mul_right}
+use Rattle.std.proofs.Common.{◌≡◌, ◌≢◌, ℕ, zero, suc, ◌+◌, ◌-◌, ◌*◌, ◌<◌, ◌≤◌, ◌⊎◌, min, inl, inr, List, [], ◌∷◌, refl, sym, ap, ◌∙◌, subst, arith, suc-mul}
+use Rattle.std.proofs.Common.{zero-mul, mul-le-mul_right}
 use Rattle.std.proofs.lemmas.Bool.{cases_eq}
-use Rattle.sts_rules.specs.ControlPaths.{GoesTo, Repeats, Skeleton, Among, Loops, Follows, go, skip}
-use Rattle.sts_rules.specs.ControlPaths.{enter, again, leave}
+use Rattle.sts_rules.specs.ControlPaths.{GoesTo, Repeats, Skeleton, Among, Loops, Follows, go, skip, enter, again, leave}
 use Rattle.sts_budget.proofs.StructuredLemmas.{FitTurns, own_loop, IsInside, inside_step, inside_start}
 use Rattle.sts_budget.specs.Structured.{IsStructured, heads, bound_of}
-use Rattle.sts_budget.specs.Sums.{Flows, Sums, FitsEntries, Stands, gain, last_turns, base, full}
-use Rattle.sts_budget.specs.Sums.{turn_base, none, more}
+use Rattle.sts_budget.specs.Sums.{Flows, Sums, FitsEntries, Stands, gain, last_turns, base, full, turn_base, none, more}
 
 -- a place takes its value from one before it
 pub data Source (c : Skeleton) (f : Flows) (best : ℕ → ℕ → ℕ) (d : ℕ) : ℕ → Type 0 where

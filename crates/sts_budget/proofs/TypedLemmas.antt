@@ -1,13 +1,10 @@
 -- The code of a well-typed function is structured, and the place gives its open entries. Here the
 -- typing enters the budgets.
-use Rattle.std.proofs.Common.{◌≡◌, ℕ, zero, suc, ◌+◌, ◌<◌, ◌≤◌, inl, inr, List, [], ◌∷◌, ◌++◌}
-use Rattle.std.proofs.Common.{length, drop, map, reverse, Bool, true, false, cond, ◌&&◌, Option}
-use Rattle.std.proofs.Common.{Some, None, Ok, refl, sym, ap, ◌∙◌, subst, arith, is_none, option_map}
-use Rattle.std.proofs.Common.{option_to_list, unwrap_or}
+use Rattle.std.proofs.Common.{◌≡◌, ℕ, zero, suc, ◌+◌, ◌<◌, ◌≤◌, inl, inr, List, [], ◌∷◌, ◌++◌, length, drop, map, reverse, Bool, true, false, cond, ◌&&◌}
+use Rattle.std.proofs.Common.{Option, Some, None, Ok, refl, sym, ap, ◌∙◌, subst, arith, is_none, option_map, option_to_list, unwrap_or}
 use Rattle.std.specs.List.{filter, range_with_len}
-use Rattle.std.proofs.lemmas.Bool.{and_parts, cases_eq, cases_lt, leb-true, le-leb}
+use Rattle.std.proofs.lemmas.Bool.{and_parts, cases_eq, cases_lt, leb-true, le-leb, not-false}
 use Rattle.std.proofs.lemmas.List.{get_or_past, reverse-append}
-use Rattle.std.proofs.lemmas.Bool.{not-false}
 use Rattle.sts_types.proofs.AmongLemmas.{among_left, among_right}
 use Rattle.sts_types.proofs.PromisingLemmas.{heads_dropped}
 use Rattle.sts_code.proofs.LoopLemmas.{at_match}
@@ -28,8 +25,7 @@ use Rattle.sts_rules.specs.declared.budget.Budgets.{Budgets}
 use Rattle.sts_rules.specs.Budget.{skeleton, shape_of}
 use Rattle.sts_budget.specs.Layout.{names_after}
 pub use Rattle.sts_budget.proofs.Sorts.{slot_loops}
-use Rattle.sts_budget.proofs.Sorts.{Sort, is_times as times_sort, is_next as next_sort}
-use Rattle.sts_budget.proofs.Sorts.{is_end as end_sort, goes_on, GoesOn, sort, among_of}
+use Rattle.sts_budget.proofs.Sorts.{Sort, is_times as times_sort, is_next as next_sort, is_end as end_sort, goes_on, GoesOn, sort, among_of}
 use Rattle.sts_budget.proofs.Allowed.{Allowed, allowed}
 use Rattle.sts_budget.proofs.Match.{match_is_next, times_is}
 use Rattle.sts_budget.specs.Structured.{IsStructured}

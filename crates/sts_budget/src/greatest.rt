@@ -1,13 +1,12 @@
 //! The budget of one resource: the greatest sum of all places, with each loop in its last turn.
 
 ghost use Rattle.std.specs.Prelude.{◌≡◌, ◌<◌, ◌≤◌, ◌+◌, ◌-◌, ◌*◌, ◌^◌, ℕ, IfOk, IfSome, IsTrue, IsFalse};
-ghost use Rattle.std.specs.Prelude.{MatchOption, None, length, replicate, get_or};
+ghost use Rattle.std.specs.Prelude.{None, length, replicate, get_or};
 ghost use Rattle.sts_code.specs.Program.{instr_at};
-ghost use Rattle.sts_rules.specs.Budget.{Exceeds};
-ghost use Rattle.sts_budget.specs.Change.{own_of, limit_of, cause_of, depth_of as depth, IsMost};
+ghost use Rattle.sts_budget.specs.Change.{own_of, limit_of, depth_of as depth};
 ghost use Rattle.sts_budget.specs.Pass.{IsBudgetOr, IsSet, flow, low_at, paths};
 ghost use Rattle.sts_budget.specs.Last.{IsTopped};
-ghost use Rattle.sts_budget.specs.Ready.{IsLaidFor, end_in, names_in};
+ghost use Rattle.sts_budget.specs.Ready.{end_in};
 ghost use Rattle.sts_budget.specs.Handing.{base_of, bases_after};
 ghost use Rattle.sts_budget.specs.Table.{read, IsPartial, Passes};
 

@@ -1,14 +1,11 @@
 //! One forward pass makes the table of greatest sums.
 
-ghost use Rattle.std.specs.Prelude.{◌≡◌, ◌<◌, ◌≤◌, ◌+◌, ◌-◌, ◌*◌, ℕ, ◌++◌, All, IsTrue, IsFalse};
-ghost use Rattle.std.specs.Prelude.{IfOk, MatchOption, length, min, replicate, get_or};
-ghost use Rattle.sts_rules.specs.Around as around;
-ghost use Rattle.sts_code.specs.Facts as facts;
+ghost use Rattle.std.specs.Prelude.{◌≡◌, ◌<◌, ◌≤◌, ◌+◌, ◌-◌, ◌*◌, ℕ, All, IsTrue, IsFalse};
+ghost use Rattle.std.specs.Prelude.{IfOk, MatchOption, length, min, get_or};
 ghost use Rattle.sts_code.specs.Program.{instr_at};
-ghost use Rattle.sts_rules.specs.Budget.{skeleton};
 ghost use Rattle.sts_budget.specs.Change.{limit_of, own_of, own_step};
 ghost use Rattle.sts_budget.specs.Pass.{IsSet, flow, leads, low_at, paths};
-ghost use Rattle.sts_budget.specs.Ready.{IsLaidFor, flows_in, head_in, names_in};
+ghost use Rattle.sts_budget.specs.Ready.{head_in};
 ghost use Rattle.sts_budget.specs.Row.{IsOver};
 ghost use Rattle.sts_budget.specs.Table.{IsRaisedAt, IsSent, IsStopped, IsSpread, IsPartial};
 ghost use Rattle.sts_budget.specs.Table.{HandsTooMuch, Passes, read};

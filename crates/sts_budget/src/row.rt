@@ -1,6 +1,6 @@
 //! Rows of the greatest sums over the first open entries.
 
-ghost use Rattle.std.specs.Prelude.{◌≡◌, ◌<◌, ◌≤◌, ◌+◌, ◌*◌, ℕ, max, min, get_or, IsTrue, IsFalse};
+ghost use Rattle.std.specs.Prelude.{◌≡◌, ◌<◌, ◌+◌, ◌*◌, ℕ, max, min, get_or, IsTrue, IsFalse};
 ghost use Rattle.sts_budget.specs.Change.{source_of, added_of};
 ghost use Rattle.sts_budget.specs.Row.{IsRaised, IsOver};
 

@@ -5,8 +5,7 @@ use Rattle.sts_model.specs.declared.event.Event.{Event}
 use Rattle.sts_rules.specs.Refusal.{IsAccepted, IsOneVerdict}
 use Rattle.sts_trace.specs.Reading.{trace_read}
 use Rattle.sts_trace.specs.declared.error.TraceError.{TraceError}
-use Rattle.sts_output.specs.Output.{Output, IsReplay, PrintsAlike, ReplayShows, TracedShows}
-use Rattle.sts_output.specs.Output.{accepted, plain_output, refused, run_output, traced_output}
+use Rattle.sts_output.specs.Output.{Output, IsReplay, PrintsAlike, ReplayShows, TracedShows, accepted, plain_output, refused, run_output, traced_output}
 
 -- an accepted program isn't refused
 replayed : (p : Program) (events : List Event) (o : Output) → IsAccepted p → IsOneVerdict p → IsReplay p events o → o ≡ run_output p events

@@ -10,12 +10,10 @@ use Rattle.sts_output.specs.Output.{AreLines, IsRefused, Output, Writes, file_ou
 use Rattle.sts_cli.proofs.Given.{are_given}
 use Rattle.sts_cli.specs.Dues.{dues_give}
 use Rattle.sts_asm.specs.Text.{judged}
-use Rattle.sts_cli.specs.Running.{IsOutcomeOf, IsRun, Outcome, RunWrites, TextRuns, alone}
-use Rattle.sts_cli.specs.Running.{Holds, refused, report_output, reported}
+use Rattle.sts_cli.specs.Running.{IsOutcomeOf, IsRun, Outcome, RunWrites, TextRuns, alone, Holds, refused, report_output, reported}
 use Rattle.sts_output.specs.Taking.{IsTakenOf}
-use Rattle.sts_cli.specs.Ending.{IsOfRun, IsPrinted, of_run}
+use Rattle.sts_cli.specs.Ending.{IsOfRun, IsPrinted, of_run, shown, without_file}
 use Rattle.sts_output.specs.Streams.{Written, WritesBoth, most_of_a_text, most_of_a_stream, no_trace, whole}
-use Rattle.sts_cli.specs.Ending.{shown, without_file}
 use Rattle.sts_output.specs.declared.taking.TakeError.TheVariants.{Read}
 
 -- a result with all of an outcome

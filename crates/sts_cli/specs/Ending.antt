@@ -1,7 +1,6 @@
 -- The output of the whole program, and its status (this project's own).
-use Rattle.std.specs.Prelude.{◌≡◌, ℕ, List, [], Option, Some, None, Result, Ok, Err, ⊤}
-use Rattle.std.specs.Prelude.{map}
-use Rattle.std.specs.Prelude.{String, Vec}
+use Rattle.std.specs.Prelude.{◌≡◌, ℕ, List, [], Option, Some, None, Result, Ok, Err, ⊤, map, String}
+use Rattle.std.specs.Prelude.{Vec}
 use Rattle.std.specs.Borrow.{Bor}
 use Rattle.std.specs.String.{string_bytes}
 use Rattle.std.specs.declared.alloc.Global.{Global}

@@ -1,6 +1,5 @@
 -- The outcome of `run`: its output, and the journal that its trace spells (this project's own).
-use Rattle.std.specs.Prelude.{◌≡◌, ◌⊎◌, ℕ, List, [], ◌++◌, Result, Ok, Err}
-use Rattle.std.specs.Prelude.{Bool, true, Option}
+use Rattle.std.specs.Prelude.{◌≡◌, ◌⊎◌, ℕ, List, [], ◌++◌, Result, Ok, Err, Bool, true, Option}
 use Rattle.sts_code.specs.Program.{Program}
 use Rattle.sts_model.specs.Run.{taken}
 use Rattle.sts_model.specs.declared.event.End.{End}

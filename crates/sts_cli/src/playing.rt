@@ -1,9 +1,9 @@
 //! Does what a mode asks for, and writes the output.
 
-ghost use Rattle.std.specs.Prelude.{◌≡◌, ◌≤◌, IfOk, OnOk};
+ghost use Rattle.std.specs.Prelude.{◌≤◌, IfOk, OnOk};
 ghost use Rattle.std.specs.Io.KnownBytes.{Appends};
 ghost use Rattle.sts_trace.specs.Spelling.{trace_text};
-ghost use Rattle.sts_output.specs.Joined.{Halves, halves_of};
+ghost use Rattle.sts_output.specs.Joined.{halves_of};
 ghost use Rattle.sts_output.specs.Output as def;
 ghost use Rattle.sts_output.specs.Stops.{Prints};
 ghost use Rattle.sts_cli.specs.Running.{IsOutcomeOf, Outcome, RunWrites, trace_and_output};

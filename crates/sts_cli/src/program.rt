@@ -1,8 +1,7 @@
 //! The program `sts`, without its `main`: opens the files that a command line names, and writes the
 //! output.
 
-ghost use Rattle.std.specs.Prelude.{◌≡◌, ◌≤◌, ◌⊎◌, ℕ, IfOk, List, Option, [], map};
-ghost use Rattle.std.specs.String.{string_bytes};
+ghost use Rattle.std.specs.Prelude.{◌≤◌, ℕ, IfOk, List, Option, [], map};
 ghost use Rattle.clap.specs.Words.{Text};
 ghost use Rattle.sts_args.specs.Asked.{HasWorkers};
 ghost use Rattle.sts_args.specs.Refused.{Refuses};

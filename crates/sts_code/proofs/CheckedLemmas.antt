@@ -1,7 +1,6 @@
 -- The facts of functions that passed the program checks.
-use Rattle.std.proofs.Common.{◌≡◌, ℕ, zero, suc, ◌<◌, ◌≤◌, List, [], ◌∷◌, ◌++◌, length, take, Bool}
-use Rattle.std.proofs.Common.{true, false, Option, Some, None, ◌||◌, ◌==◌, not, nat_lt, cond, refl}
-use Rattle.std.proofs.Common.{arith, append_assoc, slice_index_or}
+use Rattle.std.proofs.Common.{◌≡◌, ℕ, zero, suc, ◌<◌, ◌≤◌, List, [], ◌∷◌, ◌++◌, length, take, Bool, true, false, Option, Some, None, ◌||◌, ◌==◌, not, nat_lt}
+use Rattle.std.proofs.Common.{cond, refl, arith, append_assoc, slice_index_or}
 use Rattle.std.proofs.lemmas.Grind.{common_steps}
 use Rattle.std.specs.Option.{option_or}
 use Rattle.std.proofs.lemmas.Bool.{or_parts}

@@ -1,14 +1,11 @@
 -- Each instruction of a program passed the program checks.
-use Rattle.std.proofs.Common.{◌≡◌, ℕ, zero, suc, ◌+◌, ◌<◌, List, [], ◌∷◌, length, take}
-use Rattle.std.proofs.Common.{false, None, sym, ap, ◌∙◌, arith, length-take-le}
-use Rattle.sts_code.specs.declared.checking.CodeCause.TheVariants.{BadTarget, LaterFunction}
-use Rattle.sts_code.specs.declared.checking.CodeCause.TheVariants.{BadRange}
+use Rattle.std.proofs.Common.{◌≡◌, ℕ, zero, suc, ◌+◌, ◌<◌, List, [], ◌∷◌, length, take, false, None, sym, ap, ◌∙◌, arith, length-take-le}
+use Rattle.sts_code.specs.declared.checking.CodeCause.TheVariants.{BadTarget, LaterFunction, BadRange}
 use Rattle.sts_code.specs.declared.instr.Instr.{Instr}
 use Rattle.sts_code.specs.declared.instr.Instr.TheVariants.{Ret}
 use Rattle.sts_code.specs.Checks as def
 use Rattle.sts_code.specs.Program.{Program, routine, instr_at}
-use Rattle.sts_code.proofs.CheckedLemmas.{neither, no_cause, no_test, routine_is_fine}
-use Rattle.sts_code.proofs.CheckedLemmas.{routines_are_fine}
+use Rattle.sts_code.proofs.CheckedLemmas.{neither, no_cause, no_test, routine_is_fine, routines_are_fine}
 
 -- the checks of an instruction of function f, whose code has n instructions
 pub record IsSound (f n : ℕ) (i : Instr) : Type 0 where

@@ -1,6 +1,5 @@
 -- Each function of a program is within the limits, in whatever way it was read.
-use Rattle.std.proofs.Common.{◌≡◌, ℕ, zero, suc, ◌<◌, ◌≤◌, List, [], length, take, Bool, true}
-use Rattle.std.proofs.Common.{false, Option, Some, None, ◌==◌, cond, nat_lt, ◌∙◌, refl, arith}
+use Rattle.std.proofs.Common.{◌≡◌, ℕ, zero, suc, ◌<◌, ◌≤◌, List, [], length, take, Bool, true, false, Option, Some, None, ◌==◌, cond, nat_lt, ◌∙◌, refl, arith}
 use Rattle.std.proofs.Common.{slice_index_or}
 use Rattle.std.proofs.lemmas.List.{get_or_default}
 use Rattle.std.proofs.lemmas.Bool.{or_parts}
@@ -8,8 +7,7 @@ use Rattle.sts_code.specs.declared.checking.CodeCause.{CodeCause}
 use Rattle.sts_code.specs.Checks.{program_fault, routine_cause}
 use Rattle.sts_code.specs.declared.limits.TheConstants.{MAX_INSTRUCTIONS, MAX_ARGS}
 use Rattle.sts_code.specs.Program.{Program, Routine, routine, no_routine}
-use Rattle.sts_code.proofs.CheckedLemmas.{neither, no_cause, code_is_short, routine_is_fine}
-use Rattle.sts_code.proofs.CheckedLemmas.{routines_are_fine}
+use Rattle.sts_code.proofs.CheckedLemmas.{neither, no_cause, code_is_short, routine_is_fine, routines_are_fine}
 use borrow.Author.Tests.{ltb-true}
 
 pub function_is_short : (p : Program) (rs : List Routine) (i : ℕ) (d r : Routine) → rs ≡ p.routines → program_fault p.routines ≡ None → true ≡ nat_lt i (length rs) → r ≡ slice_index_or rs i d → (length r.code ≤ MAX_INSTRUCTIONS) × (r.args ≤ MAX_ARGS)

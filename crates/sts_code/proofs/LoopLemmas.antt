@@ -1,6 +1,5 @@
 -- The ends of loops, and how one pass finds them.
-use Rattle.std.proofs.Common.{◌≡◌, ℕ, suc, zero, ◌+◌, ◌-◌, ◌<◌, ◌≤◌, List, length, drop}
-use Rattle.std.proofs.Common.{count_by, cond, ap, sym, ◌∙◌, Bool, true, false, Option, Some, None}
+use Rattle.std.proofs.Common.{◌≡◌, ℕ, suc, zero, ◌+◌, ◌-◌, ◌<◌, ◌≤◌, List, length, drop, count_by, cond, ap, sym, ◌∙◌, Bool, true, false, Option, Some, None}
 use Rattle.std.proofs.Common.{find, arith, refl, slice_range, slice_index_or}
 use mir.Val.{bool_byte}
 use Rattle.std.specs.List.{range_with_len}

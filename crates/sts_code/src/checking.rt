@@ -1,6 +1,6 @@
 //! The checks that a list of functions has to pass to be a program.
 
-ghost use Rattle.std.specs.Prelude.{◌≡◌, ◌≤◌, ◌<◌, ◌^◌, [], length, take, nat_le, option_to_list};
+ghost use Rattle.std.specs.Prelude.{◌≡◌, ◌≤◌, ◌<◌, ◌^◌, [], length, nat_le, option_to_list};
 ghost use Rattle.std.specs.List.{list_any};
 ghost use Rattle.sts_code.specs.Checks as def;
 

@@ -1,8 +1,7 @@
 //! Functions and programs.
 
-ghost use Rattle.std.specs.Prelude.{◌≡◌, ◌≤◌, ◌<◌, length, List, None, Some, MatchResult};
+ghost use Rattle.std.specs.Prelude.{◌≡◌, ◌<◌, None, Some, MatchResult};
 ghost use Rattle.sts_code.specs.Checks.{program_fault as fault_of};
-ghost use Rattle.sts_code.specs.Program.{routine};
 
 use crate::checking::{CodeError, program_fault};
 use crate::instr::Instr;

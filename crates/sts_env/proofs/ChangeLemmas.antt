@@ -1,9 +1,7 @@
 -- The effect of `bind` and `unbind` on an environment and on every other.
-use Rattle.std.proofs.Common.{◌≡◌, ◌≢◌, ℕ, suc, List, [], ◌∷◌, length, set, Some, None, refl, ap}
-use Rattle.std.proofs.Common.{sym, ◌∙◌, arith}
-use Rattle.sts_env.specs.Environments.{AreWhole, keys, Records, record_at, Stays, PutsRecord}
+use Rattle.std.proofs.Common.{◌≡◌, ◌≢◌, ℕ, suc, List, [], ◌∷◌, length, set, Some, None, refl, ap, sym, ◌∙◌, arith}
+use Rattle.sts_env.specs.Environments.{AreWhole, keys, Records, record_at, Stays, PutsRecord, TakesRecord, KeepsWithout, keys_of, list_of, IsWhole}
 use Rattle.laws_words.specs.Keys.{NotIn}
-use Rattle.sts_env.specs.Environments.{TakesRecord, KeepsWithout, keys_of, list_of, IsWhole}
 use Rattle.sts_env.specs.declared.env.Env.{Env}
 use Rattle.sts_model.specs.declared.record.Bound.{Bound}
 use Rattle.sts_env.specs.declared.env.Record.{Record}

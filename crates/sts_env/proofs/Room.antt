@@ -1,6 +1,5 @@
 -- The bindings of an environment are no more than the records that exist.
-use Rattle.std.proofs.Common.{◌≡◌, ℕ, zero, suc, ◌+◌, ◌≤◌, ◌<◌, List, length, get_or, set, Option}
-use Rattle.std.proofs.Common.{Some, None, is_some, count_by, cond, refl, arith}
+use Rattle.std.proofs.Common.{◌≡◌, ℕ, zero, suc, ◌+◌, ◌≤◌, ◌<◌, List, length, get_or, set, Option, Some, None, is_some, count_by, cond, refl, arith}
 use Rattle.std.proofs.lemmas.List.{get_or-set_other, get_or_past}
 use Rattle.std.proofs.lemmas.List.Sums.{sum_by-set}
 use Rattle.sts_env.specs.Environments.{AreWhole}

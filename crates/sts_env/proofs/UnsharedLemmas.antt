@@ -1,12 +1,10 @@
 -- If the last entry of a task is a binding, no other environment in use has its record.
-use Rattle.std.proofs.Common.{◌≡◌, ◌≢◌, ℕ, zero, suc, ◌<◌, List, [], ◌∷◌, ◌++◌, Option, Some, None}
-use Rattle.std.proofs.Common.{refl, sym, ◌∙◌, subst, arith, nat_eq, Bool, true, false}
+use Rattle.std.proofs.Common.{◌≡◌, ◌≢◌, ℕ, zero, suc, ◌<◌, List, ◌∷◌, ◌++◌, Option, Some, None, refl, sym, ◌∙◌, subst, arith, nat_eq, Bool, true, false}
 use Rattle.std.proofs.lemmas.Bool.Decides.{nat_tests}
 use Rattle.sts_env.specs.Environments.{Records, AreWhole, keys, keys_of, record_at}
 use Rattle.laws_words.specs.Keys.{NotIn}
 use Rattle.laws_words.proofs.KeyLemmas.{not_front, not_back, not_both}
-use Rattle.sts_env.specs.Sharing.{Sharing, Lives, IsOpen, inherited, IsSharing, IsLastBinding}
-use Rattle.sts_env.specs.Sharing.{FrontIsUnshared}
+use Rattle.sts_env.specs.Sharing.{Sharing, Lives, IsOpen, inherited, IsSharing, IsLastBinding, FrontIsUnshared}
 use Rattle.sts_env.specs.declared.env.Record.{Record}
 use Rattle.sts_env.proofs.WalkLemmas.{front_of, keys_cons, longer}
 

@@ -2,8 +2,7 @@
 -- of chains that share records.
 -- Restates "Description" of JEP 506: the innermost binding is read, and a subtask inherits those in
 -- force when its scope was opened. It is this project's own that environments share records.
-use Rattle.std.specs.Prelude.{◌≡◌, ℕ, zero, suc, List, [], ◌∷◌, Option, Some, None}
-use Rattle.std.specs.Prelude.{slice_index_or}
+use Rattle.std.specs.Prelude.{◌≡◌, ℕ, zero, suc, List, [], ◌∷◌, Option, Some, None, slice_index_or}
 use Rattle.laws_words.specs.Keys.{NotIn}
 use Rattle.sts_env.specs.declared.env.Env.{Env}
 use Rattle.sts_env.specs.declared.env.Record.{Record}

@@ -1,9 +1,8 @@
 -- Keys that are linked both ways: cut, joined, and with one link changed.
 use Rattle.std.proofs.Common.{◌≡◌, ◌≢◌, ℕ, List, [], ◌∷◌, ◌++◌, Option, Some, None, refl, sym, ◌∙◌}
 use Rattle.std.specs.List.{last_or}
-use Rattle.sts_links.specs.Lists.{first_or, AreDistinct, AreLinked, IsList, with_after}
+use Rattle.sts_links.specs.Lists.{first_or, AreDistinct, AreLinked, IsList, with_after, with_before}
 use Rattle.laws_words.specs.Keys.{NotIn}
-use Rattle.sts_links.specs.Lists.{with_before}
 use Rattle.sts_links.specs.declared.links.Link.{Link}
 use Rattle.sts_links.specs.declared.links.Ends.{Ends}
 use Rattle.sts_links.proofs.KeyLemmas.{last_not}

@@ -1,17 +1,14 @@
 -- The effect of `push_back` and `unlink` on their list and on every other.
 use Rattle.std.proofs.Common.{◌≡◌, ◌≢◌, ℕ, List, [], ◌∷◌, ◌++◌, Option, Some, None, sym, ◌∙◌}
 use Rattle.std.specs.List.{last_or}
-use Rattle.sts_links.specs.Lists.{first_or, AreDistinct, IsList, with_after, with_before}
+use Rattle.sts_links.specs.Lists.{first_or, AreDistinct, IsList, with_after, with_before, Relinks, Differs, BecomesList, if_none}
 use Rattle.laws_words.specs.Keys.{NotIn}
-use Rattle.sts_links.specs.Lists.{Relinks, Differs, BecomesList, if_none}
 use Rattle.sts_links.specs.declared.links.Link.{Link}
 use Rattle.sts_links.specs.declared.links.Ends.{Ends}
-use Rattle.sts_links.proofs.KeyLemmas.{distinct_front, distinct_back, distinct_less}
+use Rattle.sts_links.proofs.KeyLemmas.{distinct_front, distinct_back, distinct_less, distinct_more, apart, head_not, last_none, last_more, first_more}
 use Rattle.laws_words.proofs.KeyLemmas.{not_front, not_back}
-use Rattle.sts_links.proofs.KeyLemmas.{distinct_more, apart, head_not, last_none, last_more, first_more}
 use Rattle.sts_links.proofs.KeyLemmas.{first_less, last_less, apart_key}
-use Rattle.sts_links.proofs.ChainLemmas.{joined, front_of, back_of, list_stays, relast, rehead}
-use Rattle.sts_links.proofs.ChainLemmas.{head_link}
+use Rattle.sts_links.proofs.ChainLemmas.{joined, front_of, back_of, list_stays, relast, rehead, head_link}
 
 -- if only the keys of one list got other links, the other lists are unchanged
 becomes : (a c : ℕ → ℕ → Option Link) (l : ℕ) (result : Ends) (keys : List ℕ) → IsList (c l) result keys → Differs a c l keys → BecomesList a c l result keys

@@ -1,6 +1,5 @@
 -- Lists of keys: which keys are in them, and their two ends.
-use Rattle.std.proofs.Common.{◌≡◌, ◌≢◌, ℕ, List, [], ◌∷◌, ◌++◌, Option, Some, None, refl, sym, ◌∙◌}
-use Rattle.std.proofs.Common.{append-nil}
+use Rattle.std.proofs.Common.{◌≡◌, ◌≢◌, ℕ, List, [], ◌∷◌, ◌++◌, Option, Some, None, refl, sym, ◌∙◌, append-nil}
 use Rattle.std.specs.List.{last_or}
 use Rattle.sts_links.specs.Lists.{first_or, AreDistinct, AreApart, if_none}
 use Rattle.laws_words.specs.Keys.{NotIn}

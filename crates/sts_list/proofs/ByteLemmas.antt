@@ -1,5 +1,4 @@
-use Rattle.std.proofs.Common.{◌≡◌, ℕ, ◌<◌, Bool, true, List, [], ◌∷◌, ◌++◌, length, take_all}
-use Rattle.std.proofs.Common.{refl, ◌∙◌, ap, arith, append-nil}
+use Rattle.std.proofs.Common.{◌≡◌, ℕ, ◌<◌, Bool, true, List, [], ◌∷◌, ◌++◌, length, take_all, refl, ◌∙◌, ap, arith, append-nil}
 use Rattle.std.specs.Prelude.{◌==◌, ◌&&◌, ◌||◌, not, nat_le, filter, ⊤}
 use Rattle.std.specs.List.{list_all, slice_split, before_first, position_or_len}
 use Rattle.std.proofs.lemmas.List.Folds.{list_all-append}

@@ -1,6 +1,5 @@
-use Rattle.std.proofs.Common.{◌≡◌, ℕ, suc, zero, ◌+◌, ◌<◌, ◌≤◌, Bool, true, false, cond, List, []}
-use Rattle.std.proofs.Common.{◌∷◌, ◌++◌, length, get_or, refl, ◌∙◌, ap, ◌⊎◌, inl, inr, arith}
-use Rattle.std.proofs.Common.{append_assoc, append-nil, length-append}
+use Rattle.std.proofs.Common.{◌≡◌, ℕ, suc, zero, ◌+◌, ◌<◌, ◌≤◌, Bool, true, false, cond, List, [], ◌∷◌, ◌++◌, length, get_or, refl, ◌∙◌, ap, ◌⊎◌, inl, inr}
+use Rattle.std.proofs.Common.{arith, append_assoc, append-nil, length-append}
 use Rattle.std.specs.Prelude.{◌==◌, ◌||◌, not, nat_le, nat_lt, Some, None, ⊤}
 use Rattle.std.specs.List.{AllByRecursion, list_any}
 use Rattle.std.specs.Option.{option_or}
@@ -11,12 +10,9 @@ use Rattle.std.proofs.lemmas.Bool.{not-false}
 use Rattle.sts_code.proofs.CheckedLemmas.{neither, no_cause, no_test}
 use Rattle.sts_code.specs.Name.{is_name}
 use Rattle.sts_code.specs.Program.{Routine, no_routine}
-use Rattle.sts_code.specs.Checks.{has_bad_target, forks_later, has_bad_range, instr_cause, fault_at}
-use Rattle.sts_code.specs.Checks.{code_fault, is_named, routine_cause, routine_fault}
+use Rattle.sts_code.specs.Checks.{has_bad_target, forks_later, has_bad_range, instr_cause, fault_at, code_fault, is_named, routine_cause, routine_fault}
 use Rattle.sts_code.specs.Checks.{routines_fault, ends_with_main, program_fault}
-use Rattle.sts_code.specs.declared.checking.CodeCause.TheVariants.{TooManyFunctions, TooLong}
-use Rattle.sts_code.specs.declared.checking.CodeCause.TheVariants.{BadTarget, LaterFunction, NoMain}
-use Rattle.sts_code.specs.declared.checking.CodeCause.TheVariants.{BadRange, DuplicateName}
+use Rattle.sts_code.specs.declared.checking.CodeCause.TheVariants.{TooManyFunctions, TooLong, BadTarget, LaterFunction, NoMain, BadRange, DuplicateName}
 use Rattle.sts_code.specs.declared.instr.Instr.{Instr}
 use Rattle.sts_code.specs.declared.instr.Instr.TheVariants as i
 use Rattle.sts_asm.specs.Marks.{Mark, marked}
@@ -90,10 +86,6 @@ later n to e = grind (arith, nat_tests)
 none_past : (n : ℕ) (places : List ℕ) → list_any (nat_le n) places ≡ false → AllByRecursion (λ to. to < n) places
 none_past n [] e = tt
 none_past n (to ∷ rest) e = let a = either (nat_le n to) (list_any (nat_le n) rest) e in (later n to a.0, none_past n rest a.1)
-
-pub all_joined : (P : ℕ → Type 0) (xs ys : List ℕ) → AllByRecursion P xs → AllByRecursion P ys → AllByRecursion P (xs ++ ys)
-all_joined P [] ys h g = g
-all_joined P (x ∷ xs) ys h g = (h.0, all_joined P xs ys h.1 g)
 
 pub targets_within : (n : ℕ) (instr : Instr) → has_bad_target n instr ≡ false → AllByRecursion (λ to. to < n) (targets instr)
 targets_within n instr e = none_past n (targets instr) e

@@ -1,6 +1,5 @@
-use Rattle.std.proofs.Common.{◌≡◌, ℕ, ◌+◌, ◌<◌, ◌≤◌, Bool, true, false, cond, List, [], ◌∷◌, ◌++◌}
-use Rattle.std.proofs.Common.{length, map, replicate, refl, sym, ◌∙◌, ap, arith, append_assoc}
-use Rattle.std.proofs.Common.{length-append}
+use Rattle.std.proofs.Common.{◌≡◌, ℕ, ◌+◌, ◌<◌, ◌≤◌, Bool, true, false, cond, List, [], ◌∷◌, ◌++◌, length, map, replicate, refl, sym, ◌∙◌, ap, arith}
+use Rattle.std.proofs.Common.{append_assoc, length-append}
 use Rattle.std.specs.Prelude.{None, codes, Result, Ok, slice_set}
 use Rattle.std.specs.List.{list_any}
 use Rattle.std.specs.Fmt.{decimal}
@@ -9,8 +8,7 @@ use Rattle.sts_code.specs.Program.{Routine}
 use Rattle.sts_text.specs.Words.{lines}
 use Rattle.sts_asm.specs.declared.fault.AsmKind.{AsmKind}
 use Rattle.sts_asm.specs.Operand.{number_at}
-use Rattle.sts_asm.specs.Outline.{Draft, Outline, with_keys, keys_at, needs_at, no_needs, header_at}
-use Rattle.sts_asm.specs.Outline.{with_function, lines_read}
+use Rattle.sts_asm.specs.Outline.{Draft, Outline, with_keys, keys_at, needs_at, no_needs, header_at, with_function, lines_read}
 use Rattle.sts_list.specs.Spelling.{after_spaces}
 use Rattle.sts_list.specs.Listing.{keys_from, keys_text, needs_text, header}
 use Rattle.sts_list.proofs.ByteLemmas.{AreWords}

@@ -1,5 +1,4 @@
-use Rattle.std.proofs.Common.{◌≡◌, ℕ, ◌+◌, ◌<◌, ◌-◌, true, false, List, [], ◌∷◌, ◌++◌, length}
-use Rattle.std.proofs.Common.{take, get_or, refl, ◌∙◌, ap, arith, append_assoc, append-nil}
+use Rattle.std.proofs.Common.{◌≡◌, ℕ, ◌+◌, ◌<◌, ◌-◌, true, false, List, [], ◌∷◌, ◌++◌, length, take, get_or, refl, ◌∙◌, ap, arith, append_assoc, append-nil}
 use Rattle.std.proofs.Common.{length-append}
 use Rattle.std.specs.Prelude.{◌==◌, Some, None, codes, Ok}
 use Rattle.std.specs.List.{list_all, AllByRecursion}
@@ -13,20 +12,17 @@ use Rattle.sts_code.specs.declared.instr.Instr.TheVariants as i
 use Rattle.sts_text.specs.Words.{lines, words}
 use Rattle.sts_asm.specs.Fault.{at_line}
 use Rattle.sts_asm.specs.Marks.{marked}
-use Rattle.sts_asm.specs.Outline.{Draft, Outline, label_of, with_label, with_sentence, inside, said}
-use Rattle.sts_asm.specs.Outline.{line_read, lines_read}
+use Rattle.sts_asm.specs.Outline.{Draft, Outline, label_of, with_label, with_sentence, inside, said, line_read, lines_read}
 use Rattle.sts_asm.proofs.TextLemmas.{line_step}
 use Rattle.sts_asm.proofs.TableLemmas.{spelled_read}
 use Rattle.sts_list.specs.Spelling.{keyword, operands, label, after_spaces}
 use Rattle.sts_list.specs.Listing.{label_line, instr_line}
 use Rattle.sts_code.specs.Facts.{targets}
 use Rattle.sts_list.specs.RoundTrip.{FitsInstr}
-use Rattle.sts_list.proofs.ByteLemmas.{is_plain, is_text, plain_text, all_implied, all_append}
-use Rattle.sts_list.proofs.ByteLemmas.{IsWord, AreWords, words_text, words_read, line_cut}
+use Rattle.sts_list.proofs.ByteLemmas.{is_plain, is_text, plain_text, all_implied, all_append, IsWord, AreWords, words_text, words_read, line_cut}
 use Rattle.sts_list.proofs.ByteLemmas.{line_uncommented, line_allowed}
 use Rattle.sts_list.proofs.DecimalLemmas.{label_word, label_name}
-use Rattle.sts_list.proofs.SpellingLemmas.{Labels, Forks, moved, spelled_as}
-use Rattle.sts_list.proofs.SpellingLemmas.{operands_are_words, keyword_is_word}
+use Rattle.sts_list.proofs.SpellingLemmas.{Labels, Forks, moved, spelled_as, operands_are_words, keyword_is_word}
 
 -- ---- a line of words
 

@@ -18,15 +18,11 @@ use Rattle.sts_list.specs.Spelling.{keyword, operands, label}
 use Rattle.sts_list.specs.Listing.{is_target, listing}
 use Rattle.sts_code.specs.Facts.{targets}
 use Rattle.sts_list.specs.RoundTrip.{FitsInstr, FitsRoutine, AssembledAgain}
-use Rattle.sts_list.proofs.SpellingLemmas.{Labels, Forks, moved, spelled_as}
-use Rattle.sts_list.proofs.SpellingLemmas.{moved_nowhere}
+use Rattle.sts_list.proofs.SpellingLemmas.{Labels, Forks, moved, spelled_as, moved_nowhere}
 use Rattle.sts_list.proofs.LineLemmas.{IsGood}
 use Rattle.sts_list.proofs.CodeLemmas.{labels_differ, mark_if, marks_of, below, sentences}
-use Rattle.sts_list.proofs.FunctionLemmas.{IsGoodRoutine, draft_at, line_below, drafts, names_from}
-use Rattle.sts_list.proofs.FunctionLemmas.{first_line, listing_outlined}
-use Rattle.sts_list.proofs.CheckLemmas.{IsChecked, IsCheckedRoutine, AreChecked, AreFound, later}
-use Rattle.sts_list.proofs.CheckLemmas.{targets_within, program_checked}
-use Rattle.sts_list.proofs.CheckLemmas.{functions_found, same_bytes}
+use Rattle.sts_list.proofs.FunctionLemmas.{IsGoodRoutine, draft_at, line_below, drafts, names_from, first_line, listing_outlined}
+use Rattle.sts_list.proofs.CheckLemmas.{IsChecked, IsCheckedRoutine, AreChecked, AreFound, later, targets_within, program_checked, functions_found, same_bytes}
 
 -- ---- each label of a listing is found
 

@@ -1,20 +1,15 @@
-use Rattle.std.proofs.Common.{◌≡◌, ℕ, ◌<◌, ◌≤◌, ◌^◌, ◌-◌, Bool, true, false, List, [], ◌∷◌, ◌++◌}
-use Rattle.std.proofs.Common.{length, refl, sym, ap, subst, append-nil, arith}
-use Rattle.std.specs.Prelude.{◌==◌, ◌||◌, nat_lt, Option, Some, None, option_map, codes, ⊤}
-use Rattle.std.specs.Prelude.{option_to_list, unwrap_or, map}
+use Rattle.std.proofs.Common.{◌≡◌, ℕ, ◌<◌, ◌≤◌, ◌^◌, ◌-◌, Bool, true, false, List, [], ◌∷◌, ◌++◌, length, refl, sym, ap, subst, append-nil, arith}
+use Rattle.std.specs.Prelude.{◌==◌, ◌||◌, nat_lt, Option, Some, None, option_map, codes, ⊤, option_to_list, unwrap_or, map}
 use Rattle.std.specs.List.{list_all, AllByRecursion, flat_map}
 use Rattle.std.proofs.lemmas.Bool.Decides.{nat_tests}
 use Rattle.sts_code.specs.Name.{is_name, is_name_byte}
 use Rattle.sts_code.specs.Program.{Program, routine}
-use Rattle.sts_code.specs.Checks.{is_past, handle_is_past, is_bad_count, has_bad_count}
-use Rattle.sts_code.specs.Checks.{range_fault, either_fault, any_fault, has_bad_range}
-use Rattle.sts_code.specs.Shape.{Operand, Value, Local, Turns, Label, MaybeLabel, InSlot, Handle}
-use Rattle.sts_code.specs.Shape.{Function, State, Key, Rule, Timed, shape, places}
+use Rattle.sts_code.specs.Checks.{is_past, handle_is_past, is_bad_count, has_bad_count, range_fault, either_fault, any_fault, has_bad_range}
+use Rattle.sts_code.specs.Shape.{Operand, Value, Local, Turns, Label, MaybeLabel, InSlot, Handle, Function, State, Key, Rule, Timed, shape, places}
 use Rattle.sts_code.specs.declared.instr.Instr.{Instr}
 use Rattle.sts_code.specs.declared.instr.Instr.TheVariants as i
 use Rattle.sts_code.specs.declared.instr.Joiner.{Joiner}
-use Rattle.sts_code.specs.declared.instr.Joiner.TheVariants.{AllSucceed, AnySucceeds, AwaitOk}
-use Rattle.sts_code.specs.declared.instr.Joiner.TheVariants.{AwaitAll, Until}
+use Rattle.sts_code.specs.declared.instr.Joiner.TheVariants.{AllSucceed, AnySucceeds, AwaitOk, AwaitAll, Until}
 use Rattle.sts_code.specs.declared.instr.Pred.{Pred}
 use Rattle.sts_code.specs.declared.instr.Pred.TheVariants.{Failed, Success, AtLeast}
 use Rattle.sts_code.specs.declared.instr.Kind.{Kind}
@@ -23,16 +18,13 @@ use Rattle.sts_asm.specs.Marks.{Names, label_in}
 use Rattle.std.specs.Fmt.{decimal, signed_decimal}
 use Rattle.sts_text.specs.Number.{number_up_to}
 use Rattle.sts_asm.specs.Operand as operand
-use Rattle.sts_asm.specs.Table.{Spells, IsLabel, IsMaybeLabel, IsFunction, IsHandle, IsKind}
-use Rattle.sts_asm.specs.Table.{IsJoiner, IsTimed, IsOperand, AreOperands}
-use Rattle.sts_list.specs.Spelling.{keyword, operands, label, slot, maybe_label, handle, kind_word}
-use Rattle.sts_list.specs.Spelling.{joiner_words, condition_words, timed_words, operand_words}
+use Rattle.sts_asm.specs.Table.{Spells, IsLabel, IsMaybeLabel, IsFunction, IsHandle, IsKind, IsJoiner, IsTimed, IsOperand, AreOperands}
+use Rattle.sts_list.specs.Spelling.{keyword, operands, label, slot, maybe_label, handle, kind_word, joiner_words, condition_words, timed_words, operand_words}
 use Rattle.sts_list.specs.Spelling.{words_of}
 use Rattle.sts_code.specs.Facts.{targets}
 use Rattle.sts_list.specs.RoundTrip.{IsValue, FitsCondition, FitsJoiner, FitsInstr}
 use Rattle.sts_list.proofs.ByteLemmas.{is_plain, all_implied, IsWord, AreWords}
-use Rattle.sts_list.proofs.DecimalLemmas.{number_read, value_read, value_word, decimal_word}
-use Rattle.sts_list.proofs.DecimalLemmas.{slot_read, slot_word, label_word, label_name}
+use Rattle.sts_list.proofs.DecimalLemmas.{number_read, value_read, value_word, decimal_word, slot_read, slot_word, label_word, label_name}
 
 -- a label of a listing, and what it names
 pub record Labels (names : Option Names) (found : ℕ → ℕ) (to : ℕ) : Type 0 where

@@ -2,8 +2,7 @@ use Rattle.std.proofs.Common.{◌≡◌, ℕ, ◌+◌, ◌<◌, Bool, true, fals
 use Rattle.std.proofs.Common.{take, get_or, refl, sym, ◌∙◌, ap, arith, replicate, append-nil, ◌≢◌}
 use Rattle.std.specs.Prelude.{◌==◌, ◌||◌, slice_set}
 use Rattle.std.specs.List.{flat_map, list_any}
-use Rattle.std.proofs.lemmas.List.{length-set, get_or-set_other, get_or-replicate, length-replicate}
-use Rattle.std.proofs.lemmas.List.{take_more}
+use Rattle.std.proofs.lemmas.List.{length-set, get_or-set_other, get_or-replicate, length-replicate, take_more}
 use Rattle.std.proofs.lemmas.Grind.{get_or-set_at, flat_map-append}
 use Rattle.std.proofs.lemmas.Bool.Decides.{nat_tests}
 use Rattle.std.proofs.Math.Bool.{or-false}
@@ -14,10 +13,6 @@ use Rattle.sts_code.specs.Facts.{targets}
 pub with_marks-append : (marks : List Bool) (xs ys : List ℕ) → with_marks marks (xs ++ ys) ≡ with_marks (with_marks marks xs) ys
 with_marks-append marks [] ys = refl
 with_marks-append marks (x ∷ xs) ys = with_marks-append (slice_set marks x true) xs ys
-
-pub length-with_marks : (marks : List Bool) (xs : List ℕ) → length (with_marks marks xs) ≡ length marks
-length-with_marks marks [] = refl
-length-with_marks marks (x ∷ xs) = length-with_marks (slice_set marks x true) xs ∙ length-set marks x true
 
 set_cases : (b : Bool) (marks : List Bool) (x pc : ℕ) → (x == pc) ≡ b → pc < length marks → get_or (slice_set marks x true) pc false ≡ (b || get_or marks pc false)
 set_cases true marks x pc e h = let same : pc ≡ x = grind (arith, nat_tests) in get_or-set_at marks x pc true false same (rw (← same) h)

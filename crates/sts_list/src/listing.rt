@@ -1,12 +1,9 @@
 //! The listing of a program.
 
-ghost use Rattle.std.specs.Prelude.{◌≡◌, ◌∷◌, [], ◌++◌, ◌≤◌, OnOk, IfOk, Ok, length, string_bytes};
-ghost use Rattle.std.specs.Prelude.{codes};
-ghost use Rattle.std.specs.List.{flat_map, list_any, AllByRecursion};
-ghost use Rattle.std.specs.Fmt.{decimal};
+ghost use Rattle.std.specs.Prelude.{◌≡◌, ◌++◌, ◌≤◌, OnOk, IfOk, Ok, length, string_bytes};
+ghost use Rattle.std.specs.List.{list_any, AllByRecursion};
 ghost use Rattle.sts_asm.specs.Text.{judged};
 ghost use Rattle.sts_list.specs.RoundTrip.{FitsInstr, FitsRoutine};
-ghost use Rattle.sts_list.specs.Listing as def;
 ghost use Rattle.sts_list.specs.Listing.{keys_from, keys_text, needs_text, header, instr_line};
 ghost use Rattle.sts_list.specs.Listing.{label_line, code_lines, function_lines, profile_line};
 ghost use Rattle.sts_list.specs.Listing.{listing};

@@ -1,8 +1,7 @@
 //! The instructions that others name, found in one pass.
 
 ghost use Rattle.std.specs.Prelude.{◌≡◌, ◌∷◌, [], ◌++◌, ◌<◌, length, slice_index_or, IfOk, true};
-ghost use Rattle.std.specs.Prelude.{false, replicate, ℕ, option_to_list};
-ghost use Rattle.std.specs.List.{flat_map};
+ghost use Rattle.std.specs.Prelude.{false, ℕ, option_to_list};
 ghost use Rattle.sts_list.specs.Listing.{is_target, with_marks};
 ghost use Rattle.sts_code.specs.Facts.{targets};
 

@@ -1,12 +1,10 @@
 -- A store that has recorded at which scopes its tasks are knows which of them can step.
 use Rattle.std.proofs.Common.{◌≡◌, ℕ, Bool, true, false, Option, Some, None, refl, sym, ◌∙◌, ap, ◌&&◌}
-use Rattle.sts_model.specs.declared.event.Stand.{Stand}
-use Rattle.sts_model.specs.declared.event.Stand.TheVariants.{Free, AtJoin, AtClose}
 use Rattle.sts_code.specs.Program.{Program}
 use Rattle.laws_live.specs.Reading.{lives_in}
 use Rattle.laws_live.specs.Waiting.{live_can_go, live_can_step, live_stand_at}
 use Rattle.sts_store.specs.Parts.{Parts, can_go_on, live_of, stand_in, unseen_of}
-use Rattle.sts_machine.specs.Standing.{AreStanding, is_free}
+use Rattle.sts_machine.specs.Standing.{AreStanding}
 use Rattle.sts_machine.specs.Turned.{Picks}
 
 pub can_same : (p : Program) (m : Parts) → AreStanding p (live_of m) (unseen_of m) → (t : ℕ) → can_go_on m t ≡ live_can_step p (live_of m) t
@@ -15,11 +13,6 @@ can_same p m standing t = by (lives_in (live_of m) t) (standing t)
     by : (b : Bool) → (b ≡ true → stand_in (unseen_of m) t ≡ live_stand_at p (live_of m) t) → (b && live_can_go (live_of m) t (stand_in (unseen_of m) t)) ≡ (b && live_can_go (live_of m) t (live_stand_at p (live_of m) t))
     by true stands = ap (live_can_go (live_of m) t) (stands refl)
     by false stands = refl
-
-pub at_none : (stand : Stand) → is_free stand ≡ true → stand ≡ Free
-at_none Free e = refl
-at_none (AtJoin s) e = absurd (cc)
-at_none (AtClose s) e = absurd (cc)
 
 -- an answer picked by one test, for another that is the same
 pub picks : (test other : ℕ → Bool) (o : Option ℕ) → ((t : ℕ) → other t ≡ test t) → ((t : ℕ) → o ≡ Some t → other t ≡ true) → ((t : ℕ) → o ≡ None → other t ≡ false) → Picks test o

@@ -1,12 +1,9 @@
 -- Facts that an instruction may rely on if it is no misuse.
-use Rattle.std.proofs.Common.{◌≡◌, ℕ, ◌<◌, length, Bool, true, false, ◌&&◌, not, Option, refl, sym, ◌∙◌, subst, is_some}
-use Rattle.std.specs.Prelude.{nat_le}
+use Rattle.std.proofs.Common.{◌≡◌, ℕ, ◌<◌, Bool, true, not, Option, refl, sym, ◌∙◌, subst, is_some}
 use Rattle.std.proofs.lemmas.Bool.{not-false}
 use Rattle.sts_code.specs.Program.{Program}
-use Rattle.sts_code.specs.Facts.{is_await_all}
 use Rattle.sts_code.specs.declared.instr.Instr.{Instr}
 use Rattle.sts_code.specs.declared.instr.Instr.TheVariants.{Open, Fork, Join, Close, Cancelled, Case, Get, Except, Tally, Total, Bind, Unbind, Read, Bound, OrElse, Interrupted, Ret, Fail}
-use Rattle.sts_code.specs.declared.instr.Kind.{Kind}
 use Rattle.sts_model.specs.declared.record.Slot.{Slot}
 use Rattle.sts_model.specs.declared.record.Slot.TheVariants.{Own}
 use Rattle.sts_model.specs.declared.record.Frame.{Frame}
@@ -19,7 +16,7 @@ use Rattle.laws_runs.proofs.EffectLemmas.{first_no}
 use Rattle.laws_runs.proofs.FrameLemmas.{own_slot}
 use Rattle.laws_live.specs.Reading.{lives_in, alive_at, scope_in, live_scope_at, with_live_frame}
 use Rattle.laws_live.specs.Effect.{live_effect}
-use Rattle.laws_live.specs.Fine.{IsLiveFine, live_at_own, live_joins_wrongly}
+use Rattle.laws_live.specs.Fine.{IsLiveFine, live_at_own}
 use Rattle.laws_live.specs.Order.{InOrder}
 use Rattle.sts_store.specs.Parts.{Unseen}
 use Rattle.sts_machine.specs.Room.{HasRoomLeft}
@@ -47,20 +44,6 @@ module _ (p : Program) (v : Live) (t x : ℕ) (lives : lives_in v t ≡ true) (o
   pub fork_room : (u : Unseen) (g : ℕ) (h : Option ℕ) (i : Instr) → i ≡ Fork x g h → IsLiveFine p v t (frame_in v t) i → HasRoomLeft u (frame_in v t) i → (0 < u.task_room) × (0 < u.frame_room)
   fork_room u g h i is fine room = (subst (HasRoomLeft u (frame_in v t)) is room) (scope_at v t x) (fork_own g h (subst (IsLiveFine p v t (frame_in v t)) is fine))
 
-  pub fork_stands : (g : ℕ) (h : Option ℕ) → IsLiveFine p v t (frame_in v t) (Fork x g h) → is_some (scope_in v (scope_at v t x)) ≡ true
-  fork_stands g h fine = stands (fork_own g h fine)
-
-  join_own : (failed timeout : Option ℕ) (interrupted : ℕ) → IsLiveFine p v t (frame_in v t) (Join x failed timeout interrupted) → slot (frame_in v t) x ≡ Own (scope_at v t x)
-  join_own failed timeout interrupted fine = own_slot (slot (frame_in v t) x) (first_no _ _ (first_no _ _ fine.slots)) fine.own
-
-  pub join_stands : (failed timeout : Option ℕ) (interrupted : ℕ) → IsLiveFine p v t (frame_in v t) (Join x failed timeout interrupted) → is_some (scope_in v (scope_at v t x)) ≡ true
-  join_stands failed timeout interrupted fine = stands (join_own failed timeout interrupted fine)
-
-  pub join_room : (failed timeout : Option ℕ) (interrupted : ℕ) → IsLiveFine p v t (frame_in v t) (Join x failed timeout interrupted) → (nat_le 32 (length (frame_in v t).operands) && not (is_await_all (live_scope_at v (scope_at v t x)).joiner)) ≡ false
-  join_room failed timeout interrupted fine =
-      first_no _ _ (first_no _ _
-      (sym (own_test v (slot (frame_in v t) x) (λ _ scope. live_joins_wrongly (frame_in v t) failed timeout scope) (join_own failed timeout interrupted fine)) ∙ fine.joins))
-
   close_own : IsLiveFine p v t (frame_in v t) (Close x) → slot (frame_in v t) x ≡ Own (scope_at v t x)
   close_own fine = own_slot (slot (frame_in v t) x) (first_no _ _ (first_no _ _ fine.slots)) fine.own
 
@@ -71,12 +54,6 @@ module _ (p : Program) (v : Live) (t x : ℕ) (lives : lives_in v t ≡ true) (o
   close_entry fine =
       not-false (innermost (is_entry_of (scope_at v t x)) (frame_in v t).entries)
       (sym (own_test v (slot (frame_in v t) x) (λ n _. not (innermost (is_entry_of n) (frame_in v t).entries)) (close_own fine)) ∙ fine.structure)
-
-  pub tally_stands : (k : Kind) → IsLiveFine p v t (frame_in v t) (Tally x k) → is_some (scope_in v (scope_at v t x)) ≡ true
-  tally_stands k fine = stands (own_slot (slot (frame_in v t) x) (first_no _ _ (first_no _ _ fine.slots)) fine.own)
-
-  pub total_stands : IsLiveFine p v t (frame_in v t) (Total x) → is_some (scope_in v (scope_at v t x)) ≡ true
-  total_stands fine = stands (own_slot (slot (frame_in v t) x) (first_no _ _ (first_no _ _ fine.slots)) fine.own)
 
 -- an instruction that stays in the frame
 pub local_effect : (p : Program) (v : Live) (t : ℕ) (f : Frame) (i : Instr) → stays_in_frame i ≡ true → live_effect p v t f i ≡ with_live_frame v t (local (code p f) i f)

@@ -1,6 +1,6 @@
 -- A local instruction is a step of its task that only changes its frame. A slice is such a step,
 -- instruction by instruction.
-use Rattle.std.proofs.Common.{◌≡◌, ℕ, zero, suc, ◌+◌, ◌≤◌, List, [], ◌∷◌, ◌++◌, Bool, true, false, Option, Some, None, refl, sym, ◌∙◌, ap, subst, arith, get_or, set, cond, slice_get, append_assoc, append-nil, get_or-set_same}
+use Rattle.std.proofs.Common.{◌≡◌, ℕ, zero, suc, ◌+◌, ◌≤◌, List, [], ◌∷◌, ◌++◌, true, false, Option, Some, None, refl, sym, ◌∙◌, ap, subst, arith, get_or, set, cond, slice_get, append_assoc, append-nil, get_or-set_same}
 use Rattle.std.specs.Prelude.{option_map, unwrap_or, is_some, ◌==◌}
 use Rattle.std.proofs.lemmas.List.{set-set, set-get_or}
 use Rattle.laws_words.proofs.ListLemmas.{read_within}

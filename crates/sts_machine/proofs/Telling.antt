@@ -1,15 +1,14 @@
 -- The answers of a machine, in words of the plain state.
-use Rattle.std.proofs.Common.{◌≡◌, ℕ, ◌-◌, List, Option, refl, sym, ◌∙◌, ap, subst, cond, arith}
+use Rattle.std.proofs.Common.{◌≡◌, ℕ, ◌-◌, List, Option, sym, ◌∙◌, ap, subst, arith}
 use Rattle.sts_code.specs.Program.{Program}
 use Rattle.sts_rules.specs.declared.budget.Budgets.{Budgets}
 use Rattle.sts_rules.specs.Refusal.{IsBudgetOf}
-use Rattle.sts_model.specs.declared.event.End.{End}
 use Rattle.sts_model.specs.declared.event.Event.{Event}
 use Rattle.sts_model.specs.declared.event.Event.TheVariants as event
 use Rattle.sts_model.specs.Live.{Live, live}
 use Rattle.sts_model.specs.Run.{after, counts}
 use Rattle.sts_model.specs.Waiting.{can_step}
-use Rattle.sts_model.specs.World.{World, task_at}
+use Rattle.sts_model.specs.World.{World}
 use Rattle.laws_runs.specs.Runs.{In}
 use Rattle.laws_live.specs.Seen.{StandingIsSeen, StandsAt}
 use Rattle.laws_live.specs.Waiting.{live_can_step}
@@ -39,9 +38,6 @@ module _ (p : Program) (events : List Event) (v : Live) (n : ℕ) (h : StandsAt 
   ready_there laws o k =
       there (λ w. Picks (can_step p w) o)
       (picks_alike (can_step p h.world) (live_can_step p v) o (can_there laws) k)
-
-  pub end_there : (o : Option End) → o ≡ v.root_end → In (λ w. o ≡ (task_at w 0).outcome) (after p events)
-  end_there o e = there (λ w. o ≡ (task_at w 0).outcome) (e ∙ ap (λ (x : Live). x.root_end) (sym h.view))
 
   pub standing_there : StandingIsSeen → BindingsAreSeen p → (s : Standing) → s ≡ standing_of v → In (λ w. s ≡ standing_in w) (after p events)
   standing_there seen bindings s is =

@@ -1,7 +1,7 @@
 //! The effect of an instruction on a store, without recording at which scope its task is
 //! afterwards.
 
-ghost use Rattle.std.specs.Prelude.{◌≡◌, ◌<◌, ◌≤◌, ◌+◌, ◌^◌, length, true, false};
+ghost use Rattle.std.specs.Prelude.{◌≡◌, ◌<◌, ◌≤◌, length, true, false};
 ghost use Rattle.sts_code.specs.declared.limits.TheConstants.{MAX_INSTRUCTIONS};
 ghost use Rattle.sts_machine.specs.Changing.{Changes, ends_task, is_quiet, may_wait};
 ghost use Rattle.sts_machine.specs.Room.{HasRoomLeft};

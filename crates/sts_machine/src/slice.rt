@@ -1,8 +1,7 @@
 //! Slices: a task's frame is taken out, and its local instructions are done on it without the
 //! machine.
 
-ghost use Rattle.std.specs.Prelude.{◌≡◌, ◌+◌, ◌<◌, ◌≤◌, Some, None, true, false, is_some, length};
-ghost use Rattle.std.specs.Prelude.{if◌then◌else◌};
+ghost use Rattle.std.specs.Prelude.{◌≡◌, ◌+◌, ◌<◌, ◌≤◌, Some, None, length};
 ghost use Rattle.sts_code.specs.declared.limits.TheConstants.{MAX_INSTRUCTIONS, MAX_STEPS};
 ghost use Rattle.sts_frames.specs.Locals.{local_at, locals};
 ghost use Rattle.sts_machine.specs.Slice.{IsLawful, IsReached};

@@ -1,6 +1,6 @@
 //! The numbers of tasks, scopes and bindings that count, the room that is left, and the keys.
 
-ghost use Rattle.std.specs.Prelude.{◌≡◌, ℕ, List, is_some};
+ghost use Rattle.std.specs.Prelude.{◌≡◌, List, is_some};
 ghost use Rattle.sts_records.specs.Holes.{key_at};
 ghost use Rattle.laws_accepted.specs.Accepted.{main_of};
 ghost use Rattle.sts_machine.specs.Machine.{Stands};

@@ -1,6 +1,5 @@
 -- Who lives: only what was born, and as many after a cancel.
-use Rattle.std.proofs.Common.{◌≡◌, ℕ, ◌<◌, zero, suc, List, [], ◌∷◌, Bool, true, false, refl, length}
-use Rattle.std.proofs.Common.{arith, get_or, cond}
+use Rattle.std.proofs.Common.{◌≡◌, ℕ, ◌<◌, zero, suc, List, [], ◌∷◌, Bool, true, false, refl, length, arith, get_or, cond}
 use Rattle.sts_model.specs.declared.record.Task.{Task}
 use Rattle.sts_model.specs.World.{World, task_at, scope_at, no_task}
 use Rattle.sts_model.specs.Living.{lives, is_living_subtask}

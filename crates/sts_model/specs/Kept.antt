@@ -1,5 +1,4 @@
 -- The slots and entries of a frame, and the bytes that they are kept as.
-use Rattle.std.specs.Prelude.{ℕ, List}
 use Rattle.std.specs.Int.{w32, w64, cast_signed, cast_unsigned, from_le_bytes, to_le_bytes}
 use Rattle.sts_model.specs.declared.kept.SlotBytes.{SlotBytes}
 use Rattle.sts_model.specs.declared.kept.SlotBytes.TheVariants as kept

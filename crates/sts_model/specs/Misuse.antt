@@ -11,11 +11,9 @@ use Rattle.sts_code.specs.Program.{Program}
 use Rattle.sts_code.specs.declared.limits.TheConstants.{MAX_BIRTHS, MAX_ENTRIES, MAX_LOOPS}
 use Rattle.sts_code.specs.declared.limits.TheConstants.{MAX_OPERANDS, MAX_STANDING}
 use Rattle.sts_code.specs.declared.instr.Instr.{Instr}
-use Rattle.sts_code.specs.declared.instr.Instr.TheVariants.{Sub, Times, Next}
-use Rattle.sts_code.specs.declared.instr.Instr.TheVariants.{Open, Fork, Join, Close, Cancelled}
-use Rattle.sts_code.specs.declared.instr.Instr.TheVariants.{Get, Except, Tally, Total}
-use Rattle.sts_code.specs.declared.instr.Instr.TheVariants.{Bind, Unbind, Read}
-use Rattle.sts_code.specs.declared.instr.Instr.TheVariants.{Ret, Fail}
+use Rattle.sts_code.specs.declared.instr.Instr.TheVariants.{Sub, Times, Next, Open, Fork, Join}
+use Rattle.sts_code.specs.declared.instr.Instr.TheVariants.{Close, Cancelled, Get, Except, Tally}
+use Rattle.sts_code.specs.declared.instr.Instr.TheVariants.{Total, Bind, Unbind, Read, Ret, Fail}
 use Rattle.sts_code.specs.declared.profile.Profile.{Profile}
 use Rattle.sts_code.specs.declared.instr.Joiner.{Joiner}
 use Rattle.sts_code.specs.Facts.{pops, pushes, owners_slot, subtask_slot, filled_slot, can_fail}

@@ -1,6 +1,5 @@
 -- The view of the plain machine after a list of events.
-use Rattle.std.proofs.Common.{◌≡◌, ℕ, ◌+◌, ◌-◌, ◌≤◌, ◌^◌, List, [], ◌∷◌, length, fold, min, Bool}
-use Rattle.std.proofs.Common.{true, false, cond, ◌&&◌, arith, ap, ◌∙◌}
+use Rattle.std.proofs.Common.{◌≡◌, ℕ, ◌+◌, ◌-◌, ◌≤◌, ◌^◌, List, [], ◌∷◌, length, fold, min, Bool, true, false, cond, ◌&&◌, arith, ap, ◌∙◌}
 use Rattle.sts_code.specs.Program.{Program}
 use Rattle.sts_model.specs.declared.event.Event.{Event}
 use Rattle.sts_model.specs.World.{State}

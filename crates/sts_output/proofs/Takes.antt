@@ -1,7 +1,6 @@
 -- Lemmas on the bytes that are taken from a reader.
-use Rattle.std.proofs.Common.{◌≡◌, ℕ, ◌+◌, ◌≤◌, List, ◌++◌, None, Some, Option, IfSome, Result, Ok}
-use Rattle.std.proofs.Common.{Err, OnErr, length-append, length-take, length, take, take_all, sym}
-use Rattle.std.proofs.Common.{ap, ◌∙◌, append-nil, arith, subst}
+use Rattle.std.proofs.Common.{◌≡◌, ℕ, ◌+◌, ◌≤◌, List, ◌++◌, None, Some, Option, IfSome, Result, Ok, Err, OnErr, length-append, length-take, length, take}
+use Rattle.std.proofs.Common.{take_all, sym, ap, ◌∙◌, append-nil, arith, subst}
 use Rattle.std.proofs.Math.Seq.{take-append_seam}
 use Rattle.std.specs.Io.KnownBytes.{Consumes, IsAtEnd}
 use Rattle.sts_output.specs.Taking.{Gives, IsTakenOf, LosesUpTo}

@@ -1,6 +1,6 @@
 //! Splits an input into a text and a trace.
 
-ghost use Rattle.std.specs.Prelude.{◌≡◌, IfSome, IfNone};
+ghost use Rattle.std.specs.Prelude.{◌≡◌};
 ghost use Rattle.sts_output.specs.Joined.{halves_of};
 
 use sts_text::cut_at_newline;

@@ -1,7 +1,6 @@
 //! Lines for standard error that say where a text has its fault.
 
-ghost use Rattle.std.specs.Prelude.{◌≡◌, ◌++◌, IfOk, OnOk, Some, None, take, option_map};
-ghost use Rattle.std.specs.Prelude.{Ok, Result};
+ghost use Rattle.std.specs.Prelude.{◌≡◌, ◌++◌, IfOk, OnOk, Some, None, option_map, Ok, Result};
 ghost use Rattle.sts_code.specs.Program.{Program as AnyProgram};
 ghost use Rattle.sts_asm.specs.Fault.{FailsAt};
 ghost use Rattle.sts_asm.specs.declared.fault.AsmError.{AsmError};

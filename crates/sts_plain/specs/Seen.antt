@@ -4,13 +4,12 @@ use Rattle.std.specs.Prelude.{◌≡◌, ℕ, ◌+◌, ◌-◌, ◌^◌, ◌<◌
 use Rattle.std.specs.Prelude.{true, false, Some, None, min, if◌then◌else◌, ◌&&◌}
 use Rattle.sts_code.specs.Program.{Program}
 use Rattle.sts_model.specs.declared.event.Event.{Event}
-use Rattle.sts_model.specs.World.{World, State, Running, Faulted}
+use Rattle.sts_model.specs.World.{World, State, Running, Faulted, task_at}
 use Rattle.sts_model.specs.Run.{apply, counts, is_step}
 use Rattle.sts_plain.specs.declared.misstep.Misstep.{Misstep}
 use Rattle.sts_plain.specs.declared.misstep.PlainState.{PlainState}
 use Rattle.sts_plain.specs.declared.misstep.PlainState.TheVariants as plain
 use Rattle.sts_model.specs.declared.event.End.{End}
-use Rattle.sts_model.specs.World.{task_at}
 
 pub record Seen : Type 0 where
   pub program : Program

@@ -1,7 +1,6 @@
 //! Tests for misuse that read only the frame.
 
 ghost use Rattle.std.specs.Prelude.{◌≡◌, ◌≤◌, length};
-ghost use Rattle.sts_code.specs.Loops as matching;
 ghost use Rattle.sts_model.specs.Misuse as misuse;
 ghost use Rattle.sts_model.specs.World as def;
 

@@ -1,13 +1,12 @@
 -- What the calls on held records make of the fields.
 use Rattle.std.proofs.Common.{◌≡◌, ◌≢◌, ℕ, ◌+◌, ◌-◌, ◌/◌, ◌<◌, ◌≤◌, ◌^◌, List, [], ◌∷◌, ◌++◌, length, Option, Some, None, refl, ap, arith}
 use Rattle.std.proofs.Common.{get_or, set, length-append}
-use Rattle.laws_words.proofs.ListLemmas.{read_within}
+use Rattle.laws_words.proofs.ListLemmas.{read_within, count_kept}
 use Rattle.sts_records.specs.Pages.{Comes, Goes, HasPagesFor, KeepsKeys}
 use Rattle.sts_records.specs.Places.{HasRoomFor, Places, Updates, filled, get}
 use Rattle.sts_records.specs.Slots.{AreGiven, birth_of, births, slots}
 use Rattle.sts_records.specs.declared.held.Held.TheInside.{Inside}
 use Rattle.sts_records.specs.declared.pages.Pages.{Pages}
-use Rattle.laws_words.proofs.ListLemmas.{count_kept}
 use Rattle.sts_records.proofs.Slots.{Stands, at_key, birth_is, born, comes, emptied, given_less, given_more, given_pushed, has_pages, is_at_key}
 use Rattle.sts_records.proofs.Slots.{length-slots, lent_given, lent_kept, less_kept, no_entries, same_latest, stands}
 

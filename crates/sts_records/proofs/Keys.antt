@@ -1,9 +1,7 @@
 -- Cells of records, when a record comes, goes, or is written over.
-use Rattle.std.proofs.Common.{◌≡◌, ◌≢◌, ℕ, zero, suc, ◌<◌, ◌≤◌, List, [], ◌∷◌, ◌++◌, length}
+use Rattle.std.proofs.Common.{◌≡◌, ◌≢◌, ℕ, zero, suc, ◌<◌, ◌≤◌, List, [], ◌∷◌, ◌++◌, length, Option, Some, None, refl, sym, ◌∙◌, ap, arith, get_or, set, nat_eq}
 use Rattle.std.specs.Prelude.{⊤}
-use Rattle.std.proofs.Common.{Option, Some, None, refl, sym, ◌∙◌, ap, arith, get_or, set, nat_eq, nat_lt}
-use Rattle.std.proofs.Common.{Bool, true, false, get_or-set_same}
-use Rattle.std.proofs.Common.{get_or-set_other, cond, count_by, is_some}
+use Rattle.std.proofs.Common.{nat_lt, Bool, true, false, get_or-set_same, get_or-set_other, cond, count_by, is_some}
 use Rattle.std.proofs.Math.Seq.{get_or-append_seam}
 use Rattle.std.proofs.lemmas.Bool.Decides.{nat_tests}
 use Rattle.std.proofs.lemmas.List.{get_or-map, get_or_append_left, get_or_past, length-map, length_push, map-set}

@@ -1,7 +1,6 @@
 -- The records by birth, as the keys of births and the entries have them (this project's own).
 use Rattle.std.specs.Prelude.{◌≡◌, ◌<◌, ℕ, suc, List, [], ◌∷◌, Option, Some, None, nat_eq}
-use Rattle.std.specs.Prelude.{if◌then◌else◌, length}
-use Rattle.std.specs.Prelude.{slice_index_or}
+use Rattle.std.specs.Prelude.{if◌then◌else◌, length, slice_index_or}
 use Rattle.sts_records.specs.Places.{Entry}
 
 -- the body of an entry, if it is that of this birth

@@ -1,6 +1,5 @@
 -- Acceptance and refusal exclude each other, and a program has one refusal at most.
-use Rattle.std.proofs.Common.{◌≡◌, ℕ, zero, suc, ◌+◌, ◌-◌, ◌<◌, ◌≤◌, ◌⊎◌, inl, inr, List, [], ◌∷◌}
-use Rattle.std.proofs.Common.{length, take, take_all, get_or, Ok, Err, sym, ap, ◌∙◌, subst}
+use Rattle.std.proofs.Common.{◌≡◌, ℕ, zero, suc, ◌+◌, ◌-◌, ◌<◌, ◌≤◌, ◌⊎◌, inl, inr, List, [], ◌∷◌, length, take, take_all, get_or, Ok, Err, sym, ap, ◌∙◌, subst}
 use Rattle.std.proofs.Common.{refl, arith}
 use Rattle.std.proofs.lemmas.Bool.{cases_lt}
 use Rattle.std.proofs.lemmas.List.{take_more_same}
@@ -9,16 +8,13 @@ use Rattle.sts_code.specs.declared.instr.Instr.{Instr}
 use Rattle.sts_rules.specs.declared.budget.Budgets.{Budgets}
 use Rattle.sts_rules.specs.declared.typing.Cause.{Cause}
 use Rattle.sts_rules.specs.declared.typing.Cause.TheVariants as cause
-use Rattle.sts_rules.specs.Budget.{AreBudgets, IsBudget, Exceeds, IsLeastExcess, budget_at}
-use Rattle.sts_rules.specs.Budget.{no_budget}
+use Rattle.sts_rules.specs.Budget.{AreBudgets, IsBudget, Exceeds, IsLeastExcess, budget_at, no_budget}
 use Rattle.sts_rules.specs.Causes.{cause_number}
 use Rattle.sts_rules.specs.ControlPaths.{Skeleton, OpenEntry, IsGreatest, IsPeak}
 use Rattle.sts_rules.specs.Edges.{typing}
 use Rattle.sts_rules.specs.Flow as flow
-use Rattle.sts_rules.specs.Flow.{Flow, IsAlone, HasTwo, TurnKeeps, IsClear, HasCause, dead, two}
-use Rattle.sts_rules.specs.Flow.{edge, turn}
-use Rattle.sts_rules.specs.Refusal.{IsAccepted, IsRefusal, IsSound, IsUnsound, IsOneVerdict}
-use Rattle.sts_rules.specs.Refusal.{ill_typed, too_much, size}
+use Rattle.sts_rules.specs.Flow.{Flow, IsAlone, HasTwo, TurnKeeps, IsClear, HasCause, dead, two, edge, turn}
+use Rattle.sts_rules.specs.Refusal.{IsAccepted, IsRefusal, IsSound, IsUnsound, IsOneVerdict, ill_typed, too_much, size}
 
 -- ---- a place of a flow
 

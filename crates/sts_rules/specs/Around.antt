@@ -1,5 +1,5 @@
 -- The places that an instruction may lead to, and the loops around a place (this project's own).
-use Rattle.std.specs.Prelude.{ℕ, ◌+◌, List, [], ◌∷◌, Bool, true, false, ◌&&◌, Option, Some}
+use Rattle.std.specs.Prelude.{ℕ, ◌+◌, List, [], ◌∷◌, Bool, false, ◌&&◌, Option, Some}
 use Rattle.std.specs.Prelude.{None, nat_le, reverse, filter, drop, option_map, option_to_list}
 use Rattle.std.specs.Prelude.{if◌then◌else◌}
 use Rattle.std.specs.List.{range_with_len}

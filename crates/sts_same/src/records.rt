@@ -1,7 +1,5 @@
 //! The records.
 
-ghost use Rattle.std.specs.Prelude.{◌≡◌, true};
-
 use crate::same::{Same, same_slices, same_stacks};
 use sts_model::{Bound, Completion, Frame, KeptEntry, KeptSlot, Loop};
 

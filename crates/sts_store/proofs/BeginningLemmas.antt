@@ -1,15 +1,11 @@
 -- A store with the root task alone.
-use Rattle.std.proofs.Common.{◌≡◌, ℕ, zero, suc, List, [], ◌∷◌, length, Option, Some, None, refl, sym, ◌∙◌, ap, get_or, subst, ◌++◌, false, true}
+use Rattle.std.proofs.Common.{◌≡◌, ℕ, zero, suc, List, [], ◌∷◌, length, Option, Some, None, refl, sym, ◌∙◌, ap, get_or, subst, ◌++◌}
 use Rattle.std.specs.Prelude.{is_some, count_by}
 use Rattle.sts_env.specs.Environments.{Records, IsWhole, keys_of}
 use Rattle.sts_tree.specs.Forest.{root}
 use Rattle.sts_tree.specs.declared.record.TaskNode.{TaskNode}
-use Rattle.std.specs.Prelude.{replicate, slice_index_or}
 use Rattle.std.proofs.lemmas.Option.{same_Some}
-use Rattle.sts_model.specs.Live.{Live}
 use Rattle.sts_model.specs.Misuse.{is_binding}
-use Rattle.sts_model.specs.declared.record.Bound.{Bound}
-use Rattle.sts_model.specs.declared.record.Slot.TheVariants.{Empty}
 use Rattle.sts_model.specs.declared.record.Entry.{Entry}
 use Rattle.sts_model.specs.declared.record.Frame.{Frame}
 use Rattle.sts_store.specs.declared.running.Running.{Running}
@@ -58,17 +54,3 @@ module _ (frame : Frame) (fresh : frame.entries ≡ []) where
       by (suc t) = refl
 
 -- ---- the view of a root task alone
-
--- the root task with these bindings, and nothing else
-abbrev pub root_bound : Frame → List Bound → Live
-root_bound f env =
-    record {
-      tasks = Some (record { scope = None; state = None; alive = Some (record { frame = f; flag = false; environment = env }) }) ∷ [];
-      scopes = [];
-      root_end = None;
-    }
-
-empty_slot : (n x : ℕ) → slice_index_or (replicate n Empty) x Empty ≡ Empty
-empty_slot zero x = refl
-empty_slot (suc n) zero = refl
-empty_slot (suc n) (suc x) = empty_slot n x

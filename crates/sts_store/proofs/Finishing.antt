@@ -1,6 +1,6 @@
 -- The end of a task in a tree: when its scope is cancelled, and the view after it.
 use Rattle.std.proofs.Common.{◌≡◌, ◌≢◌, ℕ, true, false, Option, Some, None, refl, sym, ◌∙◌, ap, get_or, cond, ◌&&◌, not, get_or-set_same}
-use Rattle.std.proofs.lemmas.Bool.{and_parts}
+use Rattle.std.proofs.lemmas.Bool.{and_parts, not-true}
 use Rattle.sts_model.specs.declared.event.End.{End}
 use Rattle.sts_tree.specs.Forest.{Forest, asks}
 use Rattle.sts_tree.specs.declared.record.TaskNode.{TaskNode}
@@ -14,7 +14,6 @@ use Rattle.sts_store.specs.View.{Beside, view_of}
 use Rattle.sts_store.specs.Agreeing.{at_end, TaskAt}
 use Rattle.sts_store.proofs.ViewingLemmas.{root_seen, end_seen}
 use Rattle.sts_store.specs.Ending.{finished_of, finished_in, finished}
-use Rattle.std.proofs.lemmas.Bool.{not-true}
 
 -- the scope after its joiner was told
 abbrev pub told_scope : {E : Type 0} → ScopeNode E → End → ScopeNode E

@@ -1,7 +1,7 @@
 -- Readings of tasks and scopes, in the tree and in the view.
 use Rattle.std.proofs.Common.{◌≡◌, ◌≢◌, ℕ, ◌+◌, ◌-◌, length, true, false, ◌&&◌, Option, Some, None, refl, sym, ◌∙◌, ap, get_or, List, [], ◌∷◌, cond, nat_eq, arith}
 use Rattle.std.proofs.lemmas.Bool.Decides.{nat_tests}
-use Rattle.sts_tree.specs.Births.{has}
+use Rattle.sts_tree.specs.Births.{has, births}
 use Rattle.sts_records.specs.Holes.{key_at}
 use Rattle.sts_links.specs.Lists.{first_or}
 use Rattle.std.specs.Prelude.{option_map, is_some, unwrap_or}
@@ -11,7 +11,6 @@ use Rattle.sts_code.specs.declared.instr.Kind.TheVariants.{S, F, U}
 use Rattle.sts_env.specs.declared.env.Env.{Env}
 use Rattle.sts_tree.specs.declared.record.TaskNode.{TaskNode}
 use Rattle.sts_tree.specs.declared.record.ScopeNode.{ScopeNode}
-use Rattle.sts_tree.specs.Births.{births}
 use Rattle.sts_tree.specs.Forest.{is_of}
 use Rattle.sts_tree.proofs.HoldingLemmas.{map_at, key_seen}
 use Rattle.sts_tree.specs.Reading.{count_of}

@@ -9,7 +9,3 @@ use Rattle.sts_code.specs.Facts.{is_await_all}
 pub ok_pushes : (joiner : Joiner) (told : Told) (n : ℕ) (v : ℤ) → result_told joiner told n ≡ verdict.Ok (Some v) → is_await_all joiner ≡ false
 ok_pushes AwaitAll told n v e = cc
 ok_pushes _ told n v e = refl
-
-pub failed_pushes : (joiner : Joiner) (told : Told) (n : ℕ) (c : ℤ) → result_told joiner told n ≡ verdict.Failed c → is_await_all joiner ≡ false
-failed_pushes AwaitAll told n c e = cc
-failed_pushes _ told n c e = refl

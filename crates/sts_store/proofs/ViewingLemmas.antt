@@ -1,7 +1,6 @@
 -- The view of a forest after each change.
-use Rattle.std.proofs.Common.{◌≡◌, ℕ, zero, suc, ◌+◌, List, [], ◌∷◌, ◌++◌, length, map, Bool, true}
-use Rattle.std.proofs.Common.{false, Option, Some, None, refl, sym, ◌∙◌, ap, arith, get_or, set}
-use Rattle.std.proofs.Common.{cond, is_some, add-one, get_or-set_same, not, subst, ◌&&◌, ◌<◌, ◌||◌}
+use Rattle.std.proofs.Common.{◌≡◌, ℕ, zero, suc, ◌+◌, List, [], ◌∷◌, ◌++◌, length, map, Bool, true, false, Option, Some, None, refl, sym, ◌∙◌, ap, arith}
+use Rattle.std.proofs.Common.{get_or, set, cond, is_some, add-one, get_or-set_same, not, subst, ◌&&◌, ◌<◌, ◌||◌}
 use Rattle.std.proofs.lemmas.List.{map-set, map-append}
 use Rattle.std.specs.Prelude.{option_map, unwrap_or, filter_map}
 use Rattle.std.specs.List.{list_any, enumerate_from}
@@ -15,8 +14,7 @@ use Rattle.sts_model.specs.declared.event.End.{End}
 use Rattle.sts_model.specs.Told.{tell, cancels_told}
 use Rattle.sts_joiners.specs.Tallied.{with_end}
 use Rattle.sts_tree.specs.Births.{drop_if, births}
-use Rattle.sts_tree.specs.Forest.{Forest, closed, is_of, opened, subtask, asks, lives_in}
-use Rattle.sts_tree.specs.Forest.{any_lives}
+use Rattle.sts_tree.specs.Forest.{Forest, closed, is_of, opened, subtask, asks, lives_in, any_lives}
 use Rattle.sts_tree.specs.declared.record.TaskNode.{TaskNode}
 use Rattle.sts_tree.specs.declared.record.ScopeNode.{ScopeNode}
 use Rattle.laws_words.proofs.ListLemmas.{set_again}
@@ -27,9 +25,8 @@ use Rattle.sts_tree.specs.Ending.{gone, ended, asks_in, asks_told}
 use Rattle.sts_tree.specs.Reading.{lives_at}
 use Rattle.sts_tree.specs.Steps.{unmarked, seen, with_task, with_scope, can_step, can_go, is_over}
 use Rattle.sts_cancel.specs.Cancelling.{raise, raise_all, cancel, expire}
-use Rattle.laws_live.specs.Reading.{with_live_task, with_live_scope, task_in, scope_in}
-use Rattle.laws_live.specs.Reading.{live_scope_at, no_live_task, no_live_scope}
-use Rattle.laws_live.specs.Reading.{is_live_living, alive_at, no_alive, live_any_lives}
+use Rattle.laws_live.specs.Reading.{with_live_task, with_live_scope, task_in, scope_in, live_scope_at, no_live_task, no_live_scope, is_live_living, alive_at}
+use Rattle.laws_live.specs.Reading.{no_alive, live_any_lives}
 use Rattle.laws_live.specs.Reading as reading
 use Rattle.laws_live.specs.Cancelling.{live_raise, live_raised, live_marked, live_cancel}
 use Rattle.laws_live.specs.Effect.{without, live_gone, live_told, live_ended, live_tell, live_decide}

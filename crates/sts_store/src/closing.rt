@@ -7,8 +7,7 @@ ghost use Rattle.sts_model.specs.declared.event.Stand.TheVariants.{AtClose, Free
 ghost use Rattle.sts_model.specs.declared.record.Slot.TheVariants.{Empty};
 ghost use Rattle.laws_live.specs.Cancelling.{live_cancel};
 ghost use Rattle.laws_live.specs.Effect.{live_close, live_closed};
-ghost use Rattle.laws_live.specs.Reading.{live_any_lives, lives_in, scope_in};
-ghost use Rattle.laws_live.specs.Reading.{with_live_phase};
+ghost use Rattle.laws_live.specs.Reading.{live_any_lives, lives_in, scope_in, with_live_phase};
 ghost use Rattle.sts_store.specs.Closing.{close_unseen, gone_unseen, home_in, is_slot_of};
 ghost use Rattle.sts_store.specs.Closing.{slots_cleared};
 ghost use Rattle.sts_store.specs.Parts.{frame_of, live_of, stand_in, stood_unseen, unseen_of};

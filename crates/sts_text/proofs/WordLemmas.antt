@@ -1,9 +1,7 @@
-use Rattle.std.proofs.Common.{length-drop, take_all, ◌≡◌, ℕ, ◌+◌, ◌<◌, ◌≤◌, ◌-◌, Bool, true, false}
-use Rattle.std.proofs.Common.{cond, List, [], ◌∷◌, length, arith, refl, drop, take, ◌∙◌, ap, ◌⊎◌}
-use Rattle.std.proofs.Common.{inl, inr}
+use Rattle.std.proofs.Common.{length-drop, take_all, ◌≡◌, ℕ, ◌+◌, ◌<◌, ◌≤◌, ◌-◌, Bool, true, false, cond, List, [], ◌∷◌, length, arith, refl, drop, take, ◌∙◌}
+use Rattle.std.proofs.Common.{ap, ◌⊎◌, inl, inr}
 use Rattle.std.specs.Prelude.{◌==◌, not, filter, Some, None, nat_lt}
-use Rattle.std.specs.List.{slice_split, before_first, after_first, position, position_or_len}
-use Rattle.std.specs.List.{onto_first}
+use Rattle.std.specs.List.{slice_split, before_first, after_first, position, position_or_len, onto_first}
 use Rattle.std.proofs.lemmas.List.Splits.{slice_split_first}
 use Rattle.std.proofs.lemmas.List.{drop_all}
 use Rattle.std.proofs.lemmas.Bool.Decides.{nat_tests}

@@ -1,6 +1,5 @@
 -- If events are read, the text spells them.
-use Rattle.std.proofs.Common.{◌≡◌, ℕ, ◌+◌, ◌<◌, ◌≤◌, ◌^◌, true, false, cond, List, [], ◌∷◌}
-use Rattle.std.proofs.Common.{◌++◌, length, arith, refl, sym, ◌∙◌, ap, append_assoc, inl, inr}
+use Rattle.std.proofs.Common.{◌≡◌, ℕ, ◌+◌, ◌<◌, ◌≤◌, ◌^◌, true, false, cond, List, [], ◌∷◌, ◌++◌, length, arith, refl, sym, ◌∙◌, ap, append_assoc, inl, inr}
 use Rattle.std.proofs.lemmas.Bool.{and_parts}
 use Rattle.std.proofs.lemmas.Bool.Decides.{nat_tests}
 use Rattle.std.specs.Prelude.{◌&&◌, Result, Ok, Err, Option, Some, None, nat_lt, codes, IfOk}
@@ -18,11 +17,9 @@ use Rattle.sts_model.specs.declared.event.Event.TheVariants.{Step, Interrupt, Ex
 use Rattle.sts_trace.specs.declared.outside.Due.{Due}
 use Rattle.sts_trace.specs.declared.error.TraceError.{TraceError}
 use Rattle.sts_trace.specs.declared.error.TraceError.TheVariants.{BadLine, NoNewline}
-use Rattle.sts_trace.specs.Reading.{◌>>=◌, Gives, spelled_at, numeral_at, event_of, event_said}
-use Rattle.sts_trace.specs.Reading.{event_line, is_outside_word, due_said, due_line, lines_read}
+use Rattle.sts_trace.specs.Reading.{◌>>=◌, Gives, spelled_at, numeral_at, event_of, event_said, event_line, is_outside_word, due_said, due_line, lines_read}
 use Rattle.sts_trace.specs.Reading.{trace_read, outside_read}
-use Rattle.sts_trace.specs.Spelling.{event_text, trace_text, due_text, outside_text, number_of}
-use Rattle.sts_trace.specs.Spelling.{is_outside, IsEvent, IsDue, AreDues}
+use Rattle.sts_trace.specs.Spelling.{event_text, trace_text, due_text, outside_text, number_of, is_outside, IsEvent, IsDue, AreDues}
 use Rattle.sts_trace.proofs.Spelled.{word_of, event_parts, due_parts, outside_word}
 use Rattle.sts_text.proofs.WordLemmas.{by_cond}
 

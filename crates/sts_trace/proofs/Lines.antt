@@ -1,13 +1,11 @@
 -- Reading line by line: the effect of one line on the result.
-use Rattle.std.proofs.Common.{◌≡◌, ℕ, ◌+◌, ◌<◌, true, false, cond, List, [], ◌∷◌, ◌++◌, length}
-use Rattle.std.proofs.Common.{arith, refl, sym, ap, ◌∙◌, append_assoc, append-nil}
+use Rattle.std.proofs.Common.{◌≡◌, ℕ, ◌+◌, ◌<◌, true, false, cond, List, [], ◌∷◌, ◌++◌, length, arith, refl, sym, ap, ◌∙◌, append_assoc, append-nil}
 use Rattle.std.proofs.lemmas.Bool.Decides.{nat_tests}
 use Rattle.std.specs.Prelude.{◌==◌, Result, Ok, Err}
 use Rattle.sts_text.specs.Words.{is_newline, lines, is_filled}
 use Rattle.sts_text.proofs.WordLemmas.{HasPart, has_part}
 use Rattle.sts_trace.specs.declared.error.TraceError.{TraceError}
-use Rattle.sts_trace.specs.declared.error.TraceError.TheVariants.{NoNewline}
-use Rattle.sts_trace.specs.declared.error.TraceError.TheVariants.{Memory}
+use Rattle.sts_trace.specs.declared.error.TraceError.TheVariants.{NoNewline, Memory}
 use Rattle.sts_trace.specs.Reading.{◌>>=◌, Fails, lines_read}
 
 -- values before what is read

@@ -1,14 +1,12 @@
 -- Whatever a text spells is read.
-use Rattle.std.proofs.Common.{◌≡◌, ℕ, ◌+◌, ◌<◌, ◌≤◌, ◌^◌, Bool, true, false, List, [], ◌∷◌}
-use Rattle.std.proofs.Common.{◌++◌, length, arith, refl, ◌∙◌, ap, append_assoc}
+use Rattle.std.proofs.Common.{◌≡◌, ℕ, ◌+◌, ◌<◌, ◌≤◌, ◌^◌, Bool, true, false, List, [], ◌∷◌, ◌++◌, length, arith, refl, ◌∙◌, ap, append_assoc}
 use Rattle.std.proofs.lemmas.Bool.{cond-true, cond-false, and_from}
 use Rattle.std.proofs.lemmas.Bool.Decides.{nat_tests}
 use Rattle.std.specs.Prelude.{Result, Ok, Err, Option, Some, None, IfSome, nat_lt, not, ◌&&◌, codes}
 use Rattle.std.specs.List.{flat_map, All, list_all}
 use Rattle.std.specs.Fmt.{decimal}
 use Rattle.std.specs.Str.{bytes_eq}
-use Rattle.std.proofs.lemmas.List.Elements.{All-nil, All-cons, All-head, All-tail, All-append}
-use Rattle.std.proofs.lemmas.List.Elements.{All-same}
+use Rattle.std.proofs.lemmas.List.Elements.{All-nil, All-cons, All-head, All-tail, All-append, All-same}
 use Rattle.std.proofs.lemmas.List.Splits.{slice_split_at}
 use Rattle.sts_text.specs.Number.{numeral}
 use Rattle.sts_text.specs.Words.{is_newline, lines, fields, is_filled}
@@ -18,14 +16,11 @@ use Rattle.sts_model.specs.declared.event.Event.TheVariants.{Step, Interrupt, Ex
 use Rattle.sts_trace.specs.declared.outside.Due.{Due}
 use Rattle.sts_trace.specs.declared.error.TraceError.{TraceError}
 use Rattle.sts_trace.specs.declared.error.TraceError.TheVariants.{BadLine}
-use Rattle.sts_trace.specs.Reading.{◌>>=◌, Gives, bytes_of, numeral_at, event_of, event_said, event_line}
-use Rattle.sts_trace.specs.Reading.{is_outside_word, due_said, due_line, lines_read, trace_read}
-use Rattle.sts_trace.specs.Reading.{outside_read}
-use Rattle.sts_trace.specs.Spelling.{event_text, trace_text, due_text, outside_text, number_of}
-use Rattle.sts_trace.specs.Spelling.{IsEvent, IsDue, AreDues}
+use Rattle.sts_trace.specs.Reading.{◌>>=◌, Gives, bytes_of, numeral_at, event_of, event_said, event_line, is_outside_word, due_said, due_line, lines_read}
+use Rattle.sts_trace.specs.Reading.{trace_read, outside_read}
+use Rattle.sts_trace.specs.Spelling.{event_text, trace_text, due_text, outside_text, number_of, IsEvent, IsDue, AreDues}
 use Rattle.sts_trace.proofs.Lines.{cut}
-use Rattle.sts_trace.proofs.Spelled.{word_of, event_fields, due_parts, due_fields, outside_word}
-use Rattle.sts_trace.proofs.Spelled.{number_no_newline, number_filled}
+use Rattle.sts_trace.proofs.Spelled.{word_of, event_fields, due_parts, due_fields, outside_word, number_no_newline, number_filled}
 
 number_read : (at n : ℕ) → n < 2 ^ 32 → numeral_at at (decimal n) ≡ Ok n
 number_read at n h = rw ((numeral_spelled (decimal n) (numeral (decimal n)) refl n).1 (h, refl)) refl

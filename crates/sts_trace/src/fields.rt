@@ -1,6 +1,5 @@
 //! The fields of a line.
 
-ghost use Rattle.std.specs.Prelude.{◌≡◌};
 ghost use Rattle.sts_trace.specs.Reading.{Gives, numeral_at, event_of};
 
 use crate::error::TraceError;

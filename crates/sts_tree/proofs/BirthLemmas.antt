@@ -55,13 +55,6 @@ module _ {T : Type 0} where
   births_none p n (None ∷ xs) h = births_none p (suc n) xs (λ k x e. h (suc k) x e)
   births_none p n (Some x ∷ xs) h = rw (h 0 x refl) (births_none p (suc n) xs (λ k x e. h (suc k) x e))
 
-  -- a record leaves, that the test refuses
-  pub births_beside : (p : T → Bool) (n : ℕ) (xs : List (Option T)) (i : ℕ) (x : T) → get_or xs i None ≡ Some x → p x ≡ false → births p n (set xs i None) ≡ births p n xs
-  births_beside p n [] i x at e = refl
-  births_beside p n (o ∷ xs) zero x at e = rw (at, e) refl
-  births_beside p n (None ∷ xs) (suc i) x at e = births_beside p (suc n) xs i x at e
-  births_beside p n (Some z ∷ xs) (suc i) x at e = rw (births_beside p (suc n) xs i x at e) refl
-
   -- one birth fewer
   pub births_less : (p : T → Bool) (n : ℕ) (xs : List (Option T)) (i : ℕ) (x y : T) → get_or xs i None ≡ Some x → p x ≡ true → p y ≡ false → OneLess (births p n xs) (births p n (set xs i (Some y))) (n + i)
   births_less p n [] i x y at e f = cc

@@ -79,10 +79,3 @@ module _ {E : Type 0} where
       by : (b : Bool) → nat_eq u t ≡ b → has u g.ready ≡ can_step g u
       by true q = let s : u ≡ t = grind (arith, nat_tests) in rw (same_steps g f same u, list, s, gone, can) refl
       by false q = let s : u ≢ t = grind (arith, nat_tests) in rw (same_steps g f same u, list, without_other u t f.ready s) (before s)
-
-  pub kept_ready : (f : Forest E) (t : ℕ) → has t f.ready ≡ can_step f t → (u : ℕ) → (u ≢ t → has u f.ready ≡ can_step f u) → has u f.ready ≡ can_step f u
-  kept_ready f t own u before = by (nat_eq u t) refl
-    where
-      by : (b : Bool) → nat_eq u t ≡ b → has u f.ready ≡ can_step f u
-      by true q = let s : u ≡ t = grind (arith, nat_tests) in rw s own
-      by false q = before (grind (arith, nat_tests))

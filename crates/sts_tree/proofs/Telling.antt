@@ -8,10 +8,9 @@ use Rattle.sts_links.specs.declared.links.Ends.{Ends}
 use Rattle.sts_model.specs.declared.event.End.{End}
 use Rattle.sts_tree.specs.Births.{births}
 use Rattle.sts_tree.specs.Ending.{gone, told, told_in, ended, ended_in}
-use Rattle.sts_tree.specs.Forest.{Forest, is_of, lives_in, Family, IsForest}
+use Rattle.sts_tree.specs.Forest.{Forest, is_of, lives_in, Family, IsForest, ready_of}
 use Rattle.sts_tree.specs.Steps.{with_task, with_scope}
 use Rattle.sts_tree.specs.Stored.{tasks_of, link_at}
-use Rattle.sts_tree.specs.Forest.{ready_of}
 use Rattle.sts_tree.specs.declared.record.TaskNode.{TaskNode}
 use Rattle.sts_tree.specs.declared.record.TaskRecord.{TaskRecord}
 use Rattle.sts_tree.specs.declared.record.ScopeNode.{ScopeNode}

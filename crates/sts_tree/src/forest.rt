@@ -1,8 +1,7 @@
 //! Tasks and scopes under recycled keys, and their lists.
 
-ghost use Rattle.std.specs.Prelude.{ℕ, List, if◌then◌else◌, ◌≡◌, ◌≢◌, ◌+◌, ◌-◌, ◌<◌, ◌≤◌, ◌++◌};
-ghost use Rattle.std.specs.Prelude.{[], ◌∷◌, length, Option, Some, None, IfOk, true, false};
-ghost use Rattle.std.specs.Prelude.{◌||◌, not};
+ghost use Rattle.std.specs.Prelude.{ℕ, List, if◌then◌else◌, ◌≡◌, ◌≢◌, ◌+◌, ◌-◌, ◌<◌, ◌≤◌, ◌++◌, []};
+ghost use Rattle.std.specs.Prelude.{◌∷◌, length, Option, Some, None, IfOk, true, false, ◌||◌, not};
 ghost use Rattle.std.specs.Prelude.{slice_index_or, slice_set, option_copied};
 ghost use Rattle.sts_records.specs.Holes.{key_at};
 ghost use Rattle.sts_tree.specs.Births.{has, remove_each, without};
@@ -104,8 +103,7 @@ fn remove_all(tasks: &mut Tasks, list: Ends, count: u32)
 }
 
 impl<E: Drop> Forest<E> {
-    ghost use Rattle.sts_tree.specs.Forest.{closed, opened, subtask, any_lives};
-    ghost use Rattle.sts_tree.specs.Forest.{is_marked, is_of};
+    ghost use Rattle.sts_tree.specs.Forest.{closed, opened, subtask, any_lives, is_marked, is_of};
     ghost use Rattle.sts_tree.specs.Adding.{root_alone, with_opened};
     ghost use Rattle.sts_tree.specs.Layers.{listed};
     ghost use Rattle.sts_tree.specs.Marks.{with_mark};

@@ -1,7 +1,6 @@
 //! The records of tasks as a store of links.
 
-ghost use Rattle.std.specs.Prelude.{◌≡◌, ◌≢◌, ◌+◌, ◌-◌, ◌<◌, ◌++◌, [], ◌∷◌, length};
-ghost use Rattle.std.specs.Prelude.{Option, Some, None, true, slice_index_or};
+ghost use Rattle.std.specs.Prelude.{◌-◌, ◌<◌};
 
 use crate::record::{TaskNode, TaskRecord};
 use sts_links::{Link, Links};
@@ -14,8 +13,6 @@ pub(crate) struct Tasks {
 }
 
 impl Links for Tasks {
-    ghost use Rattle.std.specs.Prelude.{◌≡◌, refl};
-    ghost use Rattle.std.proofs.Common.{◌∙◌};
     ghost use Rattle.sts_tree.specs.Stored as stored;
 
     ghost at = { λ s l k. stored.link_at s.held.slots l k };

@@ -1,6 +1,5 @@
 -- Whether a cause was found.
-use Rattle.std.proofs.Common.{◌≡◌, ℕ, zero, suc, Bool, false, find, List, [], ◌∷◌, Option, Some, None}
-use Rattle.std.proofs.Common.{IfSome, Ok, refl, slice_get}
+use Rattle.std.proofs.Common.{◌≡◌, ℕ, zero, suc, Bool, false, find, List, [], ◌∷◌, Option, Some, None, IfSome, Ok, refl, slice_get}
 use Rattle.sts_code.proofs.CheckedLemmas.{no_test}
 use Rattle.sts_rules.specs.declared.typing.Cause.{Cause}
 use Rattle.sts_rules.specs.Edges.{or_cause}

@@ -1,6 +1,5 @@
 -- Comparing typestates decides whether they are the same.
-use Rattle.std.proofs.Common.{◌≡◌, ℕ, List, [], ◌∷◌, Bool, true, ◌&&◌, ◌↔◌, IsTrue, arith}
-use Rattle.std.proofs.Common.{refl, sym, ap, ◌∙◌, subst, reverse, eqb, eqb-true, eq-eqb}
+use Rattle.std.proofs.Common.{◌≡◌, ℕ, List, [], ◌∷◌, Bool, true, ◌&&◌, ◌↔◌, IsTrue, arith, refl, sym, ap, ◌∙◌, subst, reverse, eqb, eqb-true, eq-eqb}
 use Rattle.std.proofs.lemmas.List.{reverse-reverse}
 use lib.Pointwise.{pointwise}
 use Rattle.sts_code.specs.declared.instr.Joiner.{Joiner}

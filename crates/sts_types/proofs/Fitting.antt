@@ -1,14 +1,10 @@
 -- No cause is found: each test of a cause says no.
-use Rattle.std.proofs.Common.{◌≡◌, ℕ, Bool, true, false, Option, Some, None, cond, refl, ap, ◌∙◌}
-use Rattle.std.proofs.Common.{is_some, List}
+use Rattle.std.proofs.Common.{◌≡◌, ℕ, Bool, true, false, Option, Some, None, cond, refl, ap, ◌∙◌, is_some, List}
 use Rattle.sts_code.specs.Program.{Program, routine}
 use Rattle.sts_code.specs.declared.instr.Instr.{Instr}
 use Rattle.sts_rules.specs.declared.typing.Cause.{Cause}
-use Rattle.sts_rules.specs.declared.typing.Cause.TheVariants.{StackUnder, StackOver, FallsOff}
-use Rattle.sts_rules.specs.declared.typing.Cause.TheVariants.{BackJump, LoopMismatch, LoopDepth}
-use Rattle.sts_rules.specs.declared.typing.Cause.TheVariants.{SlotKind, SlotBusy, WrongThread}
-use Rattle.sts_rules.specs.declared.typing.Cause.TheVariants.{IllegalState, Structure, Nesting}
-use Rattle.sts_rules.specs.declared.typing.Cause.TheVariants.{Unbound, JoinEdges}
+use Rattle.sts_rules.specs.declared.typing.Cause.TheVariants.{StackUnder, StackOver, FallsOff, BackJump, LoopMismatch, LoopDepth, SlotKind, SlotBusy}
+use Rattle.sts_rules.specs.declared.typing.Cause.TheVariants.{WrongThread, IllegalState, Structure, Nesting, Unbound, JoinEdges}
 use Rattle.sts_rules.specs.TypeState.{TypeState}
 use Rattle.sts_rules.specs.Causes.{causes, holds, least_cause}
 use Rattle.sts_rules.specs.Causes as test

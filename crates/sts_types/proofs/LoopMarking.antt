@@ -1,8 +1,6 @@
 -- Marking the places inside each loop.
-use Rattle.std.proofs.Common.{◌≡◌, ◌≢◌, ℕ, suc, ◌+◌, ◌<◌, ◌≤◌, ◌⊎◌, inl, inr, List, ◌∷◌, length}
-use Rattle.std.proofs.Common.{map, Bool, true, false, Option, Some, None, ◌&&◌, cond, min, ltb, leb}
-use Rattle.std.proofs.Common.{refl, sym, ap, ◌∙◌, arith, get_or, set, slice_get, replicate}
-use Rattle.std.proofs.Common.{get_or-set_same, get_or-set_other}
+use Rattle.std.proofs.Common.{◌≡◌, ◌≢◌, ℕ, suc, ◌+◌, ◌<◌, ◌≤◌, ◌⊎◌, inl, inr, List, ◌∷◌, length, map, Bool, true, false, Option, Some, None, ◌&&◌, cond, min}
+use Rattle.std.proofs.Common.{ltb, leb, refl, sym, ap, ◌∙◌, arith, get_or, set, slice_get, replicate, get_or-set_same, get_or-set_other}
 use Rattle.std.specs.List.{range_with_len}
 use Rattle.std.proofs.lemmas.Bool.{cases_eq, cases_lt}
 use Rattle.std.proofs.lemmas.Bool.Decides.{nat_tests}

@@ -1,18 +1,15 @@
 -- Marks, and the typestates that they refer to.
-use Rattle.std.proofs.Common.{◌≡◌, ◌≢◌, ℕ, zero, suc, ◌<◌, ◌≤◌, ◌⊎◌, inl, inr, List, [], ◌∷◌, ◌++◌}
-use Rattle.std.proofs.Common.{◌+◌, take, slice_get, Option, Some, None, length, map, get_or, set, replicate, refl, sym}
-use Rattle.std.proofs.Common.{ap, ◌∙◌, subst, arith, get_or-set_same, get_or-set_other, length-set}
+use Rattle.std.proofs.Common.{◌≡◌, ◌≢◌, ℕ, zero, suc, ◌<◌, ◌≤◌, ◌⊎◌, inl, inr, List, [], ◌∷◌, ◌++◌, ◌+◌, take, slice_get, Option, Some, None, length, map}
+use Rattle.std.proofs.Common.{get_or, set, replicate, refl, sym, ap, ◌∙◌, subst, arith, get_or-set_same, get_or-set_other, length-set}
 use Rattle.std.specs.List.{All}
 use Rattle.std.proofs.lemmas.Bool.{cases_eq}
-use Rattle.std.proofs.lemmas.List.{map-set, get_or-map, get_or_append_left, length-replicate}
-use Rattle.std.proofs.lemmas.List.{get_or-replicate, get_or_default, length-map, length-append}
+use Rattle.std.proofs.lemmas.List.{map-set, get_or-map, get_or_append_left, length-replicate, get_or-replicate, get_or_default, length-map, length-append}
 use Rattle.sts_rules.specs.TypeState.{TypeState}
 use Rattle.sts_types.proofs.FollowLemmas.{take_there, take_missing}
 use Rattle.sts_types.specs.declared.arrival.Arrival.{Arrival}
 use Rattle.sts_types.specs.declared.arrival.Arrival.TheVariants.{Nothing, One, Several}
 use Rattle.sts_types.specs.declared.arrivals.Mark.{Mark}
-use Rattle.sts_types.specs.Arrivals.{Merged, Goes, IsMarked, arrival_of, at_height, none, state_in}
-use Rattle.sts_types.specs.Arrivals.{state_of}
+use Rattle.sts_types.specs.Arrivals.{Merged, Goes, IsMarked, arrival_of, at_height, none, state_in, state_of}
 
 one_kept : (kept added : List TypeState) (m : Arrival Mark) → IsMarked (length kept) m → arrival_of (kept ++ added) m ≡ arrival_of kept m
 one_kept kept added Nothing h = refl

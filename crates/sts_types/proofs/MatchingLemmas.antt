@@ -1,7 +1,6 @@
 -- The match of a `times`: its place, and how loops nest.
-use Rattle.std.proofs.Common.{◌≡◌, ℕ, zero, suc, ◌+◌, ◌-◌, ◌<◌, ◌≤◌, ◌⊎◌, inl, inr, List, length}
-use Rattle.std.proofs.Common.{take, drop, Bool, true, false, Some, find, count_by, if◌then◌else◌}
-use Rattle.std.proofs.Common.{cond, refl, sym, ap, ◌∙◌, subst, arith, slice_range, eqb-true, eq-eqb}
+use Rattle.std.proofs.Common.{◌≡◌, ℕ, zero, suc, ◌+◌, ◌-◌, ◌<◌, ◌≤◌, ◌⊎◌, inl, inr, List, length, take, drop, Bool, true, false, Some, find, count_by}
+use Rattle.std.proofs.Common.{if◌then◌else◌, cond, refl, sym, ap, ◌∙◌, subst, arith, slice_range, eqb-true, eq-eqb}
 use Rattle.std.specs.List.{range_with_len}
 use Rattle.std.proofs.lemmas.Bool.{cases_lt}
 use Rattle.std.proofs.lemmas.List.{get_or-drop, length-drop}

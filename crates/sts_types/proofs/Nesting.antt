@@ -1,8 +1,7 @@
 -- The loops around a place: the innermost one, and those around it.
-use Rattle.std.proofs.Common.{◌≡◌, ℕ, zero, suc, ◌+◌, ◌-◌, ◌<◌, ◌≤◌, ◌⊎◌, inl, inr, List, [], ◌∷◌}
-use Rattle.std.proofs.Common.{◌++◌, length, Bool, true, false, Option, Some, None, ◌&&◌, cond, refl}
-use Rattle.std.proofs.Common.{sym, ap, ◌∙◌, subst, arith, reverse, filter, slice_get, leb, leb-true}
-use Rattle.std.proofs.Common.{bytes_eq, eqb, eqb-true, eq-eqb, is_none, is_some, not, drop, get_or}
+use Rattle.std.proofs.Common.{◌≡◌, ℕ, zero, suc, ◌+◌, ◌-◌, ◌<◌, ◌≤◌, ◌⊎◌, inl, inr, List, [], ◌∷◌, ◌++◌, length, Bool, true, false, Option, Some, None, ◌&&◌}
+use Rattle.std.proofs.Common.{cond, refl, sym, ap, ◌∙◌, subst, arith, reverse, filter, slice_get, leb, leb-true, bytes_eq, eqb, eqb-true, eq-eqb, is_none}
+use Rattle.std.proofs.Common.{is_some, not, drop, get_or}
 use Rattle.std.specs.Option.{option_eq}
 use Rattle.std.specs.List.{range_with_len}
 use Rattle.std.proofs.lemmas.List.{reverse-append, get_or-map, length-map, drop_more, drop_all}
@@ -87,13 +86,6 @@ pub around_head : (code : List Instr) (q p : ℕ) → head code q ≡ Some p →
 around_head code q p e =
     let h = below_head code q q p e in
     (h.0, h.2 ∙ ap (λ xs. p ∷ xs) (below_same code q p p h.0 (within code q p h.1) (omega arith)))
-
-pub around_none : (code : List Instr) (q : ℕ) → head code q ≡ None → around code q ≡ []
-around_none code q e = none (around code q) e
-  where
-    none : (xs : List ℕ) → slice_get xs 0 ≡ None → xs ≡ []
-    none [] e = refl
-    none (x ∷ xs) e = cc
 
 -- ---- looking for the innermost one
 

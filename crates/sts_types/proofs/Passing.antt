@@ -1,14 +1,12 @@
 -- One forward pass that keeps at most one state a place finds the verdict.
-use Rattle.std.proofs.Common.{◌≡◌, ◌≢◌, ℕ, ◌+◌, ◌<◌, ◌≤◌, ◌⊎◌, inl, inr, List, [], ◌∷◌, Some, None}
-use Rattle.std.proofs.Common.{Ok, Err, length, get_or, set, refl, sym, ap, ◌∙◌, subst, arith}
-use Rattle.std.proofs.Common.{get_or-set_same, get_or-set_other, length-set}
+use Rattle.std.proofs.Common.{◌≡◌, ◌≢◌, ℕ, ◌+◌, ◌<◌, ◌≤◌, ◌⊎◌, inl, inr, List, [], ◌∷◌, Some, None, Ok, Err, length, get_or, set, refl, sym, ap, ◌∙◌, subst}
+use Rattle.std.proofs.Common.{arith, get_or-set_same, get_or-set_other, length-set}
 use Rattle.std.proofs.lemmas.Bool.{cases_eq, cases_lt}
 use Rattle.sts_types.specs.declared.arrival.Arrival.{Arrival}
 use Rattle.sts_types.specs.declared.arrival.Arrival.TheVariants.{Nothing, One, Several}
 use Rattle.sts_types.specs.Arrivals.{Merged, Arrive}
 use Rattle.sts_types.specs.Passing.{Stands, Below, at_entry, out_of, Passed}
-use Rattle.sts_rules.specs.Flow.{Flow, Leads, Reaches, first, then, IsAlone, TurnDiffers, TurnKeeps}
-use Rattle.sts_rules.specs.Flow.{IsClear, HasCause, dead, two, edge, turn}
+use Rattle.sts_rules.specs.Flow.{Flow, Leads, Reaches, first, then, IsAlone, TurnDiffers, TurnKeeps, IsClear, HasCause, dead, two, edge, turn}
 
 module _ {S : Type 0} where
   merge_stands : (P : S → Type 0) (a b : Arrival S) (s : S) → Stands P a → Merged a s b → Stands (λ x. P x ⊎ (s ≡ x)) b

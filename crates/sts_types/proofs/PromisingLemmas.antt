@@ -1,7 +1,6 @@
 -- The promises of typing: the open loops of a typestate that is reached are those around its place.
-use Rattle.std.proofs.Common.{◌≡◌, ℕ, ◌<◌, ◌⊎◌, inl, inr, false, ◌||◌, List, []}
-use Rattle.std.proofs.Common.{◌∷◌, ◌++◌, map, drop, Option, Some, None, Ok, bytes_eq, refl, sym, ap}
-use Rattle.std.proofs.Common.{◌∙◌, subst}
+use Rattle.std.proofs.Common.{◌≡◌, ℕ, ◌<◌, ◌⊎◌, inl, inr, false, ◌||◌, List, [], ◌∷◌, ◌++◌, map, drop, Option, Some, None, Ok, bytes_eq, refl, sym, ap, ◌∙◌}
+use Rattle.std.proofs.Common.{subst}
 use Rattle.std.specs.List.{list_any}
 use Rattle.std.proofs.lemmas.Bool.{or_parts, not-false}
 use Rattle.sts_types.proofs.AmongLemmas.{none_passes, among_left, among_right}
@@ -9,8 +8,7 @@ use lib.Pointwise.{bytes_decides}
 use Rattle.sts_code.specs.Program.{Program, routine, instr_at}
 use Rattle.sts_code.specs.Checks.{program_fault}
 use Rattle.sts_code.specs.declared.instr.Instr.{Instr}
-use Rattle.sts_code.specs.declared.instr.Instr.TheVariants.{Div, Jz, Times, Next, Fork, Join, Case}
-use Rattle.sts_code.specs.declared.instr.Instr.TheVariants.{Ret, Fail}
+use Rattle.sts_code.specs.declared.instr.Instr.TheVariants.{Div, Jz, Times, Next, Fork, Join, Case, Ret, Fail}
 use Rattle.sts_rules.specs.ControlPaths.{Among}
 use Rattle.sts_rules.specs.declared.typing.TypedLoop.{TypedLoop}
 use Rattle.sts_rules.specs.TypeState.{TypeState, heads}
@@ -25,8 +23,7 @@ use Rattle.sts_rules.specs.Refusal.{size, IsAccepted}
 use Rattle.sts_code.proofs.LimitLemmas.{has_code}
 use Rattle.sts_types.proofs.Fitting.{fits}
 use Rattle.sts_types.proofs.FollowLemmas.{at_place}
-use Rattle.sts_types.proofs.Laws.{LeadsTo, next_among}
-use Rattle.sts_types.proofs.Laws.{follow_leads, leads_among, laws}
+use Rattle.sts_types.proofs.Laws.{LeadsTo, next_among, follow_leads, leads_among, laws}
 use Rattle.sts_types.proofs.CauseLemmas.{or_cause_ok}
 
 -- each edge has these loops open

@@ -1,22 +1,18 @@
 -- Causes at an instruction that only pops and pushes.
-use Rattle.std.proofs.Common.{◌≡◌, ℕ, ◌+◌, Bool, true, false, Option, Some, None, List, length}
-use Rattle.std.proofs.Common.{cond, leb, refl, sym, ap, subst, ◌∙◌, ◌-◌, ◌≤◌, [], ◌∷◌}
-use Rattle.std.proofs.Common.{◌<◌, IfSome, arith}
+use Rattle.std.proofs.Common.{◌≡◌, ℕ, ◌+◌, Bool, true, false, Option, Some, None, List, length, cond, leb, refl, sym, ap, subst, ◌∙◌, ◌-◌, ◌≤◌, [], ◌∷◌, ◌<◌}
+use Rattle.std.proofs.Common.{IfSome, arith}
 use Rattle.std.specs.List.{All}
 use Rattle.std.proofs.lemmas.Bool.{le-ltb, or_from, false≢true}
 use Rattle.std.proofs.Math.Bool.{or-false}
 use Rattle.sts_code.specs.Program.{Program, routine}
 use Rattle.sts_code.specs.Facts.{pops, pushes}
 use Rattle.sts_code.specs.declared.instr.Instr.{Instr}
-use Rattle.sts_code.specs.declared.instr.Instr.TheVariants.{Push, Pop, Dup, Swap, Load, Store, Add}
-use Rattle.sts_code.specs.declared.instr.Instr.TheVariants.{Sub, Mul, Lt, Eq, Bound, OrElse}
-use Rattle.sts_code.specs.declared.instr.Instr.TheVariants.{Interrupted, Div, Jmp, Jz, Times, Next}
-use Rattle.sts_code.specs.declared.instr.Instr.TheVariants.{Join, Case, Ret, Fail}
+use Rattle.sts_code.specs.declared.instr.Instr.TheVariants.{Push, Pop, Dup, Swap, Load, Store, Add, Sub, Mul, Lt, Eq, Bound, OrElse, Interrupted, Div, Jmp, Jz}
+use Rattle.sts_code.specs.declared.instr.Instr.TheVariants.{Times, Next, Join, Case, Ret, Fail}
 use Rattle.sts_rules.specs.declared.typing.Cause.{Cause}
 use Rattle.sts_rules.specs.declared.typing.Cause.TheVariants.{FallsOff, BackJump, LoopMismatch}
 use Rattle.sts_rules.specs.TypeState.{TypeState, heads}
-use Rattle.sts_rules.specs.Causes.{falls_off, jumps_back, mismatches, is_other_loop}
-use Rattle.sts_rules.specs.Causes.{lacks_operands, overflows, join_overflows}
+use Rattle.sts_rules.specs.Causes.{falls_off, jumps_back, mismatches, is_other_loop, lacks_operands, overflows, join_overflows}
 use Rattle.sts_rules.specs.Edges.{follows, back_of, moved}
 use Rattle.sts_types.specs.declared.arrival.Arrival.{Arrival}
 use Rattle.sts_types.specs.Arrivals.{Arrive, at_height}

@@ -1,6 +1,5 @@
 -- A stack that is seen in reverse, read from the bottom.
-use Rattle.std.proofs.Common.{◌≡◌, ℕ, ◌+◌, ◌-◌, ◌<◌, List, ◌∷◌, length, get_or, drop, reverse}
-use Rattle.std.proofs.Common.{arith, sym, ap, ◌∙◌}
+use Rattle.std.proofs.Common.{◌≡◌, ℕ, ◌+◌, ◌-◌, ◌<◌, List, ◌∷◌, length, get_or, drop, reverse, arith, sym, ap, ◌∙◌}
 use Rattle.std.proofs.lemmas.List.{length-reverse, get_or-reverse, drop_more}
 
 module _ {X : Type 0} (xs ys : List X) (view : reverse xs ≡ ys) (i : ℕ) (within : i < length ys) where

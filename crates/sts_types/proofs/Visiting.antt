@@ -1,8 +1,6 @@
 -- One place of the pass over a function: each exit of the body, and how the pass goes on.
-use Rattle.std.proofs.Common.{◌≡◌, ◌≢◌, ℕ, ◌+◌, ◌<◌, ◌≤◌, ◌↔◌, IsTrue, IfSome, Bool, true, false}
-use Rattle.std.proofs.Common.{List, [], ◌∷◌, length, Option, Some, None, Ok, get_or, set, replicate}
-use Rattle.std.proofs.Common.{refl, sym, ap, ◌∙◌, subst, arith, get_or-set_same, get_or-set_other}
-use Rattle.std.proofs.Common.{length-set}
+use Rattle.std.proofs.Common.{◌≡◌, ◌≢◌, ℕ, ◌+◌, ◌<◌, ◌≤◌, ◌↔◌, IsTrue, IfSome, Bool, true, false, List, [], ◌∷◌, length, Option, Some, None, Ok, get_or, set}
+use Rattle.std.proofs.Common.{replicate, refl, sym, ap, ◌∙◌, subst, arith, get_or-set_same, get_or-set_other, length-set}
 use Rattle.std.specs.List.{All}
 use Rattle.std.proofs.lemmas.List.{length-replicate, get_or-replicate}
 use Rattle.sts_code.specs.Program.{Program, routine, instr_at}
@@ -29,8 +27,7 @@ use Rattle.sts_types.specs.Tables.{AreTablesOf}
 use Rattle.sts_types.specs.declared.pass.TypeError.{TypeError}
 use Rattle.sts_types.specs.declared.pass.TypeError.TheVariants.{Refused}
 use Rattle.sts_types.specs.Typing.{Typing, IsTyping, Tells}
-use Rattle.sts_types.proofs.Passing.{all_alone, begin, is_dead, has_two, has_edge_cause}
-use Rattle.sts_types.proofs.Passing.{has_turn_cause, turn_differs, turn_same, no_turn, goes_on}
+use Rattle.sts_types.proofs.Passing.{all_alone, begin, is_dead, has_two, has_edge_cause, has_turn_cause, turn_differs, turn_same, no_turn, goes_on}
 use Rattle.sts_types.proofs.RoomLemmas.{has_room}
 use Rattle.sts_types.proofs.SimpleLemmas.{short_arrives, short_back, short_place}
 use Rattle.sts_rules.proofs.VerdictLemmas.{clear_excludes}

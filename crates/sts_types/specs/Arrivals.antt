@@ -77,8 +77,3 @@ filled s Several = Several
 abbrev pub Goes : Option (ℕ × TypeState) → TypeState → Option ℕ → TypeState → Type 0
 Goes None before to after = (to ≡ None) × (after ≡ before)
 Goes (Some e) before to after = (to ≡ Some e.0) × (after ≡ e.1)
-
--- if one has arrived, it is the current one
-abbrev pub IsAtStart : {X : Type 0} → Arrival X → Arrived → Type 0
-IsAtStart (One x) a = a.start ≡ a.state
-IsAtStart _ a = Unit {0}

@@ -3,7 +3,6 @@
 ghost use Rattle.std.specs.Prelude.{◌≡◌, ◌<◌, ◌≤◌, ◌-◌, ◌+◌, ◌∷◌, length, drop, map, true};
 ghost use Rattle.std.specs.Prelude.{slice_set, slice_get, if◌then◌else◌, List, [], Some, IfSome};
 ghost use Rattle.sts_types.specs.Room.{HasRoom};
-ghost use Rattle.sts_rules.specs.Around as around;
 ghost use Rattle.sts_rules.specs.Edges as def;
 ghost use Rattle.sts_code.specs.Facts as facts;
 ghost use Rattle.sts_rules.specs.TypeState as typed;

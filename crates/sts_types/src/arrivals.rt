@@ -1,13 +1,11 @@
 //! The typestates that have arrived at each place of a function, kept in little memory.
 
 ghost use Rattle.std.specs.Prelude.{◌≡◌, ◌<◌, ◌≤◌, ◌↔◌, ◌++◌, List, length, replicate, slice_get};
-ghost use Rattle.std.specs.Prelude.{slice_index_or, slice_set, option_to_list, All, IfOk, OnOk, ℕ};
-ghost use Rattle.std.specs.Prelude.{IsTrue};
-ghost use Rattle.sts_rules.specs.Edges as def;
+ghost use Rattle.std.specs.Prelude.{slice_index_or, slice_set, All, IfOk, OnOk, ℕ, IsTrue};
 ghost use Rattle.sts_rules.specs.TypeState.{TypeState};
 ghost use Rattle.sts_types.specs.Site.{IsSite, HasRoomAt, LeadInside, follows_at};
 ghost use Rattle.sts_types.specs.Arrivals.{Merged, ArriveAt, IsMarked, arrival_of, at_height};
-ghost use Rattle.sts_types.specs.Arrivals.{filled, none, state_of, IsAtStart};
+ghost use Rattle.sts_types.specs.Arrivals.{filled, none, state_of};
 
 use crate::arrival::Arrival;
 use crate::follow::edge;

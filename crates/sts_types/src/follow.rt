@@ -1,7 +1,6 @@
 //! The places and typestates that follow an instruction, if no cause holds.
 
-ghost use Rattle.std.specs.Prelude.{ℕ, List, ◌≡◌, ◌<◌, ◌≤◌, ◌-◌, ◌+◌, ◌++◌, ◌∷◌, [], length};
-ghost use Rattle.std.specs.Prelude.{slice_get, option_to_list, IfSome};
+ghost use Rattle.std.specs.Prelude.{ℕ, List, ◌≡◌, ◌<◌, ◌≤◌, ◌-◌, ◌+◌, length, slice_get, IfSome};
 ghost use Rattle.sts_rules.specs.Edges as def;
 ghost use Rattle.sts_code.specs.Program.{Program};
 ghost use Rattle.sts_code.specs.declared.instr.Instr.{Instr};

@@ -1,6 +1,6 @@
 //! The causes that depend on the places after an instruction.
 
-ghost use Rattle.std.specs.Prelude.{◌≡◌, ◌<◌, length, nat_le, option_to_list};
+ghost use Rattle.std.specs.Prelude.{◌≡◌, ◌<◌, nat_le, option_to_list};
 ghost use Rattle.std.specs.List.{list_any};
 ghost use Rattle.sts_rules.specs.Around as around;
 ghost use Rattle.sts_code.specs.Facts as facts;

@@ -1,7 +1,7 @@
 //! The lowest-numbered cause that holds at an instruction.
 
-ghost use Rattle.std.specs.Prelude.{◌≡◌, ◌<◌, ◌+◌, length, option_to_list, if◌then◌else◌, Some};
-ghost use Rattle.std.specs.Prelude.{None, nat_le, nat_lt, false, ◌-◌, ◌≤◌, IfSome};
+ghost use Rattle.std.specs.Prelude.{◌≡◌, ◌<◌, ◌+◌, length, if◌then◌else◌, Some};
+ghost use Rattle.std.specs.Prelude.{None, nat_le, false, ◌-◌, ◌≤◌, IfSome};
 ghost use Rattle.sts_code.specs.Facts as facts;
 ghost use Rattle.sts_code.specs.Program.{routine};
 ghost use Rattle.sts_types.specs.Simple.{is_simple, is_straight, only_asks, IsShort};

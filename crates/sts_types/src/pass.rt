@@ -1,12 +1,11 @@
 //! One forward pass over a function, which finds its least place with a cause.
 
-ghost use Rattle.std.specs.Prelude.{◌≡◌, ◌≤◌, ◌<◌, ◌^◌, ◌↔◌, length, replicate, slice_index_or};
-ghost use Rattle.std.specs.Prelude.{slice_set, vec_len, IsTrue, OnOk, IfOk, IfSome, MatchResult};
-ghost use Rattle.std.specs.Prelude.{Some, ℕ, ◌+◌, ◌∷◌, [], option_to_list};
+ghost use Rattle.std.specs.Prelude.{◌≡◌, ◌≤◌, ◌<◌, ◌^◌, ◌↔◌, length, slice_index_or, IsTrue, OnOk};
+ghost use Rattle.std.specs.Prelude.{IfOk, IfSome, MatchResult, Some, ◌+◌, ◌∷◌, []};
 ghost use Rattle.sts_rules.specs.Edges as def;
 ghost use Rattle.sts_rules.specs.Refusal.{IsWellTyped};
 ghost use Rattle.sts_code.specs.Program.{routine, instr_at};
-ghost use Rattle.sts_types.specs.Arrivals.{Merged, Arrive, at_height};
+ghost use Rattle.sts_types.specs.Arrivals.{Arrive, at_height};
 ghost use Rattle.sts_types.specs.Passing.{PassedTo};
 ghost use Rattle.sts_types.specs.Site.{IsSite, HasRoomAt, LeadInside, Followed, follows_at};
 ghost use Rattle.sts_types.specs.Typing.{IsTyping, Tells};

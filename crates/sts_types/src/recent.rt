@@ -6,8 +6,8 @@ use crate::state::TypeState;
 use std::alloc::{AllocError, Global};
 use sts_rules::{Known, SlotKind, TypedEntry, TypedPhase, filled};
 
-/// How many looks there are.
-const LOOKS: usize = 1024;
+/// How many looks there are. With more, a new list takes longer to clear than it saves.
+const LOOKS: usize = 256;
 
 /// How many slots a look takes in. Programs use the low ones most.
 const SLOTS: usize = 4;

@@ -1,6 +1,6 @@
 //! Copies and comparisons of stacks.
 
-ghost use Rattle.std.specs.Prelude.{◌≡◌, ◌<◌, ◌+◌, ◌-◌, ◌∷◌, ◌↔◌, IsTrue, length, drop, reverse};
+ghost use Rattle.std.specs.Prelude.{◌≡◌, ◌<◌, ◌+◌, ◌-◌, ◌∷◌, ◌↔◌, IsTrue, length, drop};
 
 use sts_model::Stack;
 use sts_rules::{SlotKind, TypedEntry, TypedLoop};

@@ -4,7 +4,6 @@ ghost use Rattle.std.specs.Prelude.{◌≡◌, nat_le};
 ghost use Rattle.std.specs.List.{list_any};
 ghost use Rattle.sts_rules.specs.Causes as def;
 ghost use Rattle.sts_rules.specs.TypeState as typed;
-ghost use Rattle.sts_model.specs.Misuse as misuse;
 
 use crate::state::TypeState;
 use sts_code::{Instr, Joiner, Profile};

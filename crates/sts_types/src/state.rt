@@ -1,6 +1,6 @@
 //! Typestates.
 
-ghost use Rattle.std.specs.Prelude.{◌≡◌, ◌↔◌, ◌<◌, ◌≤◌, ◌+◌, ◌∷◌, IsTrue, length, drop, slice_set};
+ghost use Rattle.std.specs.Prelude.{◌≡◌, ◌↔◌, ◌<◌, ◌≤◌, ◌+◌, IsTrue, length};
 ghost use Rattle.sts_rules.specs.TypeState as def;
 
 use crate::same::{are_same_entries, are_same_loops, are_same_slots, copy_stack};

@@ -1,6 +1,6 @@
 //! The tables of a function's loops, made once.
 
-ghost use Rattle.std.specs.Prelude.{◌≡◌, ◌≤◌, ◌<◌, ◌&&◌, length, map, replicate, nat_lt, nat_le};
+ghost use Rattle.std.specs.Prelude.{◌≡◌, ◌≤◌, ◌<◌, ◌&&◌, length, map, nat_lt, nat_le};
 ghost use Rattle.std.specs.Prelude.{if◌then◌else◌, slice_index_or, IfOk, Some, None, ℕ, vec_len};
 ghost use Rattle.std.specs.List.{range_with_len};
 ghost use Rattle.sts_types.specs.Tables as table;

@@ -1,8 +1,7 @@
 -- Lemmas on the budgets of a program's functions: one function more has its budgets, and a function
 -- has only one set of budgets.
-use Rattle.std.proofs.Common.{◌≡◌, ℕ, zero, suc, ◌+◌, ◌<◌, ◌≤◌, ◌⊎◌, inl, inr, List, [], ◌∷◌, ◌++◌}
-use Rattle.std.proofs.Common.{length, take, arith, subst, sym, ap, refl, ◌∙◌, length-append}
-use Rattle.std.proofs.Common.{length-take-le}
+use Rattle.std.proofs.Common.{◌≡◌, ℕ, zero, suc, ◌+◌, ◌<◌, ◌≤◌, ◌⊎◌, inl, inr, List, [], ◌∷◌, ◌++◌, length, take, arith, subst, sym, ap, refl, ◌∙◌}
+use Rattle.std.proofs.Common.{length-append, length-take-le}
 use Rattle.std.proofs.lemmas.Bool.{cases_lt}
 use Rattle.std.proofs.lemmas.List.{take-append-le, get_or_append_left, get_or-take}
 use Rattle.std.proofs.Math.Seq.{take-append_seam, get_or-append_seam}

@@ -1,7 +1,5 @@
 -- Function by function.
-use Rattle.std.proofs.Common.{◌≡◌, ℕ, ◌+◌, ◌<◌, ◌≤◌, ◌⊎◌, inl, inr, List, [], ◌∷◌, ◌++◌}
-use Rattle.std.proofs.Common.{length, Err, arith, subst, sym, ap, refl, ◌∙◌}
-use Rattle.std.proofs.Common.{Result, Ok, MatchResult}
+use Rattle.std.proofs.Common.{◌≡◌, ℕ, ◌+◌, ◌<◌, ◌≤◌, ◌⊎◌, inl, inr, List, [], ◌∷◌, ◌++◌, length, Err, arith, subst, sym, ap, refl, ◌∙◌, Result, Ok, MatchResult}
 use Rattle.std.specs.Result.{IsErrAnd}
 use Rattle.std.proofs.lemmas.Bool.{cases_lt}
 use Rattle.sts_code.specs.Program.{Program, routine}
@@ -10,8 +8,7 @@ use Rattle.sts_budget.specs.declared.budgets.BudgetError.TheVariants as b
 use Rattle.sts_budget.specs.Outcome.{IsFound}
 use Rattle.sts_rules.specs.declared.budget.Budgets.{Budgets}
 use Rattle.sts_rules.specs.Budget.{AreBudgets}
-use Rattle.sts_rules.specs.Refusal.{IsSound, IsAccepted, IsWellTyped, IsUnsound}
-use Rattle.sts_rules.specs.Refusal.{ill_typed, too_much, size}
+use Rattle.sts_rules.specs.Refusal.{IsSound, IsAccepted, IsWellTyped, IsUnsound, ill_typed, too_much, size}
 use Rattle.sts_types.specs.declared.pass.TypeError.{TypeError}
 use Rattle.sts_types.specs.declared.pass.TypeError.TheVariants.{Memory, Refused}
 use Rattle.sts_types.specs.Typing.{Tells as TellsOfTyping}

@@ -1,12 +1,10 @@
 -- Each change of the tasks and scopes keeps the list of told ends right.
-use Rattle.std.proofs.Common.{◌≡◌, ℕ, zero, suc, ◌<◌, List, [], ◌∷◌, ◌++◌, length, Bool, true}
-use Rattle.std.proofs.Common.{false, cond, ◌&&◌, Option, Some, None, is_none, eqb, refl, ap, sym}
-use Rattle.std.proofs.Common.{◌∙◌, arith, get_or, set}
+use Rattle.std.proofs.Common.{◌≡◌, ℕ, zero, suc, ◌<◌, List, [], ◌∷◌, ◌++◌, length, Bool, true, false, cond, ◌&&◌, Option, Some, None, is_none, eqb, refl, ap}
+use Rattle.std.proofs.Common.{sym, ◌∙◌, arith, get_or, set}
 use Rattle.std.specs.Prelude.{◌==◌, option_map}
 use Rattle.std.specs.Option.{option_or}
 use Rattle.std.proofs.lemmas.Bool.{eqb-true, eqb-false, eq-eqb, ne_eqb}
-use Rattle.std.proofs.lemmas.List.{get_or-set_same, get_or-set_other, length-append, length-set}
-use Rattle.std.proofs.lemmas.List.{length-map}
+use Rattle.std.proofs.lemmas.List.{get_or-set_same, get_or-set_other, length-append, length-set, length-map}
 use Rattle.std.proofs.Math.Bool.{and-false}
 use Rattle.sts_code.proofs.OptionLemmas.{or_none}
 use Rattle.sts_code.specs.Program.{Program}
@@ -16,8 +14,7 @@ use Rattle.sts_model.specs.declared.record.Completion.{Completion}
 use Rattle.sts_model.specs.declared.record.Frame.{Frame}
 use Rattle.sts_model.specs.declared.record.Scope.{Scope}
 use Rattle.sts_model.specs.declared.record.Task.{Task}
-use Rattle.sts_model.specs.World.{World, task_at, scope_at, with_task, with_scope, no_task}
-use Rattle.sts_model.specs.World.{no_scope}
+use Rattle.sts_model.specs.World.{World, task_at, scope_at, with_task, with_scope, no_task, no_scope}
 use Rattle.sts_model.specs.Living.{lives, completion_of, is_living_subtask}
 use Rattle.sts_model.specs.Cancelling.{cancel, marked, raised}
 use Rattle.sts_model.specs.Effect.{open_scope, fork_task, ended, subtask_of, told}

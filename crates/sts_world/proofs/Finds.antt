@@ -1,7 +1,6 @@
 -- The counters are what a walk over the tasks finds.
-use Rattle.std.proofs.Common.{◌≡◌, ℕ, zero, suc, ◌+◌, List, [], ◌∷◌, length, map, count_by, Bool}
-use Rattle.std.proofs.Common.{true, false, cond, not, Option, Some, None, nat_lt, ◌||◌, refl, arith}
-use Rattle.std.proofs.Common.{ap, sym, ◌∙◌, slice_index_or}
+use Rattle.std.proofs.Common.{◌≡◌, ℕ, zero, suc, ◌+◌, List, [], ◌∷◌, length, map, count_by, Bool, true, false, cond, not, Option, Some, None, nat_lt, ◌||◌}
+use Rattle.std.proofs.Common.{refl, arith, ap, sym, ◌∙◌, slice_index_or}
 use Rattle.std.specs.List.{list_any}
 use Rattle.std.proofs.lemmas.List.Sums.{sum_by-cons}
 use Rattle.sts_model.specs.declared.record.Task.{Task}

@@ -1,23 +1,18 @@
 -- The counters after each change of the lines.
-use Rattle.std.proofs.Common.{◌≡◌, ℕ, zero, suc, ◌+◌, ◌-◌, ◌<◌, ◌≤◌, List, [], ◌∷◌, ◌++◌, length}
-use Rattle.std.proofs.Common.{count_by, Bool, true, false, cond, not, Option, Some, None, inl, inr}
-use Rattle.std.proofs.Common.{◌⊎◌, eqb, refl, ap, sym, ◌∙◌, arith, get_or, set, ◌&&◌}
+use Rattle.std.proofs.Common.{◌≡◌, ℕ, zero, suc, ◌+◌, ◌-◌, ◌<◌, ◌≤◌, List, [], ◌∷◌, ◌++◌, length, count_by, Bool, true, false, cond, not, Option, Some, None}
+use Rattle.std.proofs.Common.{inl, inr, ◌⊎◌, eqb, refl, ap, sym, ◌∙◌, arith, get_or, set, ◌&&◌}
 use Rattle.std.proofs.lemmas.Bool.{eqb-true, eqb-false, eq-eqb, cases_lt}
-use Rattle.std.proofs.lemmas.List.{get_or-set_same, get_or-set_other, get_or_append_left}
-use Rattle.std.proofs.lemmas.List.{length-append, length-set, append-nil, get_or_past}
-use Rattle.std.proofs.lemmas.List.Sums.{sum_by-set, sum_by_push}
-use Rattle.std.proofs.lemmas.List.Sums.{get_or-le-sum_by}
+use Rattle.std.proofs.lemmas.List.{get_or-set_same, get_or-set_other, get_or_append_left, length-append, length-set, append-nil, get_or_past}
+use Rattle.std.proofs.lemmas.List.Sums.{sum_by-set, sum_by_push, get_or-le-sum_by}
 use Rattle.sts_model.specs.Living.{is_in}
 use Rattle.sts_code.specs.declared.instr.Joiner.{Joiner}
 use Rattle.sts_code.specs.declared.limits.TheConstants.{MAX_STANDING}
 use Rattle.sts_joiners.specs.Tallied.{Tallied, tallied, with_end, ends_told}
 use Rattle.sts_model.specs.declared.event.End.{End}
 use Rattle.sts_world.specs.Lines.{Line, Lines}
-use Rattle.sts_world.specs.Kept.{IsKept, Family, no_line, no_tally, count_in, births, lives_in}
-use Rattle.sts_world.specs.Kept.{family_of, no_family, with_child, with_death, stands}
+use Rattle.sts_world.specs.Kept.{IsKept, Family, no_line, no_tally, count_in, births, lives_in, family_of, no_family, with_child, with_death, stands}
 use Rattle.sts_world.specs.Kept.{standing_tasks, standing_scopes}
-use Rattle.sts_world.proofs.Counting.{as_one, births_count, births-set, births_push, stands-set}
-use Rattle.sts_world.proofs.Counting.{stands_push, root_besides, and_le}
+use Rattle.sts_world.proofs.Counting.{as_one, births_count, births-set, births_push, stands-set, stands_push, root_besides, and_le}
 use Rattle.sts_joiners.proofs.TellLemmas.{one_told}
 
 -- the lines are as they were

@@ -1,6 +1,5 @@
 -- Raising the flags of the subtasks one by one raises those of all living subtasks.
-use Rattle.std.proofs.Common.{◌≡◌, ℕ, ◌+◌, List, [], ◌∷◌, ◌++◌, length, map, Bool, true, false}
-use Rattle.std.proofs.Common.{refl, ap, ◌∙◌, arith, append_assoc, get_or, set}
+use Rattle.std.proofs.Common.{◌≡◌, ℕ, ◌+◌, List, [], ◌∷◌, ◌++◌, length, map, Bool, true, false, refl, ap, ◌∙◌, arith, append_assoc, get_or, set}
 use Rattle.std.proofs.lemmas.List.{length-append}
 use Rattle.sts_model.specs.declared.record.Task.{Task}
 use Rattle.sts_model.specs.World.{no_task}

@@ -3,8 +3,7 @@ use Rattle.std.proofs.Common.{◌≡◌, ℕ, List, [], ◌∷◌, map, Bool, tr
 use Rattle.std.proofs.Math.Seq.{map-set_same}
 use Rattle.sts_model.specs.declared.record.Task.{Task}
 use Rattle.sts_model.specs.declared.record.Scope.{Scope}
-use Rattle.sts_model.specs.World.{World, task_at, scope_at, with_task, with_scope, no_task}
-use Rattle.sts_model.specs.World.{no_scope}
+use Rattle.sts_model.specs.World.{World, task_at, scope_at, with_task, with_scope, no_task, no_scope}
 use Rattle.sts_model.specs.Living.{is_living_subtask}
 use Rattle.sts_model.specs.Cancelling.{raised}
 use Rattle.sts_world.specs.Lines.{Line, line, is_shut, tally_of, lines}

@@ -1,10 +1,8 @@
 -- Scopes as they are kept, and the view of them.
-use Rattle.std.proofs.Common.{◌≡◌, ℕ, zero, suc, ◌<◌, ◌≤◌, List, [], ◌∷◌, ◌++◌, length, map, Bool}
-use Rattle.std.proofs.Common.{true, false, Option, Some, None, inl, inr, ◌⊎◌, refl, ap, sym, ◌∙◌}
-use Rattle.std.proofs.Common.{get_or, set, take, ◌+◌, slice_index_or}
+use Rattle.std.proofs.Common.{◌≡◌, ℕ, zero, suc, ◌<◌, ◌≤◌, List, [], ◌∷◌, ◌++◌, length, map, Bool, true, false, Option, Some, None, inl, inr, ◌⊎◌, refl, ap}
+use Rattle.std.proofs.Common.{sym, ◌∙◌, get_or, set, take, ◌+◌, slice_index_or}
 use Rattle.std.proofs.lemmas.Bool.{cases_lt}
-use Rattle.std.proofs.lemmas.List.{get_or-map, get_or_past, get_or_default, map-set, map-append}
-use Rattle.std.proofs.lemmas.List.{length-map}
+use Rattle.std.proofs.lemmas.List.{get_or-map, get_or_past, get_or_default, map-set, map-append, length-map, take_more}
 use Rattle.sts_model.specs.declared.record.Task.{Task}
 use Rattle.sts_model.specs.declared.record.Scope.{Scope}
 use Rattle.sts_model.specs.World.{World, with_scope, no_scope, no_task}
@@ -20,7 +18,6 @@ use Rattle.sts_model.specs.Local.{steps}
 use Rattle.sts_world.specs.declared.chains.BindingLink.{BindingLink}
 use Rattle.sts_world.specs.declared.scope.ScopeRecord.{ScopeRecord}
 use Rattle.sts_world.specs.Chains.{bindings_of, is_within, Grows}
-use Rattle.std.proofs.lemmas.List.{take_more}
 use Rattle.sts_world.specs.Scopes.{shown, no_record, front_of, AreWithin, IsAlike}
 use Rattle.sts_world.proofs.Chaining.{chain_none, bindings_grown, grows_longer, within_more}
 

@@ -1,11 +1,8 @@
 -- The counters after each change of the tasks and scopes.
-use Rattle.std.proofs.Common.{◌≡◌, pos, subst, count_by, take, ℕ, zero, suc, ◌+◌, ◌-◌, ◌<◌, ◌≤◌}
-use Rattle.std.proofs.Common.{nat_lt, List, [], ◌∷◌, ◌++◌, length, map, Bool, true, false, cond}
-use Rattle.std.proofs.Common.{not, Option, Some, None, inl, inr, ◌⊎◌, refl, ap, sym, ◌∙◌}
-use Rattle.std.proofs.Common.{arith, get_or, set}
+use Rattle.std.proofs.Common.{◌≡◌, pos, subst, count_by, take, ℕ, zero, suc, ◌+◌, ◌-◌, ◌<◌, ◌≤◌, nat_lt, List, [], ◌∷◌, ◌++◌, length, map, Bool, true, false}
+use Rattle.std.proofs.Common.{cond, not, Option, Some, None, inl, inr, ◌⊎◌, refl, ap, sym, ◌∙◌, arith, get_or, set}
 use Rattle.std.proofs.Math.Seq.{map-set_same, take-append_seam}
-use Rattle.std.proofs.lemmas.List.{map-set, map-append, get_or-map, get_or_past, get_or-set_same}
-use Rattle.std.proofs.lemmas.List.{length-map, length-append}
+use Rattle.std.proofs.lemmas.List.{map-set, map-append, get_or-map, get_or_past, get_or-set_same, length-map, length-append}
 use Rattle.std.proofs.lemmas.Bool.{cases_lt}
 use Rattle.std.proofs.Math.Bool.{and-false, and-true}
 use Rattle.sts_code.specs.Program.{Program}
@@ -18,8 +15,7 @@ use Rattle.sts_model.specs.declared.event.End.TheVariants.{Success}
 use Rattle.sts_model.specs.declared.record.Completion.{Completion}
 use Rattle.sts_model.specs.declared.record.Task.{Task}
 use Rattle.sts_model.specs.declared.record.Scope.{Scope}
-use Rattle.sts_model.specs.World.{World, task_at, scope_at, with_task, with_scope, no_task}
-use Rattle.sts_model.specs.World.{no_scope}
+use Rattle.sts_model.specs.World.{World, task_at, scope_at, with_task, with_scope, no_task, no_scope}
 use Rattle.sts_model.specs.Joining.{is_success, is_failure}
 use Rattle.sts_model.specs.Local.{steps}
 use Rattle.sts_model.specs.Living.{is_closed, lives, subtask_count, any_lives, ends}
@@ -29,12 +25,10 @@ use Rattle.sts_model.specs.Standing as standing
 use Rattle.sts_joiners.specs.Tallied.{Tallied, tallied, with_end, ends_told}
 use Rattle.sts_joiners.proofs.TellLemmas.{is_enough}
 use Rattle.sts_world.specs.Lines.{Line, Lines, line, is_shut, tally_of, lines}
-use Rattle.sts_world.specs.Kept.{IsKept, Family, births, count_in, lives_in, no_family, no_tally}
-use Rattle.sts_world.specs.Kept.{with_child, with_death}
+use Rattle.sts_world.specs.Kept.{IsKept, Family, births, count_in, lives_in, no_family, no_tally, with_child, with_death}
 use Rattle.sts_world.proofs.Counting.{births-le-length}
 use Rattle.sts_world.proofs.Finds.{finds_subtasks, finds_living, finds_tasks, finds_scopes}
-use Rattle.sts_world.proofs.Keeping.{kept_same, kept_shut, kept_fork, kept_open, kept_end}
-use Rattle.sts_world.proofs.Keeping.{kept_end_in, kept_told, room_to_tell, lives_at, less_tasks}
+use Rattle.sts_world.proofs.Keeping.{kept_same, kept_shut, kept_fork, kept_open, kept_end, kept_end_in, kept_told, room_to_tell, lives_at, less_tasks}
 use Rattle.sts_world.proofs.Keeping.{less_scopes}
 use Rattle.sts_world.proofs.Same.{same_task, same_scope, same_raised}
 

@@ -1,7 +1,7 @@
 //! The subtasks of one scope.
 
 ghost use Rattle.std.specs.Prelude.{◌≡◌, ◌<◌, ◌≤◌, ◌-◌, if◌then◌else◌};
-ghost use Rattle.std.specs.Prelude.{length, take, nat_lt, OnOk, OnErr, IfOk};
+ghost use Rattle.std.specs.Prelude.{length, take, nat_lt, OnOk, OnErr};
 ghost use Rattle.sts_world.specs.Kept.{no_family, with_child, with_death};
 
 use std::alloc::{AllocError, Global};

@@ -1,14 +1,13 @@
 //! A frame as it is held: in full while its task lives, and later only its used parts.
 
-ghost use Rattle.std.specs.Prelude.{◌≡◌, ◌≤◌, ◌<◌, ◌∷◌};
-ghost use Rattle.std.specs.Prelude.{length, reverse, take, replicate, IfSome, IfOk};
+ghost use Rattle.std.specs.Prelude.{◌≡◌, ◌≤◌, ◌<◌, ◌∷◌, length, reverse, take, replicate, IfSome};
+ghost use Rattle.std.specs.Prelude.{IfOk, true};
 ghost use Rattle.std.specs.List.{list_all};
 ghost use Rattle.sts_code.specs.declared.limits.TheConstants.{LAST_SLOT};
 ghost use Rattle.sts_model.specs.Misuse as misuse;
 ghost use Rattle.sts_model.specs.World as def;
 ghost use Rattle.sts_model.specs.declared.record.Slot.TheVariants.{Empty, Lent};
 ghost use Rattle.sts_world.specs.Held.{slot_of, whole, frame_of, is_living};
-ghost use Rattle.std.specs.Prelude.{true};
 
 use std::alloc::{AllocError, Global};
 use sts_frames::{copy_frame, is_empty};

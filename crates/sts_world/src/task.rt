@@ -1,8 +1,7 @@
 //! A task as it is kept.
 
-ghost use Rattle.std.specs.Prelude.{◌≡◌, ◌<◌, ◌≤◌, ◌+◌, ◌^◌, ◌++◌, [], ◌∷◌};
-ghost use Rattle.std.specs.Prelude.{IfOk, Some, None, true, false};
-ghost use Rattle.std.specs.Prelude.{length, take, reverse, slice_set};
+ghost use Rattle.std.specs.Prelude.{◌≡◌, ◌<◌, ◌≤◌, ◌+◌, ◌^◌, ◌++◌, [], ◌∷◌, IfOk, Some, None, true};
+ghost use Rattle.std.specs.Prelude.{false, length, take, reverse, slice_set};
 ghost use Rattle.std.specs.Borrow.{sem};
 ghost use Rattle.sts_code.specs.declared.limits.TheConstants.{LAST_SLOT, MAX_ENTRIES, MAX_OPERANDS};
 ghost use Rattle.sts_model.specs.Cancelling as cancelling;

@@ -1,7 +1,5 @@
 //! Workers that work at the same time, each on a task that it took out.
 
-ghost use Rattle.std.specs.Prelude.{IfSome};
-
 use super::outsides::Weather;
 use super::paths::{PATHS, Path, count, ending};
 use super::rows::compare;

@@ -1,7 +1,5 @@
 //! Gates and outsides of worked rows.
 
-ghost use Rattle.std.specs.Prelude.{◌≡◌, IfSome};
-
 use std::sync::atomic::{AtomicU64, Ordering};
 use sts_model::Event;
 use sts_pool::{Gate, Outside};

@@ -1,7 +1,5 @@
 //! The questions that workers ask the outside once the root has ended.
 
-ghost use Rattle.std.specs.Prelude.{IfSome};
-
 use super::outsides::Open;
 use super::paths::{Outcome, PATHS, Path, ending};
 use super::rows::compare;

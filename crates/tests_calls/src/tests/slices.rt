@@ -1,7 +1,5 @@
 //! Work that is done with no lock held.
 
-ghost use Rattle.std.specs.Prelude.{IfSome};
-
 use super::outsides::{Open, Weather};
 use super::paths::{PATHS, ending};
 use super::rows::compare;

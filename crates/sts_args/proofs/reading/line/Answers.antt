@@ -2,8 +2,7 @@ use Rattle.std.proofs.Common.{◌≡◌, ◌<◌, List, Some, None, map, length,
 use Rattle.std.specs.Prelude.{Option, Result, Ok, IfOk}
 use Rattle.std.proofs.lemmas.Result.{IfOk-weaker, IfErr-weaker}
 use Rattle.std.proofs.lemmas.List.{length-map}
-use Rattle.clap.specs.Words.{App, Row, Text, is_simple, is_simple_and_free, kind_of, HasKind, fault_of}
-use Rattle.clap.specs.Words.{subcommand_rows_of}
+use Rattle.clap.specs.Words.{App, Row, Text, is_simple, is_simple_and_free, kind_of, HasKind, fault_of, subcommand_rows_of}
 use Rattle.sts_args.specs.declared.asked.Line.{Line}
 use Rattle.sts_args.specs.declared.asked.Line.TheVariants as line
 use Rattle.sts_args.specs.declared.asked.LineError.{LineError}

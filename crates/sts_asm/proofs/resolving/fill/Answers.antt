@@ -1,5 +1,4 @@
-use Rattle.std.proofs.Common.{rules, ◌≡◌, ◌<◌, ◌+◌, arith, length, get_or, take, drop, true, false}
-use Rattle.std.proofs.Common.{slice_set, ◌++◌, ◌∷◌, [], sym, ◌∙◌, ap}
+use Rattle.std.proofs.Common.{rules, ◌≡◌, ◌<◌, ◌+◌, arith, length, get_or, take, drop, true, false, slice_set, ◌++◌, ◌∷◌, [], sym, ◌∙◌, ap}
 use Rattle.std.specs.Prelude.{Ok, map}
 use Rattle.std.proofs.lemmas.List.{take_more, take_more_set, drop-set-lt, length-set}
 use Rattle.sts_code.specs.declared.instr.Instr.{Instr}

@@ -1,8 +1,7 @@
 use Rattle.std.proofs.Common.{Ok, refl}
 use Rattle.sts_budget.specs.Outcome.{IsNumber}
 use Rattle.sts_budget.specs.declared.change.Resource.TheVariants.{Steps, Tasks, Scopes, Binds}
-use Rattle.sts_budget.proofs.Found.{before_steps, before_tasks, before_scopes, before_binds}
-use Rattle.sts_budget.proofs.Found.{found_all}
+use Rattle.sts_budget.proofs.Found.{before_steps, before_tasks, before_scopes, before_binds, found_all}
 use Rattle.sts_budget.proofs.TogetherLemmas.{laid_for_pass, limit_of_pass, number_of_pass, error_of_pass}
 use Rattle.sts_budget.proofs.budgets.budgets_in_turn.Goals.{In_ok-steps, In_ok-tasks, In_ok-scopes, In_ok-binds}
 use Rattle.sts_budget.proofs.budgets.budgets_in_turn.Goals as goal

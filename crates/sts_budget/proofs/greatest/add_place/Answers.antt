@@ -1,5 +1,4 @@
-use Rattle.std.proofs.Common.{◌≡◌, ◌<◌, ◌+◌, pos, ℕ, get_or, length, ap, ◌∙◌}
-use Rattle.std.proofs.Common.{arith}
+use Rattle.std.proofs.Common.{◌≡◌, ◌<◌, ◌+◌, pos, ℕ, get_or, length, ap, ◌∙◌, arith}
 use Rattle.sts_code.specs.declared.instr.Instr.TheVariants.{Push, Ret, Times}
 use Rattle.sts_code.specs.Program.{instr_at}
 use Rattle.sts_rules.specs.Budget.{skeleton, shape_of}
@@ -9,8 +8,7 @@ use Rattle.sts_budget.specs.Last.{sum_at}
 use Rattle.sts_budget.specs.Ready.{end_in, names_in}
 use Rattle.sts_budget.specs.Table.{read}
 use Rattle.std.proofs.lemmas.List.{get_or_default}
-use Rattle.sts_budget.proofs.LastTurns.{head_small, full_is, over, topped_next}
-use Rattle.sts_budget.proofs.LastTurns.{limit_small, base_small}
+use Rattle.sts_budget.proofs.LastTurns.{head_small, full_is, over, topped_next, limit_small, base_small}
 use Rattle.sts_budget.proofs.greatest.add_place.Goals.{After-sum_at, After-turn_end-end, After-open_loop}
 use Rattle.sts_budget.proofs.greatest.add_place.Goals as goal
 

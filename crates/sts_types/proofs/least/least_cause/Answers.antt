@@ -1,8 +1,7 @@
 use Rattle.std.proofs.Common.{◌≡◌, ◌∙◌, sym, ap}
 use Rattle.sts_rules.specs.Causes.{is_illegal}
-use Rattle.sts_types.proofs.Fitting.{IsLed, IsSlotted, under_found, over_found, lead_found, lead_missed}
-use Rattle.sts_types.proofs.Fitting.{depth_found, slot_found, illegal_found, structure_found}
-use Rattle.sts_types.proofs.Fitting.{slot_missed}
+use Rattle.sts_types.proofs.Fitting.{IsLed, IsSlotted, under_found, over_found, lead_found, lead_missed, depth_found, slot_found, illegal_found}
+use Rattle.sts_types.proofs.Fitting.{structure_found, slot_missed}
 use Rattle.sts_types.proofs.SimpleLemmas.{none_later}
 use Rattle.sts_types.proofs.least.least_cause.Goals.{After-lead_cause-lead, After-slot_cause-slot, After-is_illegal}
 use Rattle.sts_types.proofs.least.least_cause.Goals as goal

@@ -6,8 +6,7 @@ use Rattle.sts_types.specs.Arrivals.{Arrive}
 use Rattle.sts_types.specs.Room.{HasRoom}
 use Rattle.sts_types.specs.Typing.{Tells}
 use Rattle.sts_types.proofs.Sites.{is_site, of_site, to_site}
-use Rattle.sts_types.proofs.Visiting.{IsHere, least_is, cause_here, room, places, back_fits, turn_here}
-use Rattle.sts_types.proofs.Visiting.{keeps_here, goes_on_here}
+use Rattle.sts_types.proofs.Visiting.{IsHere, least_is, cause_here, room, places, back_fits, turn_here, keeps_here, goes_on_here}
 use Rattle.sts_types.proofs.pass.visit_in_full.Goals.{After-state, In-Ok}
 use Rattle.sts_types.proofs.pass.visit_in_full.Goals as goal
 

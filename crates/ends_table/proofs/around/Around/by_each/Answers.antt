@@ -1,7 +1,6 @@
-use Rattle.std.proofs.lemmas.Option.{get_or_from_slice_get}
+use Rattle.std.proofs.lemmas.Option.{get_or_from_slice_get, slice_get_within}
 use Rattle.std.proofs.Common.{◌≡◌, sym, true, get_or, ◌≤◌, length, arith}
 use Rattle.ends_table.specs.Led.{DecidedLeads, decides}
-use Rattle.std.proofs.lemmas.Option.{slice_get_within}
 use Rattle.ends_table.proofs.PlaceLemmas.{parts_more}
 use Rattle.ends_table.proofs.MissingLemmas.{by_ok, on_ok}
 use Rattle.ends_table.proofs.around.Around.by_each.Goals as goal

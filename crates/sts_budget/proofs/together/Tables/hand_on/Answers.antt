@@ -1,5 +1,4 @@
-use Rattle.std.proofs.Common.{◌≡◌, ◌<◌, ◌+◌, ◌∙◌, pos, length, get_or, false, sym, ap, subst, arith, rules}
-use Rattle.std.proofs.Common.{inl, refl}
+use Rattle.std.proofs.Common.{◌≡◌, ◌<◌, ◌+◌, ◌∙◌, pos, length, get_or, false, sym, ap, subst, arith, rules, inl, refl}
 use Rattle.sts_code.specs.declared.instr.Instr.TheVariants.{Push, Ret}
 use Rattle.sts_code.specs.Program.{instr_at}
 use Rattle.sts_rules.specs.ControlPaths.{Among}

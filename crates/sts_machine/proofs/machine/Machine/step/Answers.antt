@@ -1,4 +1,4 @@
-use Rattle.std.proofs.Common.{◌+◌, ◌++◌, ◌∷◌, [], refl, sym, ◌∙◌, ap}
+use Rattle.std.proofs.Common.{◌+◌, ◌++◌, ◌∷◌, [], sym, ◌∙◌, ap}
 use Rattle.sts_model.specs.declared.event.Event.TheVariants as event
 use Rattle.sts_machine.proofs.Turning.{one_step, stands_after, runs_well}
 use Rattle.sts_machine.proofs.machine.Machine.step.Goals as goal

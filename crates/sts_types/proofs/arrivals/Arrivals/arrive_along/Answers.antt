@@ -4,8 +4,7 @@ use Rattle.sts_rules.specs.TypeState.{TypeState}
 use Rattle.sts_types.specs.declared.arrival.Arrival.TheVariants.{One}
 use Rattle.sts_types.specs.Arrivals.{ArriveAt, IsMarked, arrival_of, state_of}
 use Rattle.sts_types.proofs.Arriving.{place_within}
-use Rattle.sts_types.proofs.Marking.{more_kept, mark_holds, marks_hold, arrived, goes_there}
-use Rattle.sts_types.proofs.Marking.{within_marks, marked_there, longer_kept, same_kept, kept_itself}
+use Rattle.sts_types.proofs.Marking.{more_kept, mark_holds, marks_hold, arrived, goes_there, within_marks, marked_there, longer_kept, same_kept, kept_itself}
 use Rattle.sts_types.proofs.arrivals.Arrivals.arrive_along.Goals.{In-Some, After-keep}
 use Rattle.sts_types.proofs.arrivals.Arrivals.arrive_along.Goals as goal
 

@@ -1,8 +1,7 @@
 use Rattle.std.proofs.Common.{◌+◌, ◌∙◌, sym, ap, arith, drop, bytes_eq, is_none}
 use Rattle.sts_rules.specs.Around.{around}
 use Rattle.sts_rules.specs.TypeState.{heads}
-use Rattle.sts_types.proofs.Nesting.{same_at, differs_at, at_end, heads_more, heads_end, is_not}
-use Rattle.sts_types.proofs.Nesting.{is_it, none_is}
+use Rattle.sts_types.proofs.Nesting.{same_at, differs_at, at_end, heads_more, heads_end, is_not, is_it, none_is}
 use Rattle.sts_types.proofs.loops.CodeLoops.are_around.Goals as goal
 
 pub returns-then-ne : goal.returns-then-ne

@@ -1,6 +1,5 @@
 use Rattle.std.proofs.Common.{◌+◌, ◌∙◌, arith, sym, subst, Vec, Option, ℕ, Global}
-use Rattle.sts_types.proofs.LoopMarking.{AreHeads, ends_read, ends_long, end_within, heads_begin}
-use Rattle.sts_types.proofs.LoopMarking.{heads_marked, heads_kept, tables_made}
+use Rattle.sts_types.proofs.LoopMarking.{AreHeads, ends_read, ends_long, end_within, heads_begin, heads_marked, heads_kept, tables_made}
 use Rattle.sts_types.proofs.loops.Tables.new.Goals as goal
 use Rattle.sts_types.proofs.loops.Tables.new.Goals.{in-Some, in_default}
 

@@ -9,8 +9,7 @@ use Rattle.sts_world.specs.Kept.{no_family, no_tally}
 use Rattle.sts_world.specs.Lines.{tally_of}
 use Rattle.sts_joiners.proofs.TellLemmas.{is_enough}
 use Rattle.sts_world.proofs.Ends.{ends_told}
-use Rattle.sts_world.proofs.Worlds.{IsSubtask, ended_at, kept_complete, subtask_there, tallies_bound, told_bound}
-use Rattle.sts_world.proofs.Worlds.{found_tally, after_complete}
+use Rattle.sts_world.proofs.Worlds.{IsSubtask, ended_at, kept_complete, subtask_there, tallies_bound, told_bound, found_tally, after_complete}
 use Rattle.sts_world.proofs.world.World.complete.Goals.{After-end, After-index_mut-2, After-index_mut-3, After-self}
 use Rattle.sts_world.proofs.world.World.complete.Goals as goal
 
