@@ -22,8 +22,8 @@ use std::io::{Input, Write};
 use std::rt::{Env, Files};
 use sts_args::LineError;
 use sts_output::{
-    Events, FileError, MOST_OF_A_STREAM, NOT_TEXT, Named, Notes, STATUS_OUTSIDE, Sinks, Sources,
-    Status, TakeError, WordsError, borrowed, failed, file, file_failed, made, placeholder,
+    Assembled, Events, FileError, MOST_OF_A_STREAM, NOT_TEXT, Named, Notes, STATUS_OUTSIDE, Sinks,
+    Sources, Status, TakeError, WordsError, borrowed, failed, file, file_failed, made, placeholder,
     read_text, read_texts, spared, words, written,
 };
 use sts_remarks::{Remarks, Watched};
@@ -49,11 +49,13 @@ fn on_texts<S: Sources, W: Write>(
     match read_texts(alloc, sources, path, Some(trace)) {
         Ok(texts) => {
             let (text, events) = (texts.program.as_slice(), texts.events.as_slice());
-            let status = show_in_full(alloc, showing, text, events, out)?;
+            let mut assembled = Assembled::new();
+            let status = show_in_full(alloc, showing, text, events, out, &mut assembled)?;
             showing.remark(
                 status,
                 Named::new(path, text),
                 Named::new(trace, events),
+                &assembled,
                 remarks,
             );
             Ok(status)

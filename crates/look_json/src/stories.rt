@@ -1,6 +1,6 @@
 //! The story of a text's run of a trace as lines of JSON, or the line of a fault.
 
-ghost use Rattle.std.specs.Prelude.{IfOk};
+ghost use Rattle.std.specs.Prelude.{◌≡◌, IfOk, Ok};
 ghost use Rattle.sts_asm.specs.Text.{judged};
 ghost use Rattle.sts_trace.specs.Reading.{trace_read};
 ghost use Rattle.sts_output.specs.Output as cli;
@@ -11,73 +11,86 @@ use crate::asked::StoryOf;
 use crate::explained::with_status;
 use crate::lines::said;
 use look_refusal::whole;
-use look_tell::tell;
+use look_tell::story_of_program;
 use look_views::{faulty_text, faulty_trace};
 use std::alloc::{AllocError, Global};
 use std::io::Write;
 use sts_asm::assemble;
+use sts_code::Program;
 use sts_model::Event;
-use sts_output::{Output, Status, TakeError, failed, written};
+use sts_output::{Assembled, Output, Status, TakeError, failed, written};
 use sts_trace::read_trace;
 
 /// What `tell` prints.
-fn story_of(alloc: Global, asked: StoryOf<'_>) -> Result<Output, AllocError>
+fn story_of(alloc: Global, asked: StoryOf<'_>, program: &Program) -> Result<Output, AllocError>
+    requires { judged asked.text.now ≡ Ok program.now }
     ensures { IfOk result (λ o.
         IsStoryOf asked.entry.options asked.entry.text.now asked.entry.trace.now o) }
 {
-    let mut bytes = Vec::new(alloc);
-    match tell(alloc, asked.options, asked.text, asked.trace, &mut bytes) {
-        Ok(status) => Ok(Output { bytes, status }),
-        Err(_) => Err(AllocError),
-    }
+    story_of_program(alloc, asked.options, program, asked.text, asked.trace)
 }
 
 /// The story of these events, which the trace spells.
-fn of_events(alloc: Global, asked: StoryOf<'_>, events: &[Event]) -> Result<Output, AllocError>
+fn of_events(
+    alloc: Global,
+    asked: StoryOf<'_>,
+    program: &Program,
+    events: &[Event],
+) -> Result<Output, AllocError>
+    requires { judged asked.text.now ≡ Ok program.now }
     ensures { IfOk result (λ o. def.IsStory
         asked.entry.options asked.entry.text.now asked.entry.trace.now events.now o) }
 {
-    let printed = story_of(alloc, asked)?;
+    let printed = story_of(alloc, asked, program)?;
     let story = whole(printed)?;
     let said = said(alloc, events, &story)?;
     Ok(with_status(said, &story))
 }
 
-fn of_trace(alloc: Global, asked: StoryOf<'_>) -> Result<Output, AllocError>
+fn of_trace(alloc: Global, asked: StoryOf<'_>, program: &Program) -> Result<Output, AllocError>
+    requires { judged asked.text.now ≡ Ok program.now }
     ensures { IfOk result (λ o. def.TellsTrace
         asked.entry.options asked.entry.text.now asked.entry.trace.now
         (trace_read asked.entry.trace.now) o) }
 {
     match read_trace(alloc, asked.trace) {
-        Ok(events) => of_events(alloc, asked, events.as_slice()),
+        Ok(events) => of_events(alloc, asked, program, events.as_slice()),
         Err(error) => faulty_trace(alloc, error),
     }
 }
 
-fn told(alloc: Global, asked: StoryOf<'_>) -> Result<Output, AllocError>
+fn told(alloc: Global, asked: StoryOf<'_>, assembled: &mut Assembled) -> Result<Output, AllocError>
     ensures { IfOk result (λ o. def.Tells asked.entry.options (judged asked.entry.text.now)
         asked.entry.text.now asked.entry.trace.now o) }
 {
     match assemble(alloc, asked.text) {
-        Ok(_) => of_trace(alloc, asked),
-        Err(error) => faulty_text(alloc, error),
+        Ok(program) => of_trace(alloc, asked, &program),
+        Err(error) => {
+            assembled.keep_fault(error);
+            faulty_text(alloc, error)
+        }
     }
 }
 
 /// Writes the story of a text's run of a trace as lines of JSON, and gives the status that `tell`
-/// gives.
+/// gives. `assembled` gets the fault of the text.
 ///
 /// It takes all its memory before the first byte is written.
 ///
 /// # Errors
 ///
 /// A write failed.
-pub fn write_stories<W: Write>(alloc: Global, asked: StoryOf<'_>, out: &mut W) -> Status
+pub fn write_stories<W: Write>(
+    alloc: Global,
+    asked: StoryOf<'_>,
+    out: &mut W,
+    assembled: &mut Assembled,
+) -> Status
     ensures { IfOk result (λ s. (o : cli.Output) × def.AreStoriesOf
         asked.entry.options asked.entry.text.now asked.entry.trace.now o
         × cli.Writes (W.contents out.old) (W.contents out.new) s o) }
 {
-    match told(alloc, asked) {
+    match told(alloc, asked, assembled) {
         Ok(output) => written(out, output.bytes.as_slice(), output.status),
         Err(_) => failed(TakeError::Memory, out),
     }

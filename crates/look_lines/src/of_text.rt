@@ -11,7 +11,7 @@ use std::alloc::{AllocError, Global};
 use std::io::Write;
 use sts_asm::assemble;
 use sts_code::Program;
-use sts_output::{Output, Status, TakeError, failed, written};
+use sts_output::{Assembled, Output, Status, TakeError, failed, written};
 use sts_trace::read_trace;
 
 /// Reads the trace, and returns what is shown of the run of the program.
@@ -37,7 +37,7 @@ fn traced<F: Form>(
 }
 
 /// Assembles the text, reads the trace, and returns what is shown of the run, or of the fault of
-/// one of them.
+/// one of them. `assembled` gets the program, or the fault of the text.
 ///
 /// # Errors
 ///
@@ -47,17 +47,26 @@ pub fn shown<F: Form>(
     form: &F,
     text: &[u8],
     trace: &[u8],
+    assembled: &mut Assembled,
 ) -> Result<Output, AllocError>
     ensures { IfOk result (λ o. o
         ≡ def.text_output (F.shows form.now) (judged text.now) trace.now) }
 {
     match assemble(alloc, text) {
-        Ok(program) => traced(alloc, form, &program, trace),
-        Err(error) => form.of_text_fault(alloc, error),
+        Ok(program) => {
+            let shown = traced(alloc, form, &program, trace)?;
+            assembled.program = Some(program);
+            Ok(shown)
+        }
+        Err(error) => {
+            assembled.keep_fault(error);
+            form.of_text_fault(alloc, error)
+        }
     }
 }
 
-/// Writes what is shown of a text and a trace, and returns the status.
+/// Writes what is shown of a text and a trace, and returns the status. `assembled` gets the program,
+/// or the fault of the text.
 ///
 /// It takes all its memory before the first byte is written.
 ///
@@ -70,12 +79,13 @@ pub fn write_run<F: Form, W: Write>(
     text: &[u8],
     trace: &[u8],
     out: &mut W,
+    assembled: &mut Assembled,
 ) -> Status
     ensures { IfOk result (λ s. (o : Output)
         × def.IsShownOf (F.shows form.now) text.now trace.now o
         × Writes (W.contents out.old) (W.contents out.new) s o) }
 {
-    match shown(alloc, form, text, trace) {
+    match shown(alloc, form, text, trace, assembled) {
         Ok(output) => written(out, output.bytes.as_slice(), output.status),
         Err(_) => failed(TakeError::Memory, out),
     }

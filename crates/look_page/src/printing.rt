@@ -13,7 +13,7 @@ use look_places::write_named;
 use look_run::explain_run;
 use look_view::write_view;
 use std::alloc::Global;
-use sts_output::{Status, list, plain, verify, write_shown};
+use sts_output::{Assembled, Status, list, plain, verify, write_shown};
 
 /// The events from the first to the last that a trace may have.
 const ALL: Window = Window {
@@ -53,20 +53,21 @@ pub(crate) fn print(
     ensures { IfOk result (λ s. (o : Output) × Prints asked text.now trace.now o
         × Writes (Some printed.old.items) (Some printed.new.items) s o) }
 {
+    let found = &mut Assembled::new();
     match asked {
-        Asked::Verify => write_shown(verify::verified(alloc, text), printed),
-        Asked::List => write_shown(list::listed(alloc, text), printed),
-        Asked::Plain => write_shown(plain::after_trace(alloc, text, trace), printed),
-        Asked::View(wanted) => write_run(alloc, &wanted, text, trace, printed),
-        Asked::NamedView(wanted) => write_view(alloc, wanted, text, trace, printed),
+        Asked::Verify => write_shown(verify::verified(alloc, text, found), printed),
+        Asked::List => write_shown(list::listed(alloc, text, found), printed),
+        Asked::Plain => write_shown(plain::after_trace(alloc, text, trace, found), printed),
+        Asked::View(wanted) => write_run(alloc, &wanted, text, trace, printed, found),
+        Asked::NamedView(wanted) => write_view(alloc, wanted, text, trace, printed, found),
         Asked::Explanation => write_named(alloc, text, printed),
-        Asked::RunExplanation => explain_run(alloc, text, trace, printed),
+        Asked::RunExplanation => explain_run(alloc, text, trace, printed, found),
         Asked::Picture { brief } => {
             let options = DrawOptions {
                 window: Some(ALL),
                 brief,
             };
-            draw(alloc, options, None, text, trace, printed)
+            draw(alloc, options, None, text, trace, printed, found)
         }
         Asked::Ends(wanted) => write_ends(alloc, wanted, text, &mut Silent, printed),
     }

@@ -27,7 +27,9 @@ use std::io;
 use sts_asm::AsmError;
 use sts_code::Program;
 use sts_model::{End, Event};
-use sts_output::{Output, Status, state_line, state_status, steps_line, text_fault, trace_fault};
+use sts_output::{
+    Assembled, Output, Status, state_line, state_status, steps_line, text_fault, trace_fault,
+};
 use sts_plain::PlainState;
 use sts_trace::TraceError;
 
@@ -377,7 +379,7 @@ impl<'t> Form for Picture<'t> {
 }
 
 /// Writes the picture of a text's run of a trace, and returns the status. The heading has the names
-/// of their files, if they are files.
+/// of their files, if they are files. `assembled` gets the program, or the fault of the text.
 ///
 /// It takes all its memory before the first byte is written.
 ///
@@ -391,6 +393,7 @@ pub fn draw<W: io::Write>(
     text: &[u8],
     trace: &[u8],
     out: &mut W,
+    assembled: &mut Assembled,
 ) -> Status
     ensures { IfOk result (λ s. (o : cli.Output)
         × def.IsPictureOf options files.entry text.now trace.now o
@@ -401,5 +404,5 @@ pub fn draw<W: io::Write>(
         files,
         text,
     };
-    write_run(alloc, &picture, text, trace, out)
+    write_run(alloc, &picture, text, trace, out, assembled)
 }

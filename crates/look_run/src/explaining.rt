@@ -15,7 +15,7 @@ use look_refusal::{Made, program_of};
 use std::alloc::Global;
 use std::io::Write;
 use sts_code::Program;
-use sts_output::{Output, Status, Stopped, state_status, write_shown};
+use sts_output::{Assembled, Output, Status, Stopped, state_status, write_shown};
 use sts_trace::read_trace;
 
 /// The state of a watched machine, and each task that lives.
@@ -50,28 +50,40 @@ fn of_trace(alloc: Global, names: &Names<'_>, program: &Program, trace: &[u8]) -
     }
 }
 
-fn explanation(alloc: Global, text: &[u8], trace: &[u8]) -> Result<Output, Stopped>
+fn explanation(
+    alloc: Global,
+    text: &[u8],
+    trace: &[u8],
+    assembled: &mut Assembled,
+) -> Result<Output, Stopped>
     ensures { Prints result (def.Explains (judged text.now) text.now trace.now) }
 {
     let program = program_of(alloc, text)?;
     let names = Names::read(alloc, text)?;
     let output = of_trace(alloc, &names, &program, trace)?;
+    assembled.program = Some(program);
     Ok(output)
 }
 
 /// Writes the state of a text's run after a trace, with line numbers, and gives the status that
 /// `sts plain` gives. After a fault it names the fault and says what is wrong. It reports a faulty
 /// text or trace in the same way. Then it says where each living task is, and which tasks it waits
-/// for. It runs refused programs too, since it doesn't verify them.
+/// for. It runs refused programs too, since it doesn't verify them. `assembled` gets the program.
 ///
 /// It takes all its memory before the first byte is written.
 ///
 /// # Errors
 ///
 /// A write failed.
-pub fn explain_run<W: Write>(alloc: Global, text: &[u8], trace: &[u8], out: &mut W) -> Status
+pub fn explain_run<W: Write>(
+    alloc: Global,
+    text: &[u8],
+    trace: &[u8],
+    out: &mut W,
+    assembled: &mut Assembled,
+) -> Status
     ensures { IfOk result (λ s. (o : cli.Output) × def.IsRunExplanation text.now trace.now o
         × cli.Writes (W.contents out.old) (W.contents out.new) s o) }
 {
-    write_shown(explanation(alloc, text, trace), out)
+    write_shown(explanation(alloc, text, trace, assembled), out)
 }

@@ -15,7 +15,7 @@ use look_view::write_view;
 use look_views::write_views;
 use std::alloc::Global;
 use std::io::Write;
-use sts_output::{Events, Named, Status, TakeError, failed};
+use sts_output::{Assembled, Events, Named, Status, TakeError, failed};
 use sts_remarks::Remarks;
 
 /// The output for a text and a trace.
@@ -58,18 +58,32 @@ impl Showing<'_> {
 
     /// Adds where the text or the trace has its fault, and which event did nothing, if the output
     /// doesn't say it.
-    pub fn remark(self, status: u8, text: Named<'_>, trace: Named<'_>, remarks: &mut Remarks) {
+    pub fn remark(
+        self,
+        status: u8,
+        text: Named<'_>,
+        trace: Named<'_>,
+        assembled: &Assembled,
+        remarks: &mut Remarks,
+    ) {
         if !self.says_faults() {
-            remarks.notes.status(status, text, Events::Trace(trace));
+            let notes = &mut remarks.notes;
+            notes.status(status, text, assembled.fault, Events::Trace(trace));
         }
         if !self.says_idle() {
-            remark_idle(status, text, trace, remarks);
+            remark_idle(status, assembled, trace, remarks);
         }
     }
 
     /// Writes what is shown of a text and a trace. The views and the story of a run are shown in
     /// lines or as JSON.
-    fn show<W: Write>(self, alloc: Global, given: Given<'_>, out: &mut W) -> Status
+    fn show<W: Write>(
+        self,
+        alloc: Global,
+        given: Given<'_>,
+        out: &mut W,
+        assembled: &mut Assembled,
+    ) -> Status
         ensures { IfOk result (λ s. (o : Output)
             × def.Shows self.entry given.entry.text.now given.entry.trace.now o
             × Writes (W.contents out.old) (W.contents out.new) s o) }
@@ -78,14 +92,14 @@ impl Showing<'_> {
         match self {
             Showing::View(view) => {
                 if view.json {
-                    write_views(alloc, view.wanted, text, trace, out)
+                    write_views(alloc, view.wanted, text, trace, out, assembled)
                 } else {
-                    write_view(alloc, view.wanted, text, trace, out)
+                    write_view(alloc, view.wanted, text, trace, out, assembled)
                 }
             }
-            Showing::Run => explain_run(alloc, text, trace, out),
+            Showing::Run => explain_run(alloc, text, trace, out, assembled),
             Showing::Picture { options, files } => {
-                draw(alloc, options, Some(files), text, trace, out)
+                draw(alloc, options, Some(files), text, trace, out, assembled)
             }
             Showing::Story(story) => {
                 let options = story.wanted;
@@ -95,7 +109,7 @@ impl Showing<'_> {
                         text,
                         trace,
                     };
-                    write_stories(alloc, asked, out)
+                    write_stories(alloc, asked, out, assembled)
                 } else {
                     tell(alloc, options, text, trace, out)
                 }
@@ -105,18 +119,19 @@ impl Showing<'_> {
 }
 
 /// Adds which event of a trace, which may be in the short form, is the first that did nothing.
-fn remark_idle(status: u8, text: Named<'_>, trace: Named<'_>, remarks: &mut Remarks) {
+fn remark_idle(status: u8, assembled: &Assembled, trace: Named<'_>, remarks: &mut Remarks) {
     match in_full(remarks.alloc, trace.text) {
         Ok(Some(full)) => {
             let trace = Named::new(trace.name, full.as_slice());
-            remarks.idle(status, "event", text.text, trace);
+            remarks.idle(status, "event", assembled.program.as_ref(), trace);
         }
-        Ok(None) => remarks.idle(status, "event", text.text, trace),
+        Ok(None) => remarks.idle(status, "event", assembled.program.as_ref(), trace),
         Err(_) => {}
     }
 }
 
 /// Writes what is shown of a text and a trace, which may be in the short form, and returns the status.
+/// `assembled` gets the fault of the text, or its program, for `remark`.
 ///
 /// # Errors
 ///
@@ -127,6 +142,7 @@ pub fn show_in_full<W: Write>(
     text: &[u8],
     trace: &[u8],
     out: &mut W,
+    assembled: &mut Assembled,
 ) -> Status
     ensures { IfOk result (λ s. (o : Output) × def.ShowsInFull showing.entry text.now trace.now o
         × Writes (W.contents out.old) (W.contents out.new) s o) }
@@ -134,9 +150,9 @@ pub fn show_in_full<W: Write>(
     match in_full(alloc, trace) {
         Ok(Some(full)) => {
             let trace = full.as_slice();
-            showing.show(alloc, Given { text, trace }, out)
+            showing.show(alloc, Given { text, trace }, out, assembled)
         }
-        Ok(None) => showing.show(alloc, Given { text, trace }, out),
+        Ok(None) => showing.show(alloc, Given { text, trace }, out, assembled),
         Err(_) => failed(TakeError::Memory, out),
     }
 }

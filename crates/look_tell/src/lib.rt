@@ -12,5 +12,5 @@ mod words;
 
 pub use line::Telling;
 pub use story::Story;
-pub use telling::tell;
+pub use telling::{story_of_program, tell};
 pub use words::Told;

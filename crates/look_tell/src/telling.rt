@@ -82,7 +82,11 @@ impl Asked<'_, '_> {
 }
 
 /// The story of a text with this program.
-fn of_program(
+///
+/// # Errors
+///
+/// Memory ran out.
+pub fn story_of_program(
     alloc: Global,
     options: TellOptions,
     program: &Program,
@@ -110,7 +114,7 @@ fn story_of(
     ensures { Prints result (def.Tells options (judged text.now) text.now trace.now) }
 {
     let program = program_of(alloc, text)?;
-    Ok(of_program(alloc, options, &program, text, trace)?)
+    Ok(story_of_program(alloc, options, &program, text, trace)?)
 }
 
 /// Writes the story of a text's run of a trace, a line for each event that others can notice, and

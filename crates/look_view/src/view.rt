@@ -12,7 +12,7 @@ use look_options::ViewOptions;
 use std::alloc::{AllocError, Global};
 use std::io;
 use sts_asm::AsmError;
-use sts_output::{Output, Status, text_fault, trace_fault};
+use sts_output::{Assembled, Output, Status, text_fault, trace_fault};
 use sts_trace::TraceError;
 
 /// A view with the lines and the names of this text. It reads them if the text and its trace have
@@ -41,7 +41,7 @@ impl<'t> Form for ViewOfText<'t> {
 }
 
 /// Writes the view of a text's run of a trace, with the lines and the names of the text, and returns
-/// the status.
+/// the status. `assembled` gets the program, or the fault of the text.
 ///
 /// It takes all its memory before the first byte is written.
 ///
@@ -54,9 +54,17 @@ pub fn write_view<W: io::Write>(
     text: &[u8],
     trace: &[u8],
     out: &mut W,
+    assembled: &mut Assembled,
 ) -> Status
     ensures { IfOk result (λ s. (o : Output) × def.IsNamedViewOf wanted text.now trace.now o
         × Writes (W.contents out.old) (W.contents out.new) s o) }
 {
-    write_run(alloc, &ViewOfText { wanted, text }, text, trace, out)
+    write_run(
+        alloc,
+        &ViewOfText { wanted, text },
+        text,
+        trace,
+        out,
+        assembled,
+    )
 }

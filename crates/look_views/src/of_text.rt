@@ -20,7 +20,7 @@ use serde_json::Value;
 use std::alloc::{AllocError, Global};
 use std::io::Write;
 use sts_asm::AsmError;
-use sts_output::{Output, Status};
+use sts_output::{Assembled, Output, Status};
 use sts_trace::TraceError;
 
 /// The status for a fault of a text or a trace.
@@ -116,7 +116,7 @@ impl<'t> Form for ViewsOfText<'t> {
 }
 
 /// Writes the views of a text's run of a trace as lines of JSON, with the names of the text, and
-/// returns the status.
+/// returns the status. `assembled` gets the program, or the fault of the text.
 ///
 /// It takes all its memory before the first byte is written.
 ///
@@ -129,9 +129,17 @@ pub fn write_views<W: Write>(
     text: &[u8],
     trace: &[u8],
     out: &mut W,
+    assembled: &mut Assembled,
 ) -> Status
     ensures { IfOk result (λ s. (o : AnyOutput) × def.AreViewsOf wanted text.now trace.now o
         × Writes (W.contents out.old) (W.contents out.new) s o) }
 {
-    write_run(alloc, &ViewsOfText { wanted, text }, text, trace, out)
+    write_run(
+        alloc,
+        &ViewsOfText { wanted, text },
+        text,
+        trace,
+        out,
+        assembled,
+    )
 }

@@ -18,20 +18,45 @@ use std::sync::Wait;
 use std::thread::Threads;
 use sts_model::Event;
 use sts_output::{
-    Mode, Output, Status, Stopped, TakeError, failed, list, plain, split, verify, write_shown,
-    written,
+    Assembled, Mode, Output, Status, Stopped, TakeError, failed, list, plain, split, verify,
+    write_shown, written,
 };
 use sts_trace::write_trace;
 
-fn output(alloc: Global, mode: Mode, text: &[u8], trace: &[u8]) -> Result<Output, Stopped>
+fn output(
+    alloc: Global,
+    mode: Mode,
+    text: &[u8],
+    trace: &[u8],
+    assembled: &mut Assembled,
+) -> Result<Output, Stopped>
     ensures { Prints result (def.Shows mode text.now trace.now) }
 {
     match mode {
-        Mode::Plain => plain::after_trace(alloc, text, trace),
-        Mode::Replay => replay::replayed(alloc, text, trace),
-        Mode::List => list::listed(alloc, text),
-        Mode::Verify => verify::verified(alloc, text),
+        Mode::Plain => plain::after_trace(alloc, text, trace, assembled),
+        Mode::Replay => replay::replayed(alloc, text, trace, assembled),
+        Mode::List => list::listed(alloc, text, assembled),
+        Mode::Verify => verify::verified(alloc, text, assembled),
     }
+}
+
+/// Does what `play` does. `assembled` gets the fault of the text, or the program if it was run.
+///
+/// # Errors
+///
+/// A write failed.
+pub(crate) fn play_once<W: Write>(
+    alloc: Global,
+    mode: Mode,
+    text: &[u8],
+    trace: &[u8],
+    out: &mut W,
+    assembled: &mut Assembled,
+) -> Status
+    ensures { IfOk result (λ s. (o : def.Output) × def.IsOutputOf mode text.now trace.now o
+        × def.Writes (W.contents out.old) (W.contents out.new) s o) }
+{
+    write_shown(output(alloc, mode, text, trace, assembled), out)
 }
 
 /// Does what the mode asks for with a text and a trace, writes the output, and gives the status.
@@ -45,7 +70,7 @@ pub fn play<W: Write>(alloc: Global, mode: Mode, text: &[u8], trace: &[u8], out:
     ensures { IfOk result (λ s. (o : def.Output) × def.IsOutputOf mode text.now trace.now o
         × def.Writes (W.contents out.old) (W.contents out.new) s o) }
 {
-    write_shown(output(alloc, mode, text, trace), out)
+    play_once(alloc, mode, text, trace, out, &mut Assembled::new())
 }
 
 /// Does what `play` does in mode `Plain`. The text goes up to the first line that is exactly `%`,
@@ -72,10 +97,11 @@ fn traced<T: Write>(journal: &[Event], trace: &mut T) -> io::Result<()>
     trace.flush()
 }
 
-/// What a run leaves for standard error: why the trace was not written, and the outside events that
-/// came.
+/// What a run leaves for standard error: what was found in the text, why the trace was not written,
+/// and the outside events that came.
 #[derive(Drop)]
 pub(crate) struct Aside {
+    pub(crate) assembled: Assembled,
     pub(crate) unwritten: Option<io::Error>,
     pub(crate) came: Option<Came>,
 }
@@ -83,6 +109,7 @@ pub(crate) struct Aside {
 impl Aside {
     pub(crate) fn new() -> Aside {
         Aside {
+            assembled: Assembled::new(),
             unwritten: None,
             came: None,
         }
@@ -148,7 +175,8 @@ pub(crate) fn play_untraced<R: Threads + Wait + Sync, W: Write>(
         workers: job.workers,
         kept: false,
     };
-    match run::outcome(rt, alloc, job.text, manner, job.outside) {
+    let assembled = &mut aside.assembled;
+    match run::outcome(rt, alloc, job.text, manner, job.outside, assembled) {
         Ok(mut ran) => print_ran(&mut ran, out, aside),
         Err(_) => failed(TakeError::Memory, out),
     }
@@ -173,7 +201,8 @@ pub(crate) fn play_traced<R: Threads + Wait + Sync, T: Write, W: Write>(
         workers: job.workers,
         kept: true,
     };
-    match run::outcome(rt, alloc, job.text, manner, job.outside) {
+    let assembled = &mut aside.assembled;
+    match run::outcome(rt, alloc, job.text, manner, job.outside, assembled) {
         Ok(mut ran) => write_ran(&mut ran, trace, out, aside),
         Err(_) => failed(TakeError::Memory, out),
     }

@@ -10,7 +10,7 @@ ghost use Rattle.sts_output.specs.Joined.{halves_of};
 ghost use Rattle.sts_output.specs.Output.{IsOutputOf, Output, Writes};
 ghost use Rattle.sts_output.specs.Streams.{Files as AnyFiles, SameFile, same_file};
 
-use crate::playing::{Aside, Job, play, play_traced, play_untraced};
+use crate::playing::{Aside, Job, play_once, play_traced, play_untraced};
 use crate::remarks::remark_outside;
 use std::alloc::{AllocError, Global};
 use std::io::{Input, Write};
@@ -19,9 +19,9 @@ use std::sync::Wait;
 use std::thread::Threads;
 use sts_args::{LineError, asked, line};
 use sts_output::{
-    Events, Host, Mode, NOT_TEXT, Named, Notes, STATUS_OUTSIDE, Sinks, Sources, Status, TakeError,
-    Texts, WordsError, borrowed, failed, file_failed, made, placeholder, read_input, read_text,
-    read_texts, split, words, written,
+    Assembled, Events, Host, Mode, NOT_TEXT, Named, Notes, STATUS_OUTSIDE, Sinks, Sources, Status,
+    TakeError, Texts, WordsError, borrowed, failed, file_failed, made, placeholder, read_input,
+    read_text, read_texts, split, words, written,
 };
 use sts_remarks::{Remarks, Watched};
 
@@ -39,8 +39,9 @@ fn play_text<W: Write>(
     ensures { IfOk result (λ s. (o : Output) × IsOutputOf mode text.entry.text.now [] o
         × Writes (W.contents out.old) (W.contents out.new) s o) }
 {
-    let status = play(alloc, mode, text.text, &[], out)?;
-    notes.status(status, text, Events::None);
+    let mut assembled = Assembled::new();
+    let status = play_once(alloc, mode, text.text, &[], out, &mut assembled)?;
+    notes.status(status, text, assembled.fault, Events::None);
     Ok(status)
 }
 
@@ -82,9 +83,12 @@ fn play_trace<W: Write>(
         × IsOutputOf mode text.entry.text.now trace.entry.text.now o
         × Writes (W.contents out.old) (W.contents out.new) s o) }
 {
-    let status = play(remarks.alloc, mode, text.text, trace.text, out)?;
-    remarks.notes.status(status, text, Events::Trace(trace));
-    remarks.idle(status, "line", text.text, trace);
+    let mut assembled = Assembled::new();
+    let alloc = remarks.alloc;
+    let status = play_once(alloc, mode, text.text, trace.text, out, &mut assembled)?;
+    let notes = &mut remarks.notes;
+    notes.status(status, text, assembled.fault, Events::Trace(trace));
+    remarks.idle(status, "line", assembled.program.as_ref(), trace);
     Ok(status)
 }
 
@@ -209,7 +213,8 @@ fn remark(
         remarks.notes.written(path, aside.unwritten.take());
     }
     let text = Named::new(wanted.file, texts.program.as_slice());
-    remarks.notes.status(status, text, events);
+    let fault = aside.assembled.fault;
+    remarks.notes.status(status, text, fault, events);
     if let (Events::Outside(named), Some(came)) = (events, &aside.came) {
         remark_outside(remarks, named, came);
     }

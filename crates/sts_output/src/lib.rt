@@ -2,6 +2,7 @@
 //! that workers share.
 #![tactic(auto)]
 
+mod assembled;
 mod file_error;
 mod joined;
 mod mode;
@@ -21,6 +22,7 @@ mod taking;
 mod texts;
 mod writing;
 
+pub use assembled::Assembled;
 pub use file_error::FileError;
 pub use joined::split;
 pub use mode::Mode;

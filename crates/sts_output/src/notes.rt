@@ -4,6 +4,7 @@ use crate::file_error::FileError;
 use crate::reasons::{Named, outside_reason, text_reason, trace_reason};
 use std::alloc::{AllocError, Global};
 use std::io;
+use sts_asm::AsmError;
 
 /// The status of a fault of a text, a trace or an outside text.
 const STATUS_FAULT: u8 = 3;
@@ -64,10 +65,16 @@ impl Notes {
     }
 
     /// Adds a line that says where a text or its events have a fault, or where the reason of a
-    /// refusal is.
-    pub fn status(&mut self, status: u8, text: Named<'_>, events: Events<'_>) {
+    /// refusal is. `fault` is the fault of the text, if it has one.
+    pub fn status(
+        &mut self,
+        status: u8,
+        text: Named<'_>,
+        fault: Option<AsmError>,
+        events: Events<'_>,
+    ) {
         if status == STATUS_FAULT {
-            if let Ok(Some(line)) = fault_line(self.alloc, self.program, text, events) {
+            if let Ok(Some(line)) = fault_line(self.alloc, self.program, text, fault, events) {
                 self.add(line.as_slice());
             }
         }
@@ -84,10 +91,11 @@ fn fault_line(
     alloc: Global,
     program: &str,
     text: Named<'_>,
+    fault: Option<AsmError>,
     events: Events<'_>,
 ) -> Result<Option<Vec<u8>>, AllocError> {
-    if let Some(line) = text_reason(alloc, program, text)? {
-        return Ok(Some(line));
+    if let Some(error) = fault {
+        return Ok(Some(text_reason(alloc, program, text, error)?));
     }
     match events {
         Events::None => Ok(None),

@@ -12,7 +12,7 @@ ghost use Rattle.sts_output.specs.Reasons as def;
 
 use crate::shown::{line_at, say_shown};
 use std::alloc::{AllocError, Global};
-use sts_asm::{AsmError, AsmKind, Outline, assemble, outlined};
+use sts_asm::{AsmError, AsmKind, Outline, outlined};
 use sts_code::{CodeCause, CodeError};
 use sts_trace::{TraceError, read_outside, read_trace};
 
@@ -159,44 +159,26 @@ fn fault_reason(
     line_of(alloc, program, named.name, place.as_slice(), hint)
 }
 
-/// Returns the line about a fault of the text of a program. Running out of memory is no fault of
-/// it.
-fn failed_text(
+/// Returns the line that says where the text of a program has this fault. The line begins with the
+/// name of `program`.
+///
+/// # Errors
+///
+/// Memory ran out, which is no fault of the text.
+pub fn text_reason(
     alloc: Global,
     program: &str,
     named: Named<'_>,
     error: AsmError,
-) -> Result<Option<Vec<u8>>, AllocError>
+) -> Result<Vec<u8>, AllocError>
     ensures { (read : Result AnyProgram AsmError) → FailsAt error error.kind read
-        → IfOk result (λ r. option_map (λ line. line.items) r
+        → IfOk result (λ line. Some line.items
         ≡ def.text_reason program.now named.entry.name.now named.entry.text.now read) }
 {
     if matches!(error.kind, AsmKind::Memory) {
         return Err(AllocError);
     }
-    let line = fault_reason(alloc, program, named, error)?;
-    Ok(Some(line))
-}
-
-/// Returns the line that says where the text of a program has its fault, or `None` if it has none.
-/// The line begins with the name of `program`.
-///
-/// # Errors
-///
-/// Memory ran out.
-pub fn text_reason(
-    alloc: Global,
-    program: &str,
-    named: Named<'_>,
-) -> Result<Option<Vec<u8>>, AllocError>
-    ensures { IfOk result (λ r. option_map (λ line. line.items) r
-        ≡ def.text_reason program.now named.entry.name.now named.entry.text.now
-        (judged named.entry.text.now)) }
-{
-    match assemble(alloc, named.text) {
-        Ok(_) => Ok(None),
-        Err(error) => failed_text(alloc, program, named, error),
-    }
+    fault_reason(alloc, program, named, error)
 }
 
 /// Returns what is often wrong with a line: it ends as on Windows, or it is short for several lines.

@@ -6,6 +6,7 @@ ghost use Rattle.sts_trace.specs.Reading.{trace_read};
 ghost use Rattle.sts_output.specs.Output.{Output as AnyOutput, Writes};
 ghost use Rattle.sts_output.specs.Stops as def;
 
+use crate::assembled::Assembled;
 use crate::output::{Output, text_fault, trace_fault};
 use crate::taking::TakeError;
 use crate::writing::{Status, failed, written};
@@ -36,17 +37,20 @@ impl From<AllocError> for Stopped {
     }
 }
 
-/// Returns the program that a text spells.
+/// Returns the program that a text spells. `assembled` gets the fault, if it has one.
 ///
 /// # Errors
 ///
 /// The text has a fault, or memory ran out.
-pub fn program_of(alloc: Global, text: &[u8]) -> Result<Program, Stopped>
+pub fn program_of(alloc: Global, text: &[u8], assembled: &mut Assembled) -> Result<Program, Stopped>
     ensures { def.Gives result (λ p. judged text.now ≡ Ok p) (def.IsTextFault (judged text.now)) }
 {
     match assemble(alloc, text) {
         Ok(program) => Ok(program),
-        Err(error) => Err(Stopped::Shown(text_fault(alloc, error)?)),
+        Err(error) => {
+            assembled.keep_fault(error);
+            Err(Stopped::Shown(text_fault(alloc, error)?))
+        }
     }
 }
 

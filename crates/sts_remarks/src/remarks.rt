@@ -4,7 +4,7 @@ use crate::idle::idle_line;
 use crate::watched::unwritten_line;
 use std::alloc::Global;
 use std::io::{ErrorKind, Write};
-use sts_asm::assemble;
+use sts_code::Program;
 use sts_output::{Named, Notes};
 use sts_trace::read_trace;
 
@@ -58,13 +58,14 @@ impl Remarks {
         }
     }
 
-    /// Adds which event of a trace is the first that did nothing, if the run has no end, and if that
-    /// event is among the first 64 KiB. Events count from 1, and `unit` is the word before the number.
-    pub fn idle(&mut self, status: u8, unit: &str, text: &[u8], trace: Named<'_>) {
+    /// Adds which event of a trace is the first that did nothing, if a program ran the trace, and the
+    /// run has no end. Only events among the first 64 KiB are looked at. Events count from 1, and
+    /// `unit` is the word before the number.
+    pub fn idle(&mut self, status: u8, unit: &str, program: Option<&Program>, trace: Named<'_>) {
         if status != STATUS_NO_END {
             return;
         }
-        let Ok(program) = assemble(self.alloc, text) else {
+        let Some(program) = program else {
             return;
         };
         let Ok(events) = read_trace(self.alloc, beginning(trace.text)) else {
@@ -75,7 +76,7 @@ impl Remarks {
             self.program,
             trace.name,
             unit,
-            &program,
+            program,
             events.as_slice(),
         );
         if let Ok(Some(line)) = line {

@@ -10,7 +10,7 @@ ghost use Rattle.sts_output.specs.Stops.{Prints};
 use std::alloc::{AllocError, Global};
 use sts_machine::replay;
 use sts_model::{End, Event};
-use sts_output::{Output, Stopped, events_of, output, program_of, verified_of};
+use sts_output::{Assembled, Output, Stopped, events_of, output, program_of, verified_of};
 use sts_plain::PlainState;
 use sts_verify::Verified;
 
@@ -24,7 +24,8 @@ fn state_of(root_end: Option<End>) -> PlainState
     }
 }
 
-/// Runs the events on the fast machine.
+/// Runs the events on the fast machine. Kept out of line, so that its loop stays as fast as alone.
+#[inline(never)]
 fn run(alloc: Global, verified: &Verified, events: &[Event]) -> Result<Output, AllocError>
     ensures { IfOk result (λ o. def.IsReplay verified.now events.now o) }
 {
@@ -35,17 +36,24 @@ fn run(alloc: Global, verified: &Verified, events: &[Event]) -> Result<Output, A
     output::state_output(alloc, verified.program(), state, steps)
 }
 
-/// Assembles the text, reads the trace, verifies the program and runs the events.
+/// Assembles the text, reads the trace, verifies the program and runs the events. `assembled` gets
+/// the program, or the fault of the text.
 ///
 /// # Errors
 ///
 /// The text or the trace has a fault, the program is refused, or memory ran out.
-pub fn replayed(alloc: Global, text: &[u8], trace: &[u8]) -> Result<Output, Stopped>
+pub fn replayed(
+    alloc: Global,
+    text: &[u8],
+    trace: &[u8],
+    assembled: &mut Assembled,
+) -> Result<Output, Stopped>
     ensures { Prints result (def.ReplayShows (judged text.now) trace.now) }
 {
-    let program = program_of(alloc, text)?;
+    let program = program_of(alloc, text, assembled)?;
     let events = events_of(alloc, trace)?;
     let verified = verified_of(alloc, program)?;
     let output = run(alloc, &verified, events.as_slice())?;
+    assembled.program = Some(verified.into_program());
     Ok(output)
 }

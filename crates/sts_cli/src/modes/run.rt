@@ -16,7 +16,7 @@ use std::thread::Threads;
 use sts_asm::assemble;
 use sts_code::{MAX_OUTSIDE, Program};
 use sts_model::{End, Event};
-use sts_output::{Output, accepted, output, printed, verify};
+use sts_output::{Assembled, Output, accepted, output, printed, verify};
 use sts_pool::{Gate, PoolError, Report, run_with_journal};
 use sts_trace::read_outside;
 use sts_verify::Verified;
@@ -163,7 +163,8 @@ fn with_outside<R: Threads + Wait + Sync>(
     }
 }
 
-/// Assembles the text, reads the outside text, verifies the program and runs it.
+/// Assembles the text, reads the outside text, verifies the program and runs it. `assembled` gets
+/// the fault of the text.
 ///
 /// # Errors
 ///
@@ -174,11 +175,15 @@ pub(crate) fn outcome<R: Threads + Wait + Sync>(
     text: &[u8],
     manner: Manner,
     outside: &[u8],
+    assembled: &mut Assembled,
 ) -> Result<Ran, AllocError>
     ensures { IfOk result (def.Holds manner.kept (def.TextRuns (judged text.now) outside.now)) }
 {
     match assemble(alloc, text) {
         Ok(program) => with_outside(rt, alloc, program, manner, outside),
-        Err(error) => Ok(alone(alloc, output::text_fault(alloc, error)?)),
+        Err(error) => {
+            assembled.keep_fault(error);
+            Ok(alone(alloc, output::text_fault(alloc, error)?))
+        }
     }
 }

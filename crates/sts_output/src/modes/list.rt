@@ -5,19 +5,20 @@ ghost use Rattle.sts_asm.specs.Text.{judged};
 ghost use Rattle.sts_output.specs.Output as def;
 ghost use Rattle.sts_output.specs.Stops.{Prints};
 
+use crate::assembled::Assembled;
 use crate::output::Output;
 use crate::stopped::{Stopped, program_of};
 use std::alloc::Global;
 
-/// Assembles the text and lists the program.
+/// Assembles the text and lists the program. `assembled` gets the fault of the text.
 ///
 /// # Errors
 ///
 /// The text has a fault, or memory ran out.
-pub fn listed(alloc: Global, text: &[u8]) -> Result<Output, Stopped>
+pub fn listed(alloc: Global, text: &[u8], assembled: &mut Assembled) -> Result<Output, Stopped>
     ensures { Prints result (λ o. o ≡ def.list_output (judged text.now)) }
 {
-    let program = program_of(alloc, text)?;
+    let program = program_of(alloc, text, assembled)?;
     let listing = sts_list::list(alloc, &program)?;
     Ok(Output::of(listing, 0))
 }

@@ -5,6 +5,7 @@ ghost use Rattle.sts_asm.specs.Text.{judged};
 ghost use Rattle.sts_output.specs.Output as def;
 ghost use Rattle.sts_output.specs.Stops.{Prints};
 
+use crate::assembled::Assembled;
 use crate::output;
 use crate::output::Output;
 use crate::stopped::{Stopped, events_of, program_of};
@@ -22,16 +23,23 @@ fn run(alloc: Global, program: &Program, events: &[Event]) -> Result<Output, All
     output::state_output(alloc, program, plain.state(), plain.steps())
 }
 
-/// Assembles the text and runs the trace on the plain machine.
+/// Assembles the text and runs the trace on the plain machine. `assembled` gets the program, or the
+/// fault of the text.
 ///
 /// # Errors
 ///
 /// The text or the trace has a fault, or memory ran out.
-pub fn after_trace(alloc: Global, text: &[u8], trace: &[u8]) -> Result<Output, Stopped>
+pub fn after_trace(
+    alloc: Global,
+    text: &[u8],
+    trace: &[u8],
+    assembled: &mut Assembled,
+) -> Result<Output, Stopped>
     ensures { Prints result (λ o. o ≡ def.plain_output (judged text.now) trace.now) }
 {
-    let program = program_of(alloc, text)?;
+    let program = program_of(alloc, text, assembled)?;
     let events = events_of(alloc, trace)?;
     let output = run(alloc, &program, events.as_slice())?;
+    assembled.program = Some(program);
     Ok(output)
 }

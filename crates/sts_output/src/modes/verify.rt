@@ -6,6 +6,7 @@ ghost use Rattle.sts_asm.specs.Text.{judged};
 ghost use Rattle.sts_output.specs.Output as def;
 ghost use Rattle.sts_output.specs.Stops.{Prints};
 
+use crate::assembled::Assembled;
 use crate::output::Output;
 use crate::printed;
 use crate::refusal::verified_of;
@@ -54,15 +55,15 @@ fn told(alloc: Global, verified: &Verified) -> Result<Output, AllocError>
     Ok(Output::of(text, 0))
 }
 
-/// Assembles the text and verifies the program.
+/// Assembles the text and verifies the program. `assembled` gets the fault of the text.
 ///
 /// # Errors
 ///
 /// The text has a fault, the program is refused, or memory ran out.
-pub fn verified(alloc: Global, text: &[u8]) -> Result<Output, Stopped>
+pub fn verified(alloc: Global, text: &[u8], assembled: &mut Assembled) -> Result<Output, Stopped>
     ensures { Prints result (def.VerifyShows (judged text.now)) }
 {
-    let program = program_of(alloc, text)?;
+    let program = program_of(alloc, text, assembled)?;
     let verified = verified_of(alloc, program)?;
     let output = told(alloc, &verified)?;
     Ok(output)
