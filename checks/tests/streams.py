@@ -403,6 +403,11 @@ def reasons(program, look, folder):
         (["verify", empty], f"{empty}: the text must end with a function main 0, without needs; ./look explain FILE says more"),
         (["verify", long], f"{long}: the text has more than 1048576 bytes; ./look explain FILE says more"),
         (["verify", many], f'{many}, line 2: "push 1": the text has more than 64 functions; ./look explain FILE says more'),
+        (["plain", text, TRACE], f'{text}, line 2: "puhs 7"; ./look explain FILE says more'),
+        (["replay", text, bad], f'{text}, line 2: "puhs 7"; ./look explain FILE says more'),
+        (["list", text], f'{text}, line 2: "puhs 7"; ./look explain FILE says more'),
+        (["run", text, "--workers", "2"], f'{text}, line 2: "puhs 7"; ./look explain FILE says more'),
+        (["run", text, "--workers", "2", "--outside", bad], f'{text}, line 2: "puhs 7"; ./look explain FILE says more'),
         (["plain", SUM, windows], f'{windows}, line 1: "step 0?": a carriage return comes before its newline; ./look explain FILE TRACE says more'),
         (["plain", SUM, short], f'{short}, line 2: "0*6 1*4": checks/write_trace.py writes short traces in full; ./look explain FILE TRACE says more'),
         (["run", SUM, "--workers", "2", "--outside", due], f'{due}, line 1: "at 0 interrupt 0?": a carriage return comes before its newline; docs/LANGUAGE.md#outside-events says more'),
@@ -418,6 +423,9 @@ def reasons(program, look, folder):
         (["view", SUM, bad], f'{bad}, line 2: " step"; ./look explain FILE TRACE says more'),
         (["draw", SUM, bad], f'{bad}, line 2: " step"; ./look explain FILE TRACE says more'),
         (["view", text, TRACE], f'{text}, line 2: "puhs 7"; ./look explain FILE says more'),
+        (["view", "--json", text, bad], f'{text}, line 2: "puhs 7"; ./look explain FILE says more'),
+        (["draw", text, TRACE], f'{text}, line 2: "puhs 7"; ./look explain FILE says more'),
+        (["tell", "--json", text, TRACE], f'{text}, line 2: "puhs 7"; ./look explain FILE says more'),
         (["ends", SUM, "--trace", "1", "/dev/full"], "cannot write /dev/full: no space is left"),
     ):
         yield f"why by look {words}", told(look, words), f"look: {line}\n"

@@ -49,7 +49,7 @@ fn on_texts<S: Sources, W: Write>(
     match read_texts(alloc, sources, path, Some(trace)) {
         Ok(texts) => {
             let (text, events) = (texts.program.as_slice(), texts.events.as_slice());
-            let mut assembled = Assembled::new();
+            let mut assembled = Assembled::Nothing;
             let status = show_in_full(alloc, showing, text, events, out, &mut assembled)?;
             showing.remark(
                 status,

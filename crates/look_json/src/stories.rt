@@ -66,8 +66,9 @@ fn told(alloc: Global, asked: StoryOf<'_>, assembled: &mut Assembled) -> Result<
     match assemble(alloc, asked.text) {
         Ok(program) => of_trace(alloc, asked, &program),
         Err(error) => {
-            assembled.keep_fault(error);
-            faulty_text(alloc, error)
+            let line = faulty_text(alloc, error)?;
+            *assembled = Assembled::Fault(error);
+            Ok(line)
         }
     }
 }

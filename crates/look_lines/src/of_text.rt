@@ -55,12 +55,13 @@ pub fn shown<F: Form>(
     match assemble(alloc, text) {
         Ok(program) => {
             let shown = traced(alloc, form, &program, trace)?;
-            assembled.program = Some(program);
+            *assembled = Assembled::Program(program);
             Ok(shown)
         }
         Err(error) => {
-            assembled.keep_fault(error);
-            form.of_text_fault(alloc, error)
+            let shown = form.of_text_fault(alloc, error)?;
+            *assembled = Assembled::Fault(error);
+            Ok(shown)
         }
     }
 }

@@ -53,21 +53,21 @@ pub(crate) fn print(
     ensures { IfOk result (λ s. (o : Output) × Prints asked text.now trace.now o
         × Writes (Some printed.old.items) (Some printed.new.items) s o) }
 {
-    let found = &mut Assembled::new();
+    let unused = &mut Assembled::Nothing;
     match asked {
-        Asked::Verify => write_shown(verify::verified(alloc, text, found), printed),
-        Asked::List => write_shown(list::listed(alloc, text, found), printed),
-        Asked::Plain => write_shown(plain::after_trace(alloc, text, trace, found), printed),
-        Asked::View(wanted) => write_run(alloc, &wanted, text, trace, printed, found),
-        Asked::NamedView(wanted) => write_view(alloc, wanted, text, trace, printed, found),
+        Asked::Verify => write_shown(verify::verified(alloc, text, unused), printed),
+        Asked::List => write_shown(list::listed(alloc, text, unused), printed),
+        Asked::Plain => write_shown(plain::after_trace(alloc, text, trace, unused), printed),
+        Asked::View(wanted) => write_run(alloc, &wanted, text, trace, printed, unused),
+        Asked::NamedView(wanted) => write_view(alloc, wanted, text, trace, printed, unused),
         Asked::Explanation => write_named(alloc, text, printed),
-        Asked::RunExplanation => explain_run(alloc, text, trace, printed, found),
+        Asked::RunExplanation => explain_run(alloc, text, trace, printed, unused),
         Asked::Picture { brief } => {
             let options = DrawOptions {
                 window: Some(ALL),
                 brief,
             };
-            draw(alloc, options, None, text, trace, printed, found)
+            draw(alloc, options, None, text, trace, printed, unused)
         }
         Asked::Ends(wanted) => write_ends(alloc, wanted, text, &mut Silent, printed),
     }

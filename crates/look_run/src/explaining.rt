@@ -61,7 +61,7 @@ fn explanation(
     let program = program_of(alloc, text)?;
     let names = Names::read(alloc, text)?;
     let output = of_trace(alloc, &names, &program, trace)?;
-    assembled.program = Some(program);
+    *assembled = Assembled::Program(program);
     Ok(output)
 }
 

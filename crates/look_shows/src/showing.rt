@@ -68,7 +68,7 @@ impl Showing<'_> {
     ) {
         if !self.says_faults() {
             let notes = &mut remarks.notes;
-            notes.status(status, text, assembled.fault, Events::Trace(trace));
+            notes.status(status, text, assembled.fault(), Events::Trace(trace));
         }
         if !self.says_idle() {
             remark_idle(status, assembled, trace, remarks);
@@ -123,15 +123,15 @@ fn remark_idle(status: u8, assembled: &Assembled, trace: Named<'_>, remarks: &mu
     match in_full(remarks.alloc, trace.text) {
         Ok(Some(full)) => {
             let trace = Named::new(trace.name, full.as_slice());
-            remarks.idle(status, "event", assembled.program.as_ref(), trace);
+            remarks.idle(status, "event", assembled.program(), trace);
         }
-        Ok(None) => remarks.idle(status, "event", assembled.program.as_ref(), trace),
+        Ok(None) => remarks.idle(status, "event", assembled.program(), trace),
         Err(_) => {}
     }
 }
 
 /// Writes what is shown of a text and a trace, which may be in the short form, and returns the status.
-/// `assembled` gets the fault of the text, or its program, for `remark`.
+/// `assembled` gets what `remark` needs of the text.
 ///
 /// # Errors
 ///

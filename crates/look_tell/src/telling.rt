@@ -81,7 +81,7 @@ impl Asked<'_, '_> {
     }
 }
 
-/// The story of a text with this program.
+/// Returns the story of a text that spells this program.
 ///
 /// # Errors
 ///

@@ -40,12 +40,12 @@ fn output(
     }
 }
 
-/// Does what `play` does. `assembled` gets the fault of the text, or the program if it was run.
+/// Does what `play` does. `assembled` gets the fault of the text, or the program that ran the trace.
 ///
 /// # Errors
 ///
 /// A write failed.
-pub(crate) fn play_once<W: Write>(
+pub(crate) fn play_and_keep<W: Write>(
     alloc: Global,
     mode: Mode,
     text: &[u8],
@@ -70,7 +70,7 @@ pub fn play<W: Write>(alloc: Global, mode: Mode, text: &[u8], trace: &[u8], out:
     ensures { IfOk result (λ s. (o : def.Output) × def.IsOutputOf mode text.now trace.now o
         × def.Writes (W.contents out.old) (W.contents out.new) s o) }
 {
-    play_once(alloc, mode, text, trace, out, &mut Assembled::new())
+    play_and_keep(alloc, mode, text, trace, out, &mut Assembled::Nothing)
 }
 
 /// Does what `play` does in mode `Plain`. The text goes up to the first line that is exactly `%`,
@@ -109,7 +109,7 @@ pub(crate) struct Aside {
 impl Aside {
     pub(crate) fn new() -> Aside {
         Aside {
-            assembled: Assembled::new(),
+            assembled: Assembled::Nothing,
             unwritten: None,
             came: None,
         }

@@ -10,7 +10,7 @@ ghost use Rattle.sts_output.specs.Joined.{halves_of};
 ghost use Rattle.sts_output.specs.Output.{IsOutputOf, Output, Writes};
 ghost use Rattle.sts_output.specs.Streams.{Files as AnyFiles, SameFile, same_file};
 
-use crate::playing::{Aside, Job, play_once, play_traced, play_untraced};
+use crate::playing::{Aside, Job, play_and_keep, play_traced, play_untraced};
 use crate::remarks::remark_outside;
 use std::alloc::{AllocError, Global};
 use std::io::{Input, Write};
@@ -39,9 +39,9 @@ fn play_text<W: Write>(
     ensures { IfOk result (λ s. (o : Output) × IsOutputOf mode text.entry.text.now [] o
         × Writes (W.contents out.old) (W.contents out.new) s o) }
 {
-    let mut assembled = Assembled::new();
-    let status = play_once(alloc, mode, text.text, &[], out, &mut assembled)?;
-    notes.status(status, text, assembled.fault, Events::None);
+    let mut assembled = Assembled::Nothing;
+    let status = play_and_keep(alloc, mode, text.text, &[], out, &mut assembled)?;
+    notes.status(status, text, assembled.fault(), Events::None);
     Ok(status)
 }
 
@@ -83,12 +83,12 @@ fn play_trace<W: Write>(
         × IsOutputOf mode text.entry.text.now trace.entry.text.now o
         × Writes (W.contents out.old) (W.contents out.new) s o) }
 {
-    let mut assembled = Assembled::new();
+    let mut assembled = Assembled::Nothing;
     let alloc = remarks.alloc;
-    let status = play_once(alloc, mode, text.text, trace.text, out, &mut assembled)?;
+    let status = play_and_keep(alloc, mode, text.text, trace.text, out, &mut assembled)?;
     let notes = &mut remarks.notes;
-    notes.status(status, text, assembled.fault, Events::Trace(trace));
-    remarks.idle(status, "line", assembled.program.as_ref(), trace);
+    notes.status(status, text, assembled.fault(), Events::Trace(trace));
+    remarks.idle(status, "line", assembled.program(), trace);
     Ok(status)
 }
 
@@ -213,7 +213,7 @@ fn remark(
         remarks.notes.written(path, aside.unwritten.take());
     }
     let text = Named::new(wanted.file, texts.program.as_slice());
-    let fault = aside.assembled.fault;
+    let fault = aside.assembled.fault();
     remarks.notes.status(status, text, fault, events);
     if let (Events::Outside(named), Some(came)) = (events, &aside.came) {
         remark_outside(remarks, named, came);

@@ -6,6 +6,8 @@ use Rattle.sts_model.specs.declared.event.Event.{Event}
 use Rattle.sts_asm.specs.declared.fault.AsmError.{AsmError}
 use Rattle.sts_trace.specs.declared.error.TraceError.{TraceError}
 use Rattle.sts_output.specs.Output.{Output, memory_output, text_fault_output, trace_fault_output}
+use Rattle.sts_output.specs.declared.assembled.Assembled.{Assembled}
+use Rattle.sts_output.specs.declared.assembled.Assembled.TheVariants.{Fault}
 use Rattle.sts_output.specs.declared.stopped.Stopped.{Stopped}
 use Rattle.sts_output.specs.declared.stopped.Stopped.TheVariants as stopped
 
@@ -27,6 +29,10 @@ pub record IsTextFault (read : Result Program AsmError) (output : Output) : Type
   pub error : AsmError
   pub fault : read ≡ Err error
   pub printed : output ≡ text_fault_output error
+
+-- the fault of the text, if it has one, is kept
+abbrev pub KeepsFault : Result Program AsmError → Assembled → Type 0
+KeepsFault read assembled = (error : AsmError) → read ≡ Err error → assembled ≡ Fault error
 
 -- the output for a fault of a trace
 pub record IsTraceFault (read : Result (List Event) TraceError) (output : Output) : Type 0 where

@@ -1,31 +1,34 @@
-//! The program or the fault of a text that was assembled, for the lines on standard error.
+//! What an assembled text leaves for the lines on standard error.
 
-use sts_asm::{AsmError, AsmKind};
+use sts_asm::AsmError;
 use sts_code::Program;
 
-/// The program or the fault of a text. A mode leaves it here, so that no line on standard error
-/// assembles the text again.
+/// What an assembled text leaves for the lines on standard error, so that none of these lines needs
+/// to assemble it again.
 #[derive(Drop)]
-pub struct Assembled {
-    /// The program, if events were run.
-    pub program: Option<Program>,
-    /// The fault. Running out of memory is no fault of a text.
-    pub fault: Option<AsmError>,
+pub enum Assembled {
+    /// No line needs anything of the text.
+    Nothing,
+    /// The text has this fault. A line may say where it is.
+    Fault(AsmError),
+    /// The program ran a trace. A line may name an event that did nothing.
+    Program(Program),
 }
 
 impl Assembled {
-    /// Neither a program nor a fault.
-    pub fn new() -> Assembled {
-        Assembled {
-            program: None,
-            fault: None,
+    /// Returns the fault of the text, if it is kept.
+    pub fn fault(&self) -> Option<AsmError> {
+        match self {
+            Assembled::Fault(error) => Some(*error),
+            _ => None,
         }
     }
 
-    /// Keeps the error, if it is a fault of the text.
-    pub fn keep_fault(&mut self, error: AsmError) {
-        if !matches!(error.kind, AsmKind::Memory) {
-            self.fault = Some(error);
+    /// Returns the program, if it is kept.
+    pub fn program(&self) -> Option<&Program> {
+        match self {
+            Assembled::Program(program) => Some(program),
+            _ => None,
         }
     }
 }

@@ -6,7 +6,6 @@ ghost use Rattle.sts_asm.specs.Fault.{FailsAt};
 ghost use Rattle.sts_asm.specs.declared.fault.AsmError.{AsmError};
 ghost use Rattle.std.specs.Option.{option_copied};
 ghost use Rattle.sts_asm.specs.Source.{outlined as outlined_of};
-ghost use Rattle.sts_asm.specs.Text.{judged};
 ghost use Rattle.sts_trace.specs.Reading.{outside_read, trace_read};
 ghost use Rattle.sts_output.specs.Reasons as def;
 

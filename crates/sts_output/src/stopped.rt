@@ -1,6 +1,6 @@
 //! Why a mode or an explanation goes no further, and the steps that modes share.
 
-ghost use Rattle.std.specs.Prelude.{◌≡◌, IfOk, Ok};
+ghost use Rattle.std.specs.Prelude.{◌≡◌, IfOk, Ok, ⊤};
 ghost use Rattle.sts_asm.specs.Text.{judged};
 ghost use Rattle.sts_trace.specs.Reading.{trace_read};
 ghost use Rattle.sts_output.specs.Output.{Output as AnyOutput, Writes};
@@ -37,19 +37,23 @@ impl From<AllocError> for Stopped {
     }
 }
 
-/// Returns the program that a text spells. `assembled` gets the fault, if it has one.
+/// Returns the program that a text spells. `assembled` gets the fault, if the text has one.
 ///
 /// # Errors
 ///
 /// The text has a fault, or memory ran out.
 pub fn program_of(alloc: Global, text: &[u8], assembled: &mut Assembled) -> Result<Program, Stopped>
-    ensures { def.Gives result (λ p. judged text.now ≡ Ok p) (def.IsTextFault (judged text.now)) }
+    ensures program { def.Gives result (λ p. judged text.now ≡ Ok p)
+        (def.IsTextFault (judged text.now)) }
+    ensures fault { def.Gives result (λ _. ⊤)
+        (λ _. def.KeepsFault (judged text.now) assembled.new) }
 {
     match assemble(alloc, text) {
         Ok(program) => Ok(program),
         Err(error) => {
-            assembled.keep_fault(error);
-            Err(Stopped::Shown(text_fault(alloc, error)?))
+            let output = text_fault(alloc, error)?;
+            *assembled = Assembled::Fault(error);
+            Err(Stopped::Shown(output))
         }
     }
 }

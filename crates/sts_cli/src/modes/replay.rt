@@ -24,7 +24,8 @@ fn state_of(root_end: Option<End>) -> PlainState
     }
 }
 
-/// Runs the events on the fast machine. Kept out of line, so that its loop stays as fast as alone.
+/// Runs the events on the fast machine. The compiler would make its loop slower inside `replayed`, so
+/// it is a call of its own.
 #[inline(never)]
 fn run(alloc: Global, verified: &Verified, events: &[Event]) -> Result<Output, AllocError>
     ensures { IfOk result (λ o. def.IsReplay verified.now events.now o) }
@@ -54,6 +55,6 @@ pub fn replayed(
     let events = events_of(alloc, trace)?;
     let verified = verified_of(alloc, program)?;
     let output = run(alloc, &verified, events.as_slice())?;
-    assembled.program = Some(verified.into_program());
+    *assembled = Assembled::Program(verified.into_program());
     Ok(output)
 }

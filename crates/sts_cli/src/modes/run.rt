@@ -182,8 +182,9 @@ pub(crate) fn outcome<R: Threads + Wait + Sync>(
     match assemble(alloc, text) {
         Ok(program) => with_outside(rt, alloc, program, manner, outside),
         Err(error) => {
-            assembled.keep_fault(error);
-            Ok(alone(alloc, output::text_fault(alloc, error)?))
+            let output = output::text_fault(alloc, error)?;
+            *assembled = Assembled::Fault(error);
+            Ok(alone(alloc, output))
         }
     }
 }

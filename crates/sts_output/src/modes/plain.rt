@@ -40,6 +40,6 @@ pub fn after_trace(
     let program = program_of(alloc, text, assembled)?;
     let events = events_of(alloc, trace)?;
     let output = run(alloc, &program, events.as_slice())?;
-    assembled.program = Some(program);
+    *assembled = Assembled::Program(program);
     Ok(output)
 }

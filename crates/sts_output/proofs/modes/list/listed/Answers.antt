@@ -7,4 +7,4 @@ use Rattle.sts_output.proofs.modes.list.listed.Goals as goal
 pub returns-in_err-program : goal.returns-in_err-program
 returns-in_err-program c =
     let p = err_from_is_err_and c.from_residual.result c.from_residual.ensures.1 in
-    rw (p.1, p.2) (says_less c.in_err-program.field-0.0 _ _ (λ o h. h.printed ∙ sym (ap list_output h.fault)) c.in_err-program.ensures)
+    rw (p.1, p.2) (says_less c.in_err-program.field-0.0 _ _ (λ o h. h.printed ∙ sym (ap list_output h.fault)) c.in_err-program.ensures.program)

@@ -8,12 +8,12 @@ pub returns-in_err-program : goal.returns-in_err-program
 returns-in_err-program c =
     let trace = c.args.trace.now in
     let p = err_from_is_err_and c.from_residual.result c.from_residual.ensures.1 in
-    rw (p.1, p.2) (says_less c.in_err-program.field-0.0 _ _ (λ o h. h.printed ∙ sym (ap (λ r. plain_output r trace) h.fault)) c.in_err-program.ensures)
+    rw (p.1, p.2) (says_less c.in_err-program.field-0.0 _ _ (λ o h. h.printed ∙ sym (ap (λ r. plain_output r trace) h.fault)) c.in_err-program.ensures.program)
 
 pub returns-in_err-events : goal.returns-in_err-events
 returns-in_err-events c =
     let trace = c.args.trace.now in
-    let whole = ap (λ r. plain_output r trace) c.in_ok-program.ensures in
+    let whole = ap (λ r. plain_output r trace) c.in_ok-program.ensures.program in
     let p = err_from_is_err_and c.from_residual-in_err-events.result c.from_residual-in_err-events.ensures.1 in
     rw (p.1, p.2) (says_less c.in_err-events.field-0.0 _ _
     (λ o h. h.printed ∙ sym (whole ∙ ap (traced_output c.in_ok-program.program) h.fault)) c.in_err-events.ensures)
@@ -22,4 +22,4 @@ pub returns : goal.returns
 returns c =
     let trace = c.args.trace.now in
     c.in_ok-output.ensures ∙ ap (run_output c.in_ok-program.program) c.as_slice.ensures.value ∙ sym
-    (ap (λ r. plain_output r trace) c.in_ok-program.ensures ∙ ap (traced_output c.in_ok-program.program) c.in_ok-events.ensures)
+    (ap (λ r. plain_output r trace) c.in_ok-program.ensures.program ∙ ap (traced_output c.in_ok-program.program) c.in_ok-events.ensures)

@@ -8,15 +8,15 @@ use Rattle.sts_output.proofs.modes.verify.verified.Goals as goal
 pub returns-in_err-program : goal.returns-in_err-program
 returns-in_err-program c =
     let p = err_from_is_err_and c.from_residual.result c.from_residual.ensures.1 in
-    rw (p.1, p.2) (says_less c.in_err-program.field-0.0 _ _ (λ o h. subst (λ r. VerifyShows r o) (sym h.fault) h.printed) c.in_err-program.ensures)
+    rw (p.1, p.2) (says_less c.in_err-program.field-0.0 _ _ (λ o h. subst (λ r. VerifyShows r o) (sym h.fault) h.printed) c.in_err-program.ensures.program)
 
 pub returns-in_err-verified : goal.returns-in_err-verified
 returns-in_err-verified c =
     let p = err_from_is_err_and c.from_residual-in_err-verified.result c.from_residual-in_err-verified.ensures.1 in
     rw (p.1, p.2) (says_less c.in_err-verified.field-0.0 _ _
-    (λ o h. subst (λ r. VerifyShows r o) (sym c.in_ok-program.ensures) (def.refused h)) c.in_err-verified.ensures)
+    (λ o h. subst (λ r. VerifyShows r o) (sym c.in_ok-program.ensures.program) (def.refused h)) c.in_err-verified.ensures)
 
 pub returns : goal.returns
 returns c =
-    subst (λ r. VerifyShows r c.in_ok-output.output) (sym c.in_ok-program.ensures)
+    subst (λ r. VerifyShows r c.in_ok-output.output) (sym c.in_ok-program.ensures.program)
     (subst (λ p. IsVerdict p c.in_ok-output.output) c.in_ok-verified.ensures c.in_ok-output.ensures)
