@@ -2,8 +2,8 @@
 use Rattle.std.specs.Prelude.{◌≡◌, ℕ, ◌<◌, List, length, slice_index_or}
 use Rattle.sts_code.specs.Program.{Program, routine}
 use Rattle.sts_rules.specs.Edges.{typing}
-use Rattle.sts_rules.specs.Flow.{IsAlone}
-use Rattle.sts_rules.specs.Refusal.{IsTypeRefusal, IsWellTyped, size}
+use Rattle.sts_rules.specs.Flow.{IsAlone, IsClear}
+use Rattle.sts_rules.specs.Refusal.{IsTypeRefusal, size}
 use Rattle.sts_rules.specs.TypeState.{TypeState}
 use Rattle.sts_types.specs.Arrivals.{none}
 use Rattle.sts_types.specs.Tables.{Tables, AreTablesOf}
@@ -15,13 +15,17 @@ pub record Typing : Type 0 where
   pub states : List TypeState
   pub loops : Tables
 
--- the function is well typed: each place is reached by its typestate and by no other. The tables are
--- those of its code
-pub record IsTyping (p : Program) (f : ℕ) (t : Typing) : Type 0 where
-  pub typed : IsWellTyped p f
+-- the first k places of the function have no cause: each is reached by its typestate and by no other.
+-- The tables are those of its code
+pub record IsTypingTo (p : Program) (f k : ℕ) (t : Typing) : Type 0 where
+  pub clear : (pc : ℕ) → pc < k → IsClear (typing p f) pc
   pub long : length t.states ≡ size p f
-  pub alone : (pc : ℕ) → pc < size p f → IsAlone (typing p f) pc (slice_index_or t.states pc none)
+  pub alone : (pc : ℕ) → pc < k → IsAlone (typing p f) pc (slice_index_or t.states pc none)
   pub loops : AreTablesOf (routine p f).code t.loops
+
+-- the function is well typed, and this is its typing
+abbrev pub IsTyping : Program → ℕ → Typing → Type 0
+IsTyping p f t = IsTypingTo p f (size p f) t
 
 -- a refusal names the first place of the function with a cause, and one cause there; running out of
 -- memory promises nothing

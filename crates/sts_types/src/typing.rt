@@ -57,6 +57,24 @@ impl Typing {
         self.marks.len()
     }
 
+    /// The typestate at a place.
+    pub fn state(&self, pc: usize) -> TypeState
+        requires { pc < length self.now.states }
+        ensures { result ≡ slice_index_or self.now.states pc def.none }
+    {
+        let mark = mark_in(self.marks[pc]);
+        let mut state = self.kept[mark.like as usize].copy();
+        state.set_height(mark.height as u8);
+        state
+    }
+
+    /// The tables of the loops.
+    pub fn tables(&self) -> &Tables
+        ensures { result.now ≡ self.now.loops }
+    {
+        &self.loops
+    }
+
     /// The open entries at a place.
     #[inline(always)]
     pub fn entries(&self, pc: usize) -> &Stack<TypedEntry, 16>
