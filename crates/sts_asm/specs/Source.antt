@@ -1,18 +1,24 @@
 -- The line of each instruction of a text, and the words of a line (this project's own).
-use Rattle.std.specs.Prelude.{ℕ, ◌-◌, List, [], Option, Some, None, option_map, Result, Err, length}
-use Rattle.std.specs.Prelude.{nat_lt, slice_get, if◌then◌else◌}
+use Rattle.std.specs.Prelude.{ℕ, ◌-◌, List, [], Option, Some, None, option_map, Result, Ok, Err}
+use Rattle.std.specs.Prelude.{length, nat_lt, slice_get, if◌then◌else◌}
 use Rattle.std.specs.List.{before_first}
 use Rattle.sts_text.specs.Words.{lines, words}
 use Rattle.sts_asm.specs.declared.fault.AsmKind.TheVariants.{TextTooLong}
 use Rattle.sts_asm.specs.declared.fault.AsmError.{AsmError}
 use Rattle.sts_asm.specs.Marks.{Mark, Names}
-use Rattle.sts_asm.specs.Outline.{Sentence, Draft, Outline, is_semicolon, outline_of}
+use Rattle.sts_asm.specs.Outline.{Sentence, Draft, Outline, empty, is_semicolon}
+use Rattle.sts_asm.specs.Outline.{outline_of}
 
 -- the functions of a text with their lines; a text that is too long has a fault instead
 abbrev pub outlined : List ℕ → Result Outline AsmError
 outlined text =
     if nat_lt 1048576 (length text) then Err (record { line = 0; kind = TextTooLong })
     else outline_of text
+
+-- the functions of a text with their lines; there is none if a line has a fault
+abbrev pub outline_or_empty : Result Outline AsmError → Outline
+outline_or_empty (Ok o) = o
+outline_or_empty (Err e) = empty
 
 -- the lines of instructions of a function, if there is one
 abbrev pub sentences_of : Option Draft → List Sentence

@@ -65,7 +65,7 @@ fn add_naming<'a>(
 }
 
 /// The lines whose instructions name a label or a function.
-fn naming_lines<'a>(
+pub(crate) fn naming_lines<'a>(
     alloc: Global,
     lines: &[Sentence<'a>],
     code: &[Instr],

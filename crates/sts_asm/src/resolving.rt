@@ -140,7 +140,7 @@ pub(crate) fn program_of<'a>(
 }
 
 /// The program of these functions, or the program check that fails.
-fn checked(profile: Profile, routines: Vec<Function>) -> Result<Program, AsmError>
+pub(crate) fn checked(profile: Profile, routines: Vec<Function>) -> Result<Program, AsmError>
     ensures { Judges (λ p. p) result
         (checked profile routines.items (program_fault routines.items)) }
 {
