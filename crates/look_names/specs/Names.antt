@@ -1,10 +1,9 @@
 -- The names of a text's lines, functions and values (this project's own).
-use Rattle.std.specs.Prelude.{ℕ, ℤ, List, [], ◌∷◌, Option, Some, None, filter, option_and_then, Result}
-use Rattle.std.specs.Prelude.{Ok, Err, slice_get, if◌then◌else◌}
+use Rattle.std.specs.Prelude.{ℕ, ℤ, List, [], ◌∷◌, Option, Some, None, filter, option_and_then}
+use Rattle.std.specs.Prelude.{slice_get, if◌then◌else◌}
 use Rattle.std.specs.Ordering.{int_eq}
-use Rattle.sts_asm.specs.Outline.{Outline, empty}
-use Rattle.sts_asm.specs.Source.{line_at, outlined}
-use Rattle.sts_asm.specs.declared.fault.AsmError.{AsmError}
+use Rattle.sts_asm.specs.Outline.{Outline}
+use Rattle.sts_asm.specs.Source.{line_at, outline_or_empty, outlined}
 use Rattle.sts_text.specs.Words.{lines}
 use Rattle.look_names.specs.Marked.{begins_function, name_in, value_in}
 
@@ -30,10 +29,6 @@ value_among (line ∷ more) v = named_by (value_in line) v (value_among more v)
 abbrev pub value_name : List ℕ → ℤ → Option (List ℕ)
 value_name text v = value_among (lines text) v
 
--- the functions of a text with their lines; a text with a fault may have none
-abbrev pub outline_or_empty : Result Outline AsmError → Outline
-outline_or_empty (Ok o) = o
-outline_or_empty (Err e) = empty
-
+-- the functions of a text with their lines; there is none if a line has a fault
 abbrev pub outline_of : List ℕ → Outline
 outline_of text = outline_or_empty (outlined text)
