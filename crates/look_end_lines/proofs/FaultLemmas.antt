@@ -1,5 +1,6 @@
 -- The output for a fault of a text.
 use Rattle.std.proofs.Common.{List, ℕ, Result, Ok, Err}
+use Rattle.sts_asm.specs.declared.fault.AsmError.{AsmError}
 use Rattle.sts_code.specs.Program.{Program}
 use Rattle.sts_output.specs.Stops.{Gives}
 use Rattle.sts_output.specs.declared.stopped.Stopped.{Stopped}
@@ -9,6 +10,6 @@ use Rattle.look_end_lines.specs.Form.{IsFaultIn}
 use Rattle.look_end_lines.specs.InLines.{lines_form}
 
 -- the output for a fault is that of the form in lines
-pub faults_in_lines : (text : List ℕ) (r : Result Program Stopped) (P : Program → Type 0) → Gives r P (IsTextFault text) → Gives r P (IsFaultIn lines_form text)
-faults_in_lines text (Ok p) P h = h
-faults_in_lines text (Err e) P h = says_less e (IsTextFault text) (IsFaultIn lines_form text) (λ o k. record { error = k.error; fault = k.fault; printed = k.printed }) h
+pub faults_in_lines : (read : Result Program AsmError) (text : List ℕ) (r : Result Program Stopped) (P : Program → Type 0) → Gives r P (IsTextFault read text) → Gives r P (IsFaultIn lines_form read text)
+faults_in_lines read text (Ok p) P h = h
+faults_in_lines read text (Err e) P h = says_less e (IsTextFault read text) (IsFaultIn lines_form read text) (λ o k. record { error = k.error; fault = k.fault; printed = k.printed }) h

@@ -1,7 +1,6 @@
 -- The forms in which the ends of a text are shown (this project's own).
-use Rattle.std.specs.Prelude.{◌≡◌, ℕ, List, Bool, Option, Err}
+use Rattle.std.specs.Prelude.{◌≡◌, ℕ, List, Bool, Option, Result, Err}
 use Rattle.sts_code.specs.Program.{Program}
-use Rattle.sts_asm.specs.Text.{judged}
 use Rattle.sts_asm.specs.declared.fault.AsmError.{AsmError}
 use Rattle.sts_output.specs.Output.{Output}
 use Rattle.ends_plain.specs.declared.config.Found.{Found}
@@ -24,8 +23,9 @@ pub record EndsForm : Type 0 where
   -- the output for a fault of the text
   pub of_text_fault : AsmError → List ℕ → Output
 
--- the output for a fault of the text
-pub record IsFaultIn (form : EndsForm) (text : List ℕ) (output : Output) : Type 0 where
+-- the output for the fault of a text that was read
+pub record IsFaultIn (form : EndsForm) (read : Result Program AsmError) (text : List ℕ)
+    (output : Output) : Type 0 where
   pub error : AsmError
-  pub fault : judged text ≡ Err error
+  pub fault : read ≡ Err error
   pub printed : output ≡ form.of_text_fault error text

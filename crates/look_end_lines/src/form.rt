@@ -1,7 +1,7 @@
 //! The forms in which the ends of a text are shown.
 
 ghost use Rattle.std.specs.Prelude.{◌≡◌, ◌++◌, IfOk, OnOk, Ok};
-ghost use Rattle.sts_asm.specs.Text.{judged};
+ghost use Rattle.sts_asm.specs.Fault.{IsJudged};
 ghost use Rattle.sts_output.specs.Stops.{Gives};
 ghost use Rattle.look_end_lines.specs.Calls.{calls_lines};
 ghost use Rattle.look_end_lines.specs.Form.{IsFaultIn};
@@ -17,6 +17,7 @@ use look_refusal::program_of;
 use look_run::Told;
 use look_text::Said;
 use std::alloc::{AllocError, Global};
+use sts_asm::AsmError;
 use sts_code::Program;
 use sts_output::Stopped;
 
@@ -51,10 +52,15 @@ pub trait EndsForm {
             called.entry.number called.entry.calls.now.found.items called.entry.calls.now.states
             called.entry.calls.now.is_cut_off) };
 
-    /// Returns the program of a text, or what is shown of its fault.
-    fn program_of(&self, alloc: Global, text: &[u8]) -> Result<Program, Stopped>
-        ensures { Gives result (λ p. judged text.now ≡ Ok p)
-            (IsFaultIn (shows self.now) text.now) };
+    /// Returns the program of a text that was read, or what is shown of its fault.
+    fn program_of(
+        &self,
+        alloc: Global,
+        read: Result<Program, AsmError>,
+        text: &[u8],
+    ) -> Result<Program, Stopped>
+        requires { IsJudged read }
+        ensures { Gives result (λ p. read ≡ Ok p) (IsFaultIn (shows self.now) read text.now) };
 }
 
 /// Appends the lines of a search.
@@ -134,7 +140,12 @@ impl EndsForm for EndLines {
         Ok(out)
     }
 
-    fn program_of(&self, alloc: Global, text: &[u8]) -> Result<Program, Stopped> {
-        program_of(alloc, text)
+    fn program_of(
+        &self,
+        alloc: Global,
+        read: Result<Program, AsmError>,
+        text: &[u8],
+    ) -> Result<Program, Stopped> {
+        program_of(alloc, read, text)
     }
 }

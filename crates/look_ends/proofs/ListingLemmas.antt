@@ -47,14 +47,14 @@ calls_of form text g number is_refused r l sound unsearched verdict printed = re
   printed = printed;
 }
 
--- the listing of the program of a text
-pub program_lists : {E : Type 0} (form : EndsForm) (text : List ℕ) (wanted : EndsOptions) (number : Option ℕ) (p : Program) (r : Result Listing E)
-    → judged text ≡ Ok p → IfOk r (ListsBy form wanted.manner text (setting p wanted) number) → IfOk r (ListsIn form (judged text) text wanted number)
-program_lists form text wanted number p r is h =
-    IfOk-weaker r (ListsBy form wanted.manner text (setting p wanted) number) (ListsIn form (judged text) text wanted number)
-    (λ l k. subst (λ (j : Result Program AsmError). ListsIn form j text wanted number l) (sym is) k) h
+-- the listing of the program of a text that was read
+pub program_lists : {E : Type 0} (form : EndsForm) (read told : Result Program AsmError) (text : List ℕ) (wanted : EndsOptions) (number : Option ℕ) (p : Program) (r : Result Listing E)
+    → read ≡ told → read ≡ Ok p → IfOk r (ListsBy form wanted.manner text (setting p wanted) number) → IfOk r (ListsIn form told text wanted number)
+program_lists form read told text wanted number p r same is h =
+    IfOk-weaker r (ListsBy form wanted.manner text (setting p wanted) number) (ListsIn form told text wanted number)
+    (λ l k. subst (λ (j : Result Program AsmError). ListsIn form j text wanted number l) (sym is ∙ same) k) h
 
 -- the output for a fault of a text, alone, is its listing
-pub fault_lists : (form : EndsForm) (text : List ℕ) (wanted : EndsOptions) (number : Option ℕ) (o : Output) (l : Listing) → l ≡ alone o → IsFaultIn form text o → ListsIn form (judged text) text wanted number l
-fault_lists form text wanted number o l is h =
-    subst (λ (j : Result Program AsmError). ListsIn form j text wanted number l) (sym h.fault) (is ∙ ap alone h.printed)
+pub fault_lists : (form : EndsForm) (read told : Result Program AsmError) (text : List ℕ) (wanted : EndsOptions) (number : Option ℕ) (o : Output) (l : Listing) → read ≡ told → l ≡ alone o → IsFaultIn form read text o → ListsIn form told text wanted number l
+fault_lists form read told text wanted number o l same is h =
+    subst (λ (j : Result Program AsmError). ListsIn form j text wanted number l) (sym h.fault ∙ same) (is ∙ ap alone h.printed)

@@ -19,7 +19,7 @@ use ends_plain::sample::{Sampling, sample_ends};
 use ends_whole::EndsByCalls;
 use look_end_lines::{Answer, EndLines, EndsForm, Sampled, Searched, found_at, has_number};
 use look_host::Progress;
-use look_names::Names;
+use look_names::{Names, ReadText, read_text};
 use look_options::{EndsOptions, Limits, Manner};
 use look_run::Told;
 use std::alloc::{AllocError, Global};
@@ -213,13 +213,12 @@ fn of_program<F: EndsForm, P: Progress>(
     program: Program,
     wanted: EndsOptions,
     number: Option<u32>,
-    text: &[u8],
+    names: &Names<'_>,
     progress: &mut P,
 ) -> Listed
-    ensures { IfOk result (def.ListsBy (F.shows form.now) wanted.manner text.now
+    ensures { IfOk result (def.ListsBy (F.shows form.now) wanted.manner names.now
         (def.setting program wanted) number) }
 {
-    let names = Names::read(alloc, text)?;
     let Judged {
         program,
         is_refused,
@@ -231,13 +230,13 @@ fn of_program<F: EndsForm, P: Progress>(
     };
     match wanted.manner {
         Manner::All { limits } => of_all(
-            alloc, form, &names, setting, is_refused, limits, number, progress,
+            alloc, form, names, setting, is_refused, limits, number, progress,
         ),
         Manner::Sample { schedules, seed } => {
-            of_sample(alloc, form, &names, &setting, schedules, seed, number)
+            of_sample(alloc, form, names, &setting, schedules, seed, number)
         }
         Manner::Calls { states } => {
-            of_calls(alloc, form, &names, &setting, is_refused, states, number)
+            of_calls(alloc, form, names, &setting, is_refused, states, number)
         }
     }
 }
@@ -269,8 +268,9 @@ pub fn listed_in<F: EndsForm, P: Progress>(
     ensures { IfOk result
         (def.ListsIn (F.shows form.now) (judged text.now) text.now wanted number) }
 {
-    match form.program_of(alloc, text) {
-        Ok(program) => of_program(alloc, form, program, wanted, number, text, progress),
+    let ReadText { names, program } = read_text(alloc, text)?;
+    match form.program_of(alloc, program, text) {
+        Ok(program) => of_program(alloc, form, program, wanted, number, &names, progress),
         Err(Stopped::Shown(output)) => Ok(alone(alloc, output)),
         Err(Stopped::Memory) => Err(AllocError),
     }

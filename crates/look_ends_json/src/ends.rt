@@ -16,7 +16,7 @@ use look_end_lines::{Bytes, Called, EndsForm, Sampled, Searched, Told, times_at}
 use look_names::Said;
 use look_views::{VERSION, faulty_text, line_at, placed, push_made};
 use std::alloc::Global;
-use sts_asm::assemble;
+use sts_asm::AsmError;
 use sts_code::{Program, name_of};
 use sts_model::Fault;
 use sts_output::Stopped;
@@ -258,8 +258,13 @@ impl EndsForm for JsonEnds {
         Ok(out.into_bytes())
     }
 
-    fn program_of(&self, alloc: Global, text: &[u8]) -> Result<Program, Stopped> {
-        match assemble(alloc, text) {
+    fn program_of(
+        &self,
+        alloc: Global,
+        read: Result<Program, AsmError>,
+        _text: &[u8],
+    ) -> Result<Program, Stopped> {
+        match read {
             Ok(program) => Ok(program),
             Err(error) => Err(Stopped::Shown(faulty_text(alloc, error)?)),
         }

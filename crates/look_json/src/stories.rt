@@ -4,67 +4,84 @@ ghost use Rattle.std.specs.Prelude.{◌≡◌, IfOk, Ok};
 ghost use Rattle.sts_asm.specs.Text.{judged};
 ghost use Rattle.sts_trace.specs.Reading.{trace_read};
 ghost use Rattle.sts_output.specs.Output as cli;
+ghost use Rattle.sts_output.specs.Stops.{KeepsFault};
 ghost use Rattle.look_tell.specs.Telling.{IsStoryOf};
 ghost use Rattle.look_json.specs.Stories as def;
 
 use crate::asked::StoryOf;
 use crate::explained::with_status;
 use crate::lines::said;
+use look_names::{Names, ReadText, read_text};
 use look_refusal::whole;
 use look_tell::story_of_program;
 use look_views::{faulty_text, faulty_trace};
 use std::alloc::{AllocError, Global};
 use std::io::Write;
-use sts_asm::assemble;
 use sts_code::Program;
 use sts_model::Event;
 use sts_output::{Assembled, Output, Status, TakeError, failed, written};
 use sts_trace::read_trace;
 
 /// What `tell` prints.
-fn story_of(alloc: Global, asked: StoryOf<'_>, program: &Program) -> Result<Output, AllocError>
-    requires { judged asked.text.now ≡ Ok program.now }
+fn story_of(
+    alloc: Global,
+    asked: StoryOf<'_>,
+    names: &Names<'_>,
+    program: &Program,
+) -> Result<Output, AllocError>
+    requires names { names.now ≡ asked.text.now }
+    requires program { judged asked.text.now ≡ Ok program.now }
     ensures { IfOk result (λ o.
         IsStoryOf asked.entry.options asked.entry.text.now asked.entry.trace.now o) }
 {
-    story_of_program(alloc, asked.options, program, asked.text, asked.trace)
+    story_of_program(alloc, asked.options, program, names, asked.trace)
 }
 
 /// The story of these events, which the trace spells.
 fn of_events(
     alloc: Global,
     asked: StoryOf<'_>,
+    names: &Names<'_>,
     program: &Program,
     events: &[Event],
 ) -> Result<Output, AllocError>
-    requires { judged asked.text.now ≡ Ok program.now }
+    requires names { names.now ≡ asked.text.now }
+    requires program { judged asked.text.now ≡ Ok program.now }
     ensures { IfOk result (λ o. def.IsStory
         asked.entry.options asked.entry.text.now asked.entry.trace.now events.now o) }
 {
-    let printed = story_of(alloc, asked, program)?;
+    let printed = story_of(alloc, asked, names, program)?;
     let story = whole(printed)?;
     let said = said(alloc, events, &story)?;
     Ok(with_status(said, &story))
 }
 
-fn of_trace(alloc: Global, asked: StoryOf<'_>, program: &Program) -> Result<Output, AllocError>
-    requires { judged asked.text.now ≡ Ok program.now }
+fn of_trace(
+    alloc: Global,
+    asked: StoryOf<'_>,
+    names: &Names<'_>,
+    program: &Program,
+) -> Result<Output, AllocError>
+    requires names { names.now ≡ asked.text.now }
+    requires program { judged asked.text.now ≡ Ok program.now }
     ensures { IfOk result (λ o. def.TellsTrace
         asked.entry.options asked.entry.text.now asked.entry.trace.now
         (trace_read asked.entry.trace.now) o) }
 {
     match read_trace(alloc, asked.trace) {
-        Ok(events) => of_events(alloc, asked, program, events.as_slice()),
+        Ok(events) => of_events(alloc, asked, names, program, events.as_slice()),
         Err(error) => faulty_trace(alloc, error),
     }
 }
 
 fn told(alloc: Global, asked: StoryOf<'_>, assembled: &mut Assembled) -> Result<Output, AllocError>
-    ensures { IfOk result (λ o. def.Tells asked.entry.options (judged asked.entry.text.now)
+    ensures told { IfOk result (λ o. def.Tells asked.entry.options (judged asked.entry.text.now)
         asked.entry.text.now asked.entry.trace.now o) }
+    ensures fault { IfOk result (λ _. KeepsFault (judged asked.entry.text.now) assembled.new) }
 {
-    match assemble(alloc, asked.text) {
-        Ok(program) => of_trace(alloc, asked, &program),
+    let ReadText { names, program } = read_text(alloc, asked.text)?;
+    match program {
+        Ok(program) => of_trace(alloc, asked, &names, &program),
         Err(error) => {
             let line = faulty_text(alloc, error)?;
             *assembled = Assembled::Fault(error);

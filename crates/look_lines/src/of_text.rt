@@ -1,17 +1,19 @@
 //! What is shown of a text and a trace, in any form.
 
 ghost use Rattle.std.specs.Prelude.{◌≡◌, IfOk};
+ghost use Rattle.sts_asm.specs.Fault.{IsJudged};
 ghost use Rattle.sts_asm.specs.Text.{judged};
 ghost use Rattle.sts_trace.specs.Reading.{trace_read};
-ghost use Rattle.sts_output.specs.Output.{Output, Writes};
+ghost use Rattle.sts_output.specs.Output.{Output as AnyOutput, Writes};
+ghost use Rattle.sts_output.specs.Stops.{KeepsFault, Prints};
 ghost use Rattle.look_lines.specs.Form as def;
 
 use crate::form::{Form, Run};
 use std::alloc::{AllocError, Global};
 use std::io::Write;
-use sts_asm::assemble;
+use sts_asm::{AsmError, Source, read};
 use sts_code::Program;
-use sts_output::{Assembled, Output, Status, TakeError, failed, written};
+use sts_output::{Assembled, Output, Status, Stopped, write_shown};
 use sts_trace::read_trace;
 
 /// Reads the trace, and returns what is shown of the run of the program.
@@ -36,8 +38,8 @@ fn traced<F: Form>(
     }
 }
 
-/// Assembles the text, reads the trace, and returns what is shown of the run, or of the fault of
-/// one of them. `assembled` gets the program, or the fault of the text.
+/// Reads the trace, and returns what is shown of the run of the program that was read, or of the
+/// fault of its text or of the trace. `assembled` gets the program, or the fault of the text.
 ///
 /// # Errors
 ///
@@ -45,14 +47,15 @@ fn traced<F: Form>(
 pub fn shown<F: Form>(
     alloc: Global,
     form: &F,
-    text: &[u8],
+    read: Result<Program, AsmError>,
     trace: &[u8],
     assembled: &mut Assembled,
 ) -> Result<Output, AllocError>
-    ensures { IfOk result (λ o. o
-        ≡ def.text_output (F.shows form.now) (judged text.now) trace.now) }
+    requires { IsJudged read }
+    ensures shown { IfOk result (λ o. o ≡ def.text_output (F.shows form.now) read trace.now) }
+    ensures fault { IfOk result (λ _. KeepsFault read assembled.new) }
 {
-    match assemble(alloc, text) {
+    match read {
         Ok(program) => {
             let shown = traced(alloc, form, &program, trace)?;
             *assembled = Assembled::Program(program);
@@ -66,8 +69,22 @@ pub fn shown<F: Form>(
     }
 }
 
-/// Writes what is shown of a text and a trace, and returns the status. `assembled` gets the program,
-/// or the fault of the text.
+fn shown_of_text<F: Form>(
+    alloc: Global,
+    form: &F,
+    text: &[u8],
+    trace: &[u8],
+    assembled: &mut Assembled,
+) -> Result<Output, Stopped>
+    ensures { Prints result (λ o. o
+        ≡ def.text_output (F.shows form.now) (judged text.now) trace.now) }
+{
+    let Source { program, .. } = read(alloc, text)?;
+    Ok(shown(alloc, form, program, trace, assembled)?)
+}
+
+/// Writes what is shown of a text and a trace, in a form without names, and returns the status.
+/// `assembled` gets the program, or the fault of the text.
 ///
 /// It takes all its memory before the first byte is written.
 ///
@@ -82,12 +99,9 @@ pub fn write_run<F: Form, W: Write>(
     out: &mut W,
     assembled: &mut Assembled,
 ) -> Status
-    ensures { IfOk result (λ s. (o : Output)
+    ensures { IfOk result (λ s. (o : AnyOutput)
         × def.IsShownOf (F.shows form.now) text.now trace.now o
         × Writes (W.contents out.old) (W.contents out.new) s o) }
 {
-    match shown(alloc, form, text, trace, assembled) {
-        Ok(output) => written(out, output.bytes.as_slice(), output.status),
-        Err(_) => failed(TakeError::Memory, out),
-    }
+    write_shown(shown_of_text(alloc, form, text, trace, assembled), out)
 }

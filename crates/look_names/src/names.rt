@@ -3,6 +3,7 @@
 ghost use Rattle.std.specs.Prelude.{◌≡◌, IfOk, ℤ, filter, map, option_copied, option_map};
 ghost use Rattle.std.specs.BTreeMap.{get};
 ghost use Rattle.std.specs.Ordering.{int_cmp};
+ghost use Rattle.sts_asm.specs.Fault.{IsJudged};
 ghost use Rattle.sts_asm.specs.Source.{sentence_at};
 ghost use Rattle.sts_asm.specs.Text.{judged};
 ghost use Rattle.sts_text.specs.Words.{lines};
@@ -64,6 +65,7 @@ pub struct ReadText<'t> {
 pub fn read_text<'t>(alloc: Global, text: &'t [u8]) -> Result<ReadText<'t>, AllocError>
     ensures names { IfOk result (λ r. r.names ≡ text.now) }
     ensures program { IfOk result (λ r. r.program ≡ judged text.now) }
+    ensures fault { IfOk result (λ r. IsJudged r.program) }
 {
     let Source { outline, program } = read(alloc, text)?;
     let names = Names::with_outline(alloc, text, outline)?;

@@ -2,8 +2,11 @@
 
 ghost use Rattle.std.specs.Prelude.{◌≡◌, ◌++◌, ◌≤◌, OnOk, IfOk, length, take, drop};
 ghost use Rattle.std.specs.String.{string_bytes};
-ghost use Rattle.sts_plain.specs.Seen.{shown};
+ghost use Rattle.sts_asm.specs.Text.{judged};
+ghost use Rattle.sts_plain.specs.Seen.{shown as shown_state};
 ghost use Rattle.sts_output.specs.Output as cli;
+ghost use Rattle.sts_output.specs.Stops.{Prints};
+ghost use Rattle.look_lines.specs.Form.{text_output};
 ghost use Rattle.look_lines.specs.Watched.{watched};
 ghost use Rattle.look_tell.specs.Story.{after_events};
 ghost use Rattle.look_picture.specs.Picture as def;
@@ -17,8 +20,8 @@ use look_drawing::{
     Drawn, Manner, Mark, Present, Seen, Worded, backdrop, escaped_line, first_column, foot, head,
     keys, left_out, maybe_column, shown_events,
 };
-use look_lines::{Applied, Form, Run, Said, Watch, after, write_run};
-use look_names::Names;
+use look_lines::{Applied, Form, Run, Said, Watch, after, shown};
+use look_names::{Names, ReadText, read_text};
 use look_options::DrawOptions;
 use look_run::say_end;
 use look_tell::{Story, Told};
@@ -28,7 +31,8 @@ use sts_asm::AsmError;
 use sts_code::Program;
 use sts_model::{End, Event};
 use sts_output::{
-    Assembled, Output, Status, state_line, state_status, steps_line, text_fault, trace_fault,
+    Assembled, Output, Status, Stopped, state_line, state_status, steps_line, text_fault,
+    trace_fault, write_shown,
 };
 use sts_plain::PlainState;
 use sts_trace::TraceError;
@@ -340,23 +344,22 @@ fn picture_of(
 }
 
 /// The picture of a run, of a window of its events or of the last ones, with the lines and the names
-/// of this text. They are read after its program. It is the picture up to the last event that is
-/// shown, with the status of the machine's state there.
+/// of a text. It is the picture up to the last event that is shown, with the status of the machine's
+/// state there.
 #[derive(Clone, Copy)]
-pub struct Picture<'t> {
-    pub options: DrawOptions,
-    pub files: Option<FileNames<'t>>,
-    pub text: &'t [u8],
+struct Picture<'n, 't> {
+    options: DrawOptions,
+    files: Option<FileNames<'n>>,
+    names: &'n Names<'t>,
 }
 
-impl<'t> Form for Picture<'t> {
-    ghost shows = { λ picture. def.picture_form picture.files picture.text.now picture.options };
+impl<'n, 't> Form for Picture<'n, 't> {
+    ghost shows = { λ picture. def.picture_form picture.files picture.names.now picture.options };
 
     fn of_run(&self, alloc: Global, run: Run<'_>) -> Result<Output, AllocError> {
-        let names = Names::read(alloc, self.text)?;
         let shown = shown_events(self.options.window, run.events.len());
         let manner = Manner {
-            names: &names,
+            names: self.names,
             brief: self.options.brief,
         };
         picture_of(
@@ -376,6 +379,27 @@ impl<'t> Form for Picture<'t> {
     fn of_trace_fault(&self, alloc: Global, error: TraceError) -> Result<Output, AllocError> {
         trace_fault(alloc, error)
     }
+}
+
+fn picture(
+    alloc: Global,
+    options: DrawOptions,
+    files: Option<FileNames<'_>>,
+    text: &[u8],
+    trace: &[u8],
+    assembled: &mut Assembled,
+) -> Result<Output, Stopped>
+    ensures { Prints result (λ o. o
+        ≡ text_output (def.picture_form files.entry text.now options) (judged text.now)
+        trace.now) }
+{
+    let ReadText { names, program } = read_text(alloc, text)?;
+    let form = Picture {
+        options,
+        files,
+        names: &names,
+    };
+    Ok(shown(alloc, &form, program, trace, assembled)?)
 }
 
 /// Writes the picture of a text's run of a trace, and returns the status. The heading has the names
@@ -399,10 +423,5 @@ pub fn draw<W: io::Write>(
         × def.IsPictureOf options files.entry text.now trace.now o
         × cli.Writes (W.contents out.old) (W.contents out.new) s o) }
 {
-    let picture = Picture {
-        options,
-        files,
-        text,
-    };
-    write_run(alloc, &picture, text, trace, out, assembled)
+    write_shown(picture(alloc, options, files, text, trace, assembled), out)
 }

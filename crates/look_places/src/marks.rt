@@ -4,13 +4,14 @@ ghost use Rattle.std.specs.Prelude.{◌≡◌, ◌++◌, OnOk, option_map};
 ghost use Rattle.std.specs.List.{position};
 ghost use Rattle.std.specs.Option.{option_copied};
 ghost use Rattle.sts_asm.specs.Source.{line_at as line_of_text};
-ghost use Rattle.look_names.specs.Names.{line_name};
+ghost use Rattle.look_names.specs.Names.{line_name, outline_of};
 ghost use Rattle.look_places.specs.Marks as def;
 
 use look_names::{Names, Said};
 use look_text::say;
 use std::alloc::Global;
 use std::marker::Model;
+use sts_asm::Outline;
 use sts_output::line_at;
 use sts_text::{cut_at, digits_up_to};
 
@@ -52,6 +53,13 @@ impl<'a, 't> Source<'a, 't> {
         ensures { result.now ≡ self.now.text }
     {
         self.text
+    }
+
+    /// The functions of the text with their lines, or none if a line has a fault.
+    pub(crate) fn outline(&self) -> &Outline<'t>
+        ensures { result.now ≡ outline_of self.now.text }
+    {
+        self.names.outline()
     }
 
     fn name(&self, line: u32) -> Option<&'t str>

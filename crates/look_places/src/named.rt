@@ -7,8 +7,8 @@ ghost use Rattle.sts_output.specs.Stops.{Prints};
 ghost use Rattle.sts_text.specs.Words.{lines};
 ghost use Rattle.look_places.specs.Named as def;
 
-use look_names::{Names, Said};
-use look_refusal::explanation_of;
+use look_names::{Names, ReadText, Said, read_text};
+use look_refusal::explained_by;
 use look_text::say;
 use std::alloc::{AllocError, Global};
 use std::io::Write;
@@ -119,44 +119,45 @@ fn say_lines(out: &mut Vec<u8>, names: &Names<'_>, told: &[u8]) -> Said
 }
 
 /// The lines of an explanation with names.
-fn with_names(alloc: Global, text: &[u8], told: &[u8]) -> Result<Vec<u8>, AllocError>
-    ensures { IfOk result (λ b. b.items ≡ def.named_lines text.now (lines told.now)) }
+fn with_names(alloc: Global, names: &Names<'_>, told: &[u8]) -> Result<Vec<u8>, AllocError>
+    ensures { IfOk result (λ b. b.items ≡ def.named_lines names.now (lines told.now)) }
 {
-    let names = Names::read(alloc, text)?;
     let mut bytes = Vec::new(alloc);
-    say_lines(&mut bytes, &names, told)?;
+    say_lines(&mut bytes, names, told)?;
     Ok(bytes)
 }
 
-/// An explanation with names; a fault of the text has none.
-fn named(alloc: Global, text: &[u8], told: &Output) -> Result<Output, AllocError>
+/// An explanation with names.
+fn named(alloc: Global, names: &Names<'_>, told: &Output) -> Result<Output, AllocError>
     ensures { IfOk result (λ o. o ≡ record {
-      bytes = def.named_lines text.now (lines told.now.bytes);
+      bytes = def.named_lines names.now (lines told.now.bytes);
       status = told.now.status;
     }) }
 {
-    let bytes = with_names(alloc, text, told.bytes.as_slice())?;
+    let bytes = with_names(alloc, names, told.bytes.as_slice())?;
     Ok(Output {
         bytes,
         status: told.status,
     })
 }
 
-fn named_if(alloc: Global, text: &[u8], told: Output) -> Result<Output, AllocError>
-    ensures { IfOk result (λ o. o ≡ def.named text.now told) }
+/// An explanation with names; a fault of the text has none.
+fn named_if(alloc: Global, names: &Names<'_>, told: Output) -> Result<Output, AllocError>
+    ensures { IfOk result (λ o. o ≡ def.named names.now told) }
 {
     if told.status == FAULTY {
         Ok(told)
     } else {
-        named(alloc, text, &told)
+        named(alloc, names, &told)
     }
 }
 
 fn named_of(alloc: Global, text: &[u8]) -> Result<Output, Stopped>
     ensures { Prints result (def.IsNamed text.now) }
 {
-    let told = explanation_of(alloc, text)?;
-    Ok(named_if(alloc, text, told)?)
+    let ReadText { names, program } = read_text(alloc, text)?;
+    let told = explained_by(alloc, names.outline(), program, text)?;
+    Ok(named_if(alloc, &names, told)?)
 }
 
 /// Writes what is wrong with a text, if anything is, with the names of the lines that it mentions,

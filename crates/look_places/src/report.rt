@@ -1,10 +1,7 @@
 //! Reports what is wrong with a text, if anything is, by its lines.
 
-ghost use Rattle.std.specs.Prelude.{◌≡◌, IfOk, Result, Err};
-ghost use Rattle.sts_asm.specs.Fault.{FailsAt};
+ghost use Rattle.std.specs.Prelude.{◌≡◌, IfOk, Ok};
 ghost use Rattle.sts_asm.specs.Text.{judged};
-ghost use Rattle.sts_asm.specs.declared.fault.AsmError.{AsmError};
-ghost use Rattle.sts_code.specs.Program.{Program as AnyProgram};
 ghost use Rattle.sts_output.specs.Output as cli;
 ghost use Rattle.sts_output.specs.Stops.{Prints};
 ghost use Rattle.sts_rules.specs.Refusal.{IsAccepted, IsRefusal};
@@ -17,12 +14,12 @@ ghost use Rattle.look_places.specs.Reports as def;
 use crate::faults::{Finding, Problem, fault_line};
 use crate::marks::Source;
 use look_accepted::all_notes;
-use look_names::Names;
-use look_refusal::{explanation_of, whole};
+use look_names::{ReadText, read_text};
+use look_refusal::refused as explained;
 use look_text::fault_lines;
 use std::alloc::{AllocError, Global};
 use std::io::Write;
-use sts_asm::{AsmError, AsmKind, assemble};
+use sts_asm::AsmError;
 use sts_code::Program;
 use sts_output::{Output, Refusal, Status, Stopped, judge, write_shown};
 
@@ -64,14 +61,10 @@ fn fault_report(
     problem_lines(alloc, source, Finding { line, problem }, words.as_slice())
 }
 
-/// The report of a fault of a text. Running out of memory is no fault of it.
+/// The report of a fault of a text.
 fn faulty(alloc: Global, source: &Source<'_, '_>, error: AsmError) -> Result<Output, AllocError>
-    ensures { (read : Result AnyProgram AsmError) → FailsAt error error.kind read
-        → IfOk result (λ o. (read ≡ Err error) × (o ≡ def.fault_report source.now error)) }
+    ensures { IfOk result (λ o. o ≡ def.fault_report source.now error) }
 {
-    if matches!(error.kind, AsmKind::Memory) {
-        return Err(AllocError);
-    }
     let bytes = fault_report(alloc, source, error)?;
     Ok(Output { bytes, status: 3 })
 }
@@ -99,12 +92,12 @@ fn refusal_lines(
 
 /// The report of a refusal: the lines of its explanation, and the notes on two ways that meet.
 fn refused(alloc: Global, source: &Source<'_, '_>, refusal: &Refusal) -> Result<Output, AllocError>
-    requires { IsRefusal refusal.now.program refusal.now.function refusal.now.pc
+    requires refusal { IsRefusal refusal.now.program refusal.now.function refusal.now.pc
         refusal.now.cause }
+    requires program { judged source.now.text ≡ Ok refusal.now.program }
     ensures { IfOk result (λ o. def.IsRefused source.now refusal.now.program o) }
 {
-    let printed = explanation_of(alloc, source.text())?;
-    let told = whole(printed)?;
+    let told = explained(alloc, source.outline(), refusal)?;
     let mut bytes = refusal_lines(alloc, source, refusal, &told)?;
     source.say_ways(alloc, &mut bytes, refusal)?;
     Ok(Output { bytes, status: 4 })
@@ -122,6 +115,7 @@ fn accepted(alloc: Global, source: &Source<'_, '_>, program: &Program) -> Result
 }
 
 fn verdict(alloc: Global, source: &Source<'_, '_>, program: Program) -> Result<Output, AllocError>
+    requires { judged source.now.text ≡ Ok program }
     ensures { IfOk result (λ o. def.IsVerdict source.now program o) }
 {
     match judge(alloc, program)? {
@@ -130,10 +124,15 @@ fn verdict(alloc: Global, source: &Source<'_, '_>, program: Program) -> Result<O
     }
 }
 
-fn reported(alloc: Global, source: &Source<'_, '_>) -> Result<Output, AllocError>
-    ensures { IfOk result (λ o. def.Reports source.now (judged source.now.text) o) }
+fn reported(
+    alloc: Global,
+    source: &Source<'_, '_>,
+    read: Result<Program, AsmError>,
+) -> Result<Output, AllocError>
+    requires { read ≡ judged source.now.text }
+    ensures { IfOk result (λ o. def.Reports source.now read o) }
 {
-    match assemble(alloc, source.text()) {
+    match read {
         Ok(program) => verdict(alloc, source, program),
         Err(error) => faulty(alloc, source, error),
     }
@@ -143,8 +142,9 @@ fn report(alloc: Global, file: &str, text: &[u8]) -> Result<Output, Stopped>
     ensures { Prints result (def.Reports (record { file = file.now; text = text.now })
         (judged text.now)) }
 {
-    let names = Names::read(alloc, text)?;
-    Ok(reported(alloc, &Source::new(file, text, &names))?)
+    let ReadText { names, program } = read_text(alloc, text)?;
+    let source = Source::new(file, text, &names);
+    Ok(reported(alloc, &source, program)?)
 }
 
 /// Writes what is wrong with the text of a file, if anything is, in lines that editors jump by, and

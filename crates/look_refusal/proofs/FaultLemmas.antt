@@ -1,26 +1,35 @@
--- A fault that is found without looking up a name is the text's, and explains it.
-use Rattle.std.proofs.Common.{◌≡◌, ℕ, List, Bool, true, false, cond, length, sym, ap, subst}
-use Rattle.std.specs.Prelude.{Result, Err, nat_lt}
+-- What explains a text that was read: its fault, or the verdict on its program.
+use Rattle.std.proofs.Common.{◌≡◌, ℕ, List, Bool, true, false, cond, length, refl, sym, ◌∙◌, ap, subst}
+use Rattle.std.specs.Prelude.{Result, Ok, Err, nat_lt}
 use Rattle.sts_code.specs.Program.{Program}
 use Rattle.sts_asm.specs.declared.fault.AsmKind.TheVariants.{TextTooLong}
 use Rattle.sts_asm.specs.declared.fault.AsmError.{AsmError}
-use Rattle.sts_asm.specs.Fault.{◌>>=◌, FailsAt}
+use Rattle.sts_asm.specs.Fault.{◌>>=◌}
 use Rattle.sts_asm.specs.Outline.{Outline, outline_of}
-use Rattle.sts_asm.specs.Source.{outlined}
+use Rattle.sts_asm.specs.Source.{outline_or_empty, outlined}
 use Rattle.sts_asm.specs.Text.{judged, program_of}
-use Rattle.sts_asm.proofs.TextLemmas.{fails_on, err_bind}
 use Rattle.sts_output.specs.Output.{Output}
-use Rattle.look_refusal.specs.Output.{Explains}
-use Rattle.look_refusal.specs.Stops.{IsTextFault}
+use Rattle.look_refusal.specs.Output.{Explains, IsVerdict, IsRefused, refused}
 
-same_fault : (e : AsmError) (long : Bool) (r : Result Outline AsmError) → cond long (Err (record { line = 0; kind = TextTooLong })) r ≡ Err e → cond long (Err (record { line = 0; kind = TextTooLong })) (r >>= program_of) ≡ Err e
-same_fault e true r h = let same : record { line = 0; kind = TextTooLong } ≡ e = cc in let out : Result Program AsmError = Err (record { line = 0; kind = TextTooLong }) in let goal : out ≡ Err e = ap (λ (x : AsmError). Err x) same in goal
-same_fault e false r h = err_bind r program_of e h
+-- too long, or as it was read
+abbrev unless_long : {X : Type 0} → Bool → Result X AsmError → Result X AsmError
+unless_long long r = cond long (Err (record { line = 0; kind = TextTooLong })) r
 
--- so it is what is judged
-pub outline_fault : (text : List ℕ) (e : AsmError) → FailsAt e e.kind (outlined text) → FailsAt e e.kind (judged text)
-outline_fault text e h = fails_on e.kind e (outlined text) (judged text) (same_fault e (nat_lt 1048576 (length text)) (outline_of text)) h
+spelled_by : (long : Bool) (r : Result Outline AsmError) (p : Program) → unless_long long (r >>= program_of) ≡ Ok p → unless_long long r ≡ Ok (outline_or_empty (unless_long long r))
+spelled_by true r p e = absurd (cc)
+spelled_by false (Ok o) p e = refl
+spelled_by false (Err k) p e = absurd (cc)
 
--- its output explains the text
-pub fault_explains : (text : List ℕ) (o : Output) → IsTextFault text o → Explains (judged text) text o
-fault_explains text o h = subst (λ (r : Result Program AsmError). Explains r text o) (sym h.fault) h.printed
+-- a text that spells a program has an outline
+pub spelled : (text : List ℕ) (p : Program) → judged text ≡ Ok p → outlined text ≡ Ok (outline_or_empty (outlined text))
+spelled text p e = spelled_by (nat_lt 1048576 (length text)) (outline_of text) p e
+
+-- a verdict on its program explains the text
+pub verdict_explains : (text : List ℕ) (p : Program) (o : Outline) (output : Output) → judged text ≡ Ok p → o ≡ outline_or_empty (outlined text) → IsVerdict p o output → Explains (judged text) text output
+verdict_explains text p o output e is v =
+    subst (λ (r : Result Program AsmError). Explains r text output) (sym e)
+    (o, (spelled text p e ∙ ap (λ (x : Outline). Ok x) (sym is), v))
+
+-- a refusal explains it, too
+pub refusal_explains : (text : List ℕ) (p : Program) (o : Outline) (output : Output) → judged text ≡ Ok p → o ≡ outline_or_empty (outlined text) → IsRefused p o output → Explains (judged text) text output
+refusal_explains text p o output e is r = verdict_explains text p o output e is (refused r)

@@ -2,7 +2,7 @@
 
 ghost use Rattle.std.specs.Prelude.{◌≡◌, IfOk, Ok, OnOk};
 ghost use Rattle.sts_rules.specs.Refusal.{IsAccepted, IsRefusal};
-ghost use Rattle.sts_asm.specs.Source.{outlined};
+ghost use Rattle.sts_asm.specs.Source.{outline_or_empty, outlined};
 ghost use Rattle.sts_asm.specs.Text.{judged};
 ghost use Rattle.sts_budget.specs.Change.{cause_of};
 ghost use Rattle.sts_output.specs.Output as cli;
@@ -10,7 +10,7 @@ ghost use Rattle.sts_output.specs.Stops.{Prints};
 ghost use Rattle.look_refusal.specs.Output as def;
 
 use crate::differences::difference_lines;
-use crate::explanation::{Made, outline_of, program_of};
+use crate::explanation::{Made, text_fault};
 use crate::heavy::heaviest;
 use crate::lines::refused_lines;
 use crate::remedy::remedy_for;
@@ -20,7 +20,7 @@ use look_accepted::{all_notes, note_lines};
 use look_text::{Said, say};
 use std::alloc::{AllocError, Global};
 use std::io::Write;
-use sts_asm::Outline;
+use sts_asm::{AsmError, Outline, Source, read};
 use sts_budget::Resource;
 use sts_code::Program;
 use sts_output::{Output, Refusal, Status, Stopped, judge, write_shown};
@@ -109,7 +109,12 @@ impl Told<'_, '_> {
     }
 }
 
-fn refused(alloc: Global, outline: &Outline<'_>, refusal: &Refusal) -> Made
+/// Returns the explanation of a refusal.
+///
+/// # Errors
+///
+/// Memory ran out.
+pub fn refused(alloc: Global, outline: &Outline<'_>, refusal: &Refusal) -> Made
     requires { IsRefusal refusal.now.program refusal.now.function refusal.now.pc
         refusal.now.cause }
     ensures { IfOk result (λ o. def.IsRefused refusal.now.program outline.now o) }
@@ -141,20 +146,32 @@ fn verdict(alloc: Global, outline: &Outline<'_>, program: Program) -> Made
     }
 }
 
-fn explained_by(alloc: Global, outline: &Outline<'_>, text: &[u8]) -> Result<Output, Stopped>
-    requires { outlined text.now ≡ Ok outline.now }
-    ensures { Prints result (def.Explains (judged text.now) text.now) }
+/// Returns the explanation of a text that was read.
+///
+/// # Errors
+///
+/// Memory ran out.
+pub fn explained_by(
+    alloc: Global,
+    outline: &Outline<'_>,
+    read: Result<Program, AsmError>,
+    text: &[u8],
+) -> Made
+    requires outline { outline.now ≡ outline_or_empty (outlined text.now) }
+    requires read { read ≡ judged text.now }
+    ensures { IfOk result (λ o. def.Explains (judged text.now) text.now o) }
 {
-    let program = program_of(alloc, text)?;
-    let output = verdict(alloc, outline, program)?;
-    Ok(output)
+    match read {
+        Ok(program) => verdict(alloc, outline, program),
+        Err(error) => text_fault(alloc, error, text),
+    }
 }
 
 fn explained(alloc: Global, text: &[u8]) -> Result<Output, Stopped>
     ensures { Prints result (def.Explains (judged text.now) text.now) }
 {
-    let outline = outline_of(alloc, text)?;
-    explained_by(alloc, &outline, text)
+    let Source { outline, program } = read(alloc, text)?;
+    Ok(explained_by(alloc, &outline, program, text)?)
 }
 
 /// Says what is wrong with a text, if anything is, with line numbers, and gives the status that

@@ -10,7 +10,7 @@ ghost use Rattle.look_run.specs.Output as def;
 use crate::states::Told;
 use crate::traces::trace_fault;
 use look_lines::{Watch, after};
-use look_names::Names;
+use look_names::{Names, ReadText, read_text};
 use look_refusal::{Made, program_of};
 use std::alloc::Global;
 use std::io::Write;
@@ -58,8 +58,8 @@ fn explanation(
 ) -> Result<Output, Stopped>
     ensures { Prints result (def.Explains (judged text.now) text.now trace.now) }
 {
-    let program = program_of(alloc, text)?;
-    let names = Names::read(alloc, text)?;
+    let ReadText { names, program } = read_text(alloc, text)?;
+    let program = program_of(alloc, program, text)?;
     let output = of_trace(alloc, &names, &program, trace)?;
     *assembled = Assembled::Program(program);
     Ok(output)

@@ -10,7 +10,7 @@ ghost use Rattle.look_tell.specs.Telling as def;
 use crate::line::say_events;
 use crate::story::Story;
 use crate::words::Told;
-use look_names::Names;
+use look_names::{Names, ReadText, read_text};
 use look_options::TellOptions;
 use look_refusal::{Made, program_of};
 use look_run::trace_fault;
@@ -81,7 +81,7 @@ impl Asked<'_, '_> {
     }
 }
 
-/// Returns the story of a text that spells this program.
+/// Returns the story of a text of these names that spells this program.
 ///
 /// # Errors
 ///
@@ -90,16 +90,15 @@ pub fn story_of_program(
     alloc: Global,
     options: TellOptions,
     program: &Program,
-    text: &[u8],
+    names: &Names<'_>,
     trace: &[u8],
 ) -> Made
-    ensures { IfOk result (λ o. o ≡ def.traced_output options program.now text.now trace.now
+    ensures { IfOk result (λ o. o ≡ def.traced_output options program.now names.now trace.now
         (trace_read trace.now)) }
 {
-    let names = Names::read(alloc, text)?;
     let asked = Asked {
         options,
-        names: &names,
+        names,
         program,
     };
     asked.of_trace(alloc, trace)
@@ -113,8 +112,9 @@ fn story_of(
 ) -> Result<Output, Stopped>
     ensures { Prints result (def.Tells options (judged text.now) text.now trace.now) }
 {
-    let program = program_of(alloc, text)?;
-    Ok(story_of_program(alloc, options, &program, text, trace)?)
+    let ReadText { names, program } = read_text(alloc, text)?;
+    let program = program_of(alloc, program, text)?;
+    Ok(story_of_program(alloc, options, &program, &names, trace)?)
 }
 
 /// Writes the story of a text's run of a trace, a line for each event that others can notice, and

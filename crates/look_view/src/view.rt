@@ -1,34 +1,35 @@
 //! The lines of every task and scope, after the last event or after each, with the lines and the
 //! names of the text.
 
-ghost use Rattle.std.specs.Prelude.{IfOk};
-ghost use Rattle.sts_output.specs.Output.{Output, Writes};
+ghost use Rattle.std.specs.Prelude.{◌≡◌, IfOk};
+ghost use Rattle.sts_asm.specs.Text.{judged};
+ghost use Rattle.sts_output.specs.Output.{Output as AnyOutput, Writes};
+ghost use Rattle.sts_output.specs.Stops.{Prints};
+ghost use Rattle.look_lines.specs.Form.{text_output};
 ghost use Rattle.look_view.specs.View as def;
 
 use crate::named::Named;
-use look_lines::{Form, Run, lines_output, write_run};
-use look_names::Names;
+use look_lines::{Form, Run, lines_output, shown};
+use look_names::{Names, ReadText, read_text};
 use look_options::ViewOptions;
 use std::alloc::{AllocError, Global};
 use std::io;
 use sts_asm::AsmError;
-use sts_output::{Assembled, Output, Status, text_fault, trace_fault};
+use sts_output::{Assembled, Output, Status, Stopped, text_fault, trace_fault, write_shown};
 use sts_trace::TraceError;
 
-/// A view with the lines and the names of this text. It reads them if the text and its trace have
-/// no fault.
+/// A view with the lines and the names of a text.
 #[derive(Clone, Copy)]
-struct ViewOfText<'t> {
+struct ViewOfText<'n, 't> {
     wanted: ViewOptions,
-    text: &'t [u8],
+    names: &'n Names<'t>,
 }
 
-impl<'t> Form for ViewOfText<'t> {
-    ghost shows = { λ v. def.named_form v.text.now v.wanted };
+impl<'n, 't> Form for ViewOfText<'n, 't> {
+    ghost shows = { λ v. def.named_form v.names.now v.wanted };
 
     fn of_run(&self, alloc: Global, run: Run<'_>) -> Result<Output, AllocError> {
-        let names = Names::read(alloc, self.text)?;
-        lines_output(alloc, &Named { names: &names }, self.wanted, run)
+        lines_output(alloc, &Named { names: self.names }, self.wanted, run)
     }
 
     fn of_text_fault(&self, alloc: Global, error: AsmError) -> Result<Output, AllocError> {
@@ -38,6 +39,24 @@ impl<'t> Form for ViewOfText<'t> {
     fn of_trace_fault(&self, alloc: Global, error: TraceError) -> Result<Output, AllocError> {
         trace_fault(alloc, error)
     }
+}
+
+fn view(
+    alloc: Global,
+    wanted: ViewOptions,
+    text: &[u8],
+    trace: &[u8],
+    assembled: &mut Assembled,
+) -> Result<Output, Stopped>
+    ensures { Prints result (λ o. o
+        ≡ text_output (def.named_form text.now wanted) (judged text.now) trace.now) }
+{
+    let ReadText { names, program } = read_text(alloc, text)?;
+    let form = ViewOfText {
+        wanted,
+        names: &names,
+    };
+    Ok(shown(alloc, &form, program, trace, assembled)?)
 }
 
 /// Writes the view of a text's run of a trace, with the lines and the names of the text, and returns
@@ -56,15 +75,8 @@ pub fn write_view<W: io::Write>(
     out: &mut W,
     assembled: &mut Assembled,
 ) -> Status
-    ensures { IfOk result (λ s. (o : Output) × def.IsNamedViewOf wanted text.now trace.now o
+    ensures { IfOk result (λ s. (o : AnyOutput) × def.IsNamedViewOf wanted text.now trace.now o
         × Writes (W.contents out.old) (W.contents out.new) s o) }
 {
-    write_run(
-        alloc,
-        &ViewOfText { wanted, text },
-        text,
-        trace,
-        out,
-        assembled,
-    )
+    write_shown(view(alloc, wanted, text, trace, assembled), out)
 }

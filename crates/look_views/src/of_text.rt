@@ -6,21 +6,24 @@ ghost use Rattle.serde_json.specs.View.{view};
 ghost use Rattle.serde_json.specs.Written.{has_float};
 ghost use Rattle.sts_code.specs.Program.{Program as AnyProgram};
 ghost use Rattle.sts_asm.specs.Fault.{FailsAt};
+ghost use Rattle.sts_asm.specs.Text.{judged};
 ghost use Rattle.sts_asm.specs.declared.fault.AsmError.{AsmError};
 ghost use Rattle.sts_trace.specs.declared.error.TraceError.TheVariants.{Memory};
 ghost use Rattle.sts_output.specs.Output.{Output as AnyOutput, Writes};
+ghost use Rattle.sts_output.specs.Stops.{Prints};
+ghost use Rattle.look_lines.specs.Form.{text_output};
 ghost use Rattle.look_views.specs.Views as def;
 
 use crate::views::{JsonViews, VERSION, push_line};
 use look_cases::{Made, Scalar, object_of, text_fault, trace_fault, with_member};
-use look_lines::{Form, Run, view_output, write_run};
-use look_names::Names;
+use look_lines::{Form, Run, shown, view_output};
+use look_names::{Names, ReadText, read_text};
 use look_options::ViewOptions;
 use serde_json::Value;
 use std::alloc::{AllocError, Global};
 use std::io::Write;
 use sts_asm::AsmError;
-use sts_output::{Assembled, Output, Status};
+use sts_output::{Assembled, Output, Status, Stopped, write_shown};
 use sts_trace::TraceError;
 
 /// The status for a fault of a text or a trace.
@@ -85,23 +88,21 @@ pub fn faulty_trace(alloc: Global, error: TraceError) -> Result<Output, AllocErr
     faulty(alloc, &value)
 }
 
-/// The views of a run of this text. They have its names, which are read if the text and its trace
-/// have no fault.
+/// The views of a run of a text of these names.
 #[derive(Clone, Copy)]
-struct ViewsOfText<'t> {
+struct ViewsOfText<'n, 't> {
     wanted: ViewOptions,
-    text: &'t [u8],
+    names: &'n Names<'t>,
 }
 
-impl<'t> Form for ViewsOfText<'t> {
-    ghost shows = { λ v. def.json_form v.text.now v.wanted };
+impl<'n, 't> Form for ViewsOfText<'n, 't> {
+    ghost shows = { λ v. def.json_form v.names.now v.wanted };
 
     fn of_run(&self, alloc: Global, run: Run<'_>) -> Result<Output, AllocError> {
-        let names = Names::read(alloc, self.text)?;
         let views = JsonViews {
             alloc,
             wanted: self.wanted,
-            names: &names,
+            names: self.names,
         };
         view_output(alloc, &views, self.wanted.each, run)
     }
@@ -113,6 +114,24 @@ impl<'t> Form for ViewsOfText<'t> {
     fn of_trace_fault(&self, alloc: Global, error: TraceError) -> Result<Output, AllocError> {
         faulty_trace(alloc, error)
     }
+}
+
+fn views(
+    alloc: Global,
+    wanted: ViewOptions,
+    text: &[u8],
+    trace: &[u8],
+    assembled: &mut Assembled,
+) -> Result<Output, Stopped>
+    ensures { Prints result (λ o. o
+        ≡ text_output (def.json_form text.now wanted) (judged text.now) trace.now) }
+{
+    let ReadText { names, program } = read_text(alloc, text)?;
+    let form = ViewsOfText {
+        wanted,
+        names: &names,
+    };
+    Ok(shown(alloc, &form, program, trace, assembled)?)
 }
 
 /// Writes the views of a text's run of a trace as lines of JSON, with the names of the text, and
@@ -134,12 +153,5 @@ pub fn write_views<W: Write>(
     ensures { IfOk result (λ s. (o : AnyOutput) × def.AreViewsOf wanted text.now trace.now o
         × Writes (W.contents out.old) (W.contents out.new) s o) }
 {
-    write_run(
-        alloc,
-        &ViewsOfText { wanted, text },
-        text,
-        trace,
-        out,
-        assembled,
-    )
+    write_shown(views(alloc, wanted, text, trace, assembled), out)
 }

@@ -1,10 +1,10 @@
-use Rattle.std.proofs.Common.{◌≡◌, ℕ, ◌+◌, Bool, true, false, List, [], ◌∷◌, length, arith, refl, sym, ◌∙◌, ap}
+use Rattle.std.proofs.Common.{◌≡◌, ◌≢◌, ℕ, ◌+◌, Bool, true, false, List, [], ◌∷◌, length, arith, refl, sym, ◌∙◌, ap}
 use Rattle.std.specs.Prelude.{Result, Ok, Err, is_some}
 use Rattle.sts_asm.specs.declared.fault.AsmKind.{AsmKind}
 use Rattle.sts_asm.specs.declared.fault.AsmKind.TheVariants.{Unclosed, Memory}
 use Rattle.sts_asm.specs.declared.fault.AsmError.{AsmError}
 use Rattle.sts_text.specs.Words.{lines}
-use Rattle.sts_asm.specs.Fault.{◌>>=◌, at_line, FailsAt}
+use Rattle.sts_asm.specs.Fault.{◌>>=◌, at_line, FailsAt, IsJudged}
 use Rattle.sts_asm.specs.Outline.{Outline, empty, line_read, lines_read, closed, outline_of}
 
 -- a good line leads to the lines after it
@@ -62,3 +62,11 @@ closed_open at p b e t = rw (sym e, t) refl
 
 pub closed_well : (at : ℕ) (p : Outline) (b : Bool) → b ≡ is_some p.current → b ≡ false → closed at p ≡ Ok p
 closed_well at p b e t = rw (sym e, t) refl
+
+told_by : {X : Type 0} (e : AsmError) (k : AsmKind) → k ≢ Memory → FailsAt {X} e k (Err e)
+told_by e Memory no = absurd (no refl)
+told_by e _ no = refl
+
+-- a fault of the text is the fault of what was read
+pub told_fault : {X : Type 0} (e : AsmError) → IsJudged {X} (Err e) → FailsAt {X} e e.kind (Err e)
+told_fault e fault = told_by e e.kind fault

@@ -1,6 +1,6 @@
 -- The faults of a text, and how the answers of the assembler's parts are tied to their definitions
 -- (this project's own).
-use Rattle.std.specs.Prelude.{◌≡◌, ℕ, List, Option, Some, None, Result, Ok, Err}
+use Rattle.std.specs.Prelude.{◌≡◌, ◌≢◌, ℕ, List, Option, Some, None, Result, Ok, Err}
 use Rattle.sts_code.specs.declared.checking.CodeError.{CodeError}
 use Rattle.sts_asm.specs.declared.fault.AsmKind.{AsmKind}
 use Rattle.sts_asm.specs.declared.fault.AsmKind.TheVariants.{NotAscii, UnknownWord, BadNumber}
@@ -72,3 +72,8 @@ StepsAt (Err e) new read = FailsAt e e.kind read
 abbrev pub Judges : {X Y : Type 0} → (X → Y) → Result X AsmError → Result Y AsmError → Type 0
 Judges view (Ok x) judged = judged ≡ Ok (view x)
 Judges view (Err e) judged = FailsAt e e.kind judged
+
+-- a value, or a fault of the text: memory did not run out
+abbrev pub IsJudged : {X : Type 0} → Result X AsmError → Type 0
+IsJudged (Ok x) = Unit {0}
+IsJudged (Err e) = e.kind ≢ Memory

@@ -2,7 +2,7 @@
 
 ghost use Rattle.std.specs.Prelude.{◌≡◌, IfOk, Result};
 ghost use Rattle.sts_code.specs.Program.{Program as AnyProgram};
-ghost use Rattle.sts_asm.specs.Fault.{Judges};
+ghost use Rattle.sts_asm.specs.Fault.{IsJudged, Judges};
 ghost use Rattle.sts_asm.specs.Source.{outline_or_empty, outlined};
 ghost use Rattle.sts_asm.specs.Text as def;
 ghost use Rattle.sts_asm.specs.Text.{each, judged};
@@ -78,8 +78,9 @@ fn program_of(alloc: Global, outline: &Outline<'_>) -> Result<Program, AsmError>
 
 /// What was read, unless memory ran out.
 fn judgement(judged: Result<Program, AsmError>) -> Result<Result<Program, AsmError>, AllocError>
-    ensures { (read : Result AnyProgram AsmError) → Judges (λ p. p) judged read
+    ensures same { (read : Result AnyProgram AsmError) → Judges (λ p. p) judged read
         → IfOk result (λ told. told ≡ read) }
+    ensures fault { IfOk result IsJudged }
 {
     match judged {
         Err(error) if matches!(error.kind, AsmKind::Memory) => Err(AllocError),
@@ -96,6 +97,7 @@ fn judgement(judged: Result<Program, AsmError>) -> Result<Result<Program, AsmErr
 pub fn read<'a>(alloc: Global, text: &'a [u8]) -> Result<Source<'a>, AllocError>
     ensures outline { IfOk result (λ s. s.outline ≡ outline_or_empty (outlined text.now)) }
     ensures program { IfOk result (λ s. s.program ≡ judged text.now) }
+    ensures fault { IfOk result (λ s. IsJudged s.program) }
 {
     match outlined(alloc, text) {
         Ok(outline) => {

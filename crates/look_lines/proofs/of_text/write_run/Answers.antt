@@ -1,7 +1,5 @@
-use Rattle.std.proofs.Common.{inr, refl}
-use Rattle.std.proofs.lemmas.Result.{IfOk-weaker}
-use Rattle.sts_output.specs.Output.{memory_output}
+use Rattle.sts_output.proofs.StopLemmas.{written_or_memory}
 use Rattle.look_lines.proofs.of_text.write_run.Goals as goal
 
-pub returns-in-Err : goal.returns-in-Err
-returns-in-Err g c = IfOk-weaker c.failed.result _ _ (λ s h. (memory_output, inr refl, h)) c.failed.ensures
+pub returns : goal.returns
+returns g c = written_or_memory c.shown_of_text.result c.write_shown.result _ _ c.shown_of_text.ensures c.write_shown.ensures
