@@ -78,7 +78,7 @@ never_refused p f e pc c typed tells is =
 -- the typestates of a pass over the whole function are its typing
 pub is_typing : (p : Program) (f : ℕ) (code : List Instr) (table : List (Arrival TypeState)) (t : Typing) → code ≡ (routine p f).code → Passed (typing p f) (size p f) table (length code) → length t.states ≡ length table → ((pc : ℕ) (s : TypeState) → get_or table pc Nothing ≡ One s → get_or t.states pc none ≡ s) → AreTablesOf code t.loops → IsTyping p f t
 is_typing p f code table t is passed long each loops = record {
-  typed = whole.clear;
+  clear = whole.clear;
   long = long ∙ passed.holds.0;
   alone = λ pc lt. (let a = all_alone (typing p f) (size p f) (laws p f) table whole pc lt in subst (IsAlone (typing p f) pc) (sym (each pc a.0 a.1.0)) a.1.1);
   loops = subst (λ xs. AreTablesOf xs t.loops) is loops;
