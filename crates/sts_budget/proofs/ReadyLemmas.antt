@@ -32,7 +32,7 @@ first_is (h ∷ hs) = refl
 pub names_right : (p : Program) (f : ℕ) (l : Layout) → program_fault p.routines ≡ None → f < length p.routines → IsTyping p f l.typing.now → NamesRight p f (names_in l)
 names_right p f l fine in_program is pc s r =
     let c = is_checked p f fine in_program in
-    ap (λ (x : TypeState). names x.entries) ((is.alone pc (fits p f is.typed c.some_code c.bounds [] pc s r).1).1 s r)
+    ap (λ (x : TypeState). names x.entries) ((is.alone pc (fits p f is.clear c.some_code c.bounds [] pc s r).1).1 s r)
 
 pub is_ready : (p : Program) (f : ℕ) (earlier : List Budgets) (code : List Instr) (l : Layout) → program_fault p.routines ≡ None → f < length p.routines → length earlier ≡ f → code ≡ (routine p f).code → IsTyping p f l.typing.now → IsDeepest l.typing.now l.deepest → IsLaidFor earlier code l
 is_ready p f earlier code l fine in_program long is t deepest = subst (λ xs. IsLaidFor earlier xs l) (sym is) ready
@@ -42,12 +42,12 @@ is_ready p f earlier code l fine in_program long is t deepest = subst (λ xs. Is
 
     ready : IsLaidFor earlier (routine p f).code l
     ready = record {
-      good = structured p f t.typed c.some_code c.bounds earlier;
-      known = knows_names p f t.typed c.some_code c.bounds earlier (names_in l) (names_right p f l fine in_program t);
-      led = led p f t.typed c.some_code c.bounds earlier;
+      good = structured p f t.clear c.some_code c.bounds earlier;
+      known = knows_names p f t.clear c.some_code c.bounds earlier (names_in l) (names_right p f l fine in_program t);
+      led = led p f t.clear c.some_code c.bounds earlier;
       heads = λ pc lt. (t.loops.heads pc lt ∙ first_is _);
       ends = λ h n i. (
-          let o = opened p f t.typed c.some_code c.bounds earlier h n i in
+          let o = opened p f t.clear c.some_code c.bounds earlier h n i in
           ap (λ q. unwrap_or q 0) (t.loops.ends h (omega (arith, o.later, o.within)) (ap is_times i)));
       heads_long = t.loops.heads_long;
       ends_long = t.loops.ends_long;

@@ -23,13 +23,13 @@ pub returns-in-Ok-push : goal.returns-in-Ok-push
 returns-in-Ok-push c =
     let found = subst (λ bs. IsFound bs (routine c.args.program.now c.args.function).code (Ok c.in-Ok.found)) c.as_slice.ensures.value
     c.in-Ok.ensures in
-    budgets_found c.args.program.now c.args.function c.args.budgets.now.items c.push.new.self.items c.in-Ok.found c.in_ok-typing.ensures.typed
+    budgets_found c.args.program.now c.args.function c.args.budgets.now.items c.push.new.self.items c.in-Ok.found c.in_ok-typing.ensures.clear
     c.requires.long c.requires.right found c.in-Ok-push.ensures.items
 
 pub returns : goal.returns
 returns c =
     subst (TellsOf c.args.program.now c.args.function) (sym c.at_end.ensures)
     (budget_tells c.args.program.now c.args.function c.args.budgets.now.items c.in-Err.error (length c.code_of-count.result.now)
-    c.in_ok-typing.ensures.typed c.requires.long c.requires.right (ap length c.code_of-count.ensures.value)
+    c.in_ok-typing.ensures.clear c.requires.long c.requires.right (ap length c.code_of-count.ensures.value)
     (subst (λ bs. IsFound bs (routine c.args.program.now c.args.function).code (Err c.in-Err.error)) c.as_slice.ensures.value
     c.in-Err.ensures))
