@@ -4,7 +4,9 @@ use Rattle.std.specs.Prelude.{Option, Some, None, option_map, Result, Ok, Err, c
 use Rattle.std.specs.Fmt.{decimal}
 use Rattle.std.specs.List.{ends_with, list_any}
 use Rattle.std.specs.Option.{option_or}
+use Rattle.std.specs.IoError.{error_kind}
 use Rattle.std.specs.Str.{bytes_eq}
+use Rattle.std.specs.declared.io.Error.{Error}
 use Rattle.std.specs.declared.io.ErrorKind.{ErrorKind}
 use Rattle.std.specs.declared.io.ErrorKind.TheVariants as kind
 use Rattle.sts_text.specs.Words.{lines}
@@ -60,6 +62,12 @@ file_line program (file_error.Unwritten path kind) =
     unwritten_line program path.now (kind_words kind)
 file_line program (file_error.Overwrites path) =
     unwritten_line program path.now (codes "this run reads that file")
+
+-- the line about a file that was not written, if there was an error
+abbrev pub unwritten_reason : List ℕ → List ℕ → Option Error → Option (List ℕ)
+unwritten_reason program path None = None
+unwritten_reason program path (Some error) =
+    Some (unwritten_line program path (kind_words (error_kind error)))
 
 -- ---- lines of texts
 
@@ -167,20 +175,21 @@ events_reason program (events.Outside named) =
     outside_reason program named.name.now named.text.now (outside_read named.text.now)
 
 -- the line about the first fault: one of the text comes before one of its events
-abbrev pub first_reason : List ℕ → (name text : List ℕ) → Option AsmError → Events
+abbrev pub first_reason : List ℕ → (name text : List ℕ) → Option AsmError → Option (List ℕ)
     → Option (List ℕ)
-first_reason program name text fault events =
-    option_or (option_map (fault_reason program name text) fault) (events_reason program events)
+first_reason program name text fault of_events =
+    option_or (option_map (fault_reason program name text) fault) of_events
 
 -- `sts: ./look explain FILE says why`
 abbrev pub refused_reason : List ℕ → List ℕ
 refused_reason program = program ++ codes ": ./look explain FILE says why\n"
 
--- the line that says why there was this status, for a text with this fault or with none
-abbrev pub status_reason : List ℕ → ℕ → (name text : List ℕ) → Option AsmError → Events
+-- The line that says why there was this status, for a text with this fault or with none. A fault of
+-- its events has a line of its own.
+abbrev pub status_reason : List ℕ → ℕ → (name text : List ℕ) → Option AsmError → Option (List ℕ)
     → Option (List ℕ)
-status_reason program status name text fault events =
-    if status == 3 then first_reason program name text fault events
+status_reason program status name text fault of_events =
+    if status == 3 then first_reason program name text fault of_events
     else (if status == 4 then Some (refused_reason program) else None)
 
 -- A line is added, if there is one and there is memory for it.

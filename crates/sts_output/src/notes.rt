@@ -72,7 +72,11 @@ impl Notes {
     }
 
     /// Adds that a file was not written, if there was an error.
-    pub fn written(&mut self, path: &str, error: Option<io::Error>) {
+    pub fn written(&mut self, path: &str, error: Option<io::Error>)
+        ensures program { self.new.program ≡ self.old.program }
+        ensures line { def.Adds self.old.lines.items self.new.lines.items
+            (def.unwritten_reason self.old.program.now path.now error) }
+    {
         if let Some(error) = error {
             self.file(FileError::unwritten(path, &error));
         }
@@ -90,7 +94,8 @@ impl Notes {
         ensures program { self.new.program ≡ self.old.program }
         ensures line { def.Adds self.old.lines.items self.new.lines.items
             (def.status_reason self.old.program.now status
-            text.entry.name.now text.entry.text.now fault events.entry) }
+            text.entry.name.now text.entry.text.now fault
+            (def.events_reason self.old.program.now events.entry)) }
     {
         let line = status_line(self.alloc, self.program, status, text, fault, events);
         if let Ok(Some(line)) = line {
@@ -109,8 +114,8 @@ fn status_line(
     events: Events<'_>,
 ) -> Result<Option<Vec<u8>>, AllocError>
     ensures { IfOk result (λ r. option_map (λ line. line.items) r
-        ≡ def.status_reason program.now status
-        text.entry.name.now text.entry.text.now fault events.entry) }
+        ≡ def.status_reason program.now status text.entry.name.now text.entry.text.now
+        fault (def.events_reason program.now events.entry)) }
 {
     match status {
         STATUS_FAULT => fault_line(alloc, program, text, fault, events),
@@ -129,7 +134,7 @@ fn fault_line(
 ) -> Result<Option<Vec<u8>>, AllocError>
     ensures { IfOk result (λ r. option_map (λ line. line.items) r
         ≡ def.first_reason program.now text.entry.name.now text.entry.text.now
-        fault events.entry) }
+        fault (def.events_reason program.now events.entry)) }
 {
     if let Some(error) = fault {
         return Ok(Some(text_reason(alloc, program, text, error)?));
