@@ -3,7 +3,15 @@ use Rattle.std.proofs.Common.{◌≡◌, ℕ, ◌<◌, List, [], ◌∷◌, leng
 use Rattle.std.specs.Prelude.{slice_index_or, ◌==◌, if◌then◌else◌, ◌&&◌, IsTrue, ◌↔◌}
 use Rattle.std.specs.Char.{to_ascii_lowercase}
 use Rattle.std.proofs.lemmas.Bool.Decides.{nat_tests}
-use Rattle.look_text.specs.Near.{is_one_apart, is_one_off, begins_other, is_same_word, lower}
+use Rattle.sts_code.specs.declared.instr.Instr.{Instr}
+use Rattle.sts_code.specs.declared.instr.Instr.TheVariants.{Push}
+use Rattle.sts_code.specs.declared.instr.Joiner.{Joiner}
+use Rattle.sts_code.specs.declared.instr.Joiner.TheVariants.{AllSucceed}
+use Rattle.sts_code.specs.declared.instr.Pred.{Pred}
+use Rattle.sts_code.specs.declared.instr.Pred.TheVariants.{Failed}
+use Rattle.sts_list.specs.Spelling.{keyword, joiner_words, condition_words}
+use Rattle.look_text.specs.Near.{is_one_apart, is_one_off, begins_other, is_same_word, lower, first_of}
+use Rattle.look_text.specs.Near.{inner_words, first_joiner_words, first_condition_words, IsKnown, AllAreKnown}
 
 -- ---- both begin alike
 
@@ -72,3 +80,20 @@ same_at true a b e h = h.1 (of_same a b e)
 pub same_decided : (r : Bool) (a b : List ℕ) → (IsTrue r ↔ (map to_ascii_lowercase a ≡ map to_ascii_lowercase b)) → r ≡ is_same_word a b
 same_decided true a b h = sym (same_of a b (h.0 refl))
 same_decided false a b h = same_at (is_same_word a b) a b refl h
+
+-- ---- no kind is left out
+
+instr_known : (instr : Instr) → IsKnown inner_words (keyword instr)
+instr_known (Push k) = refl
+instr_known _ = refl
+
+joiner_known : (joiner : Joiner) → IsKnown first_joiner_words (first_of (joiner_words joiner))
+joiner_known AllSucceed = refl
+joiner_known _ = refl
+
+condition_known : (condition : Pred) → IsKnown first_condition_words (first_of (condition_words condition))
+condition_known (Failed n) = refl
+condition_known _ = refl
+
+pub all_are_known : AllAreKnown
+all_are_known = record { instrs = instr_known; joiners = joiner_known; conditions = condition_known }

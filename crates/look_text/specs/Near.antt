@@ -1,8 +1,19 @@
 -- The known word that a wrong one is near to (this project's own).
-use Rattle.std.specs.Prelude.{ℕ, ◌+◌, List, [], ◌∷◌, drop, length, Bool, true, false, ◌||◌, ◌&&◌}
-use Rattle.std.specs.Prelude.{◌==◌, nat_lt, nat_le, if◌then◌else◌, codes, Option, find}
+use Rattle.std.specs.Prelude.{◌≡◌, ℕ, ◌+◌, pos, List, [], ◌∷◌, ◌++◌, drop, length, map, find}
+use Rattle.std.specs.Prelude.{Bool, true, false, ◌||◌, ◌&&◌, ◌==◌, nat_lt, nat_le, if◌then◌else◌}
+use Rattle.std.specs.Prelude.{Option, None, codes}
+use Rattle.std.specs.List.{list_any}
 use Rattle.std.specs.Option.{option_or}
 use Rattle.std.specs.Str.{bytes_eq}
+use Rattle.sts_code.specs.declared.instr.Instr.{Instr}
+use Rattle.sts_code.specs.declared.instr.Instr.TheVariants as i
+use Rattle.sts_code.specs.declared.instr.Joiner.{Joiner}
+use Rattle.sts_code.specs.declared.instr.Joiner.TheVariants.{AllSucceed, AnySucceeds, AwaitOk}
+use Rattle.sts_code.specs.declared.instr.Joiner.TheVariants.{AwaitAll, Until}
+use Rattle.sts_code.specs.declared.instr.Pred.{Pred}
+use Rattle.sts_code.specs.declared.instr.Pred.TheVariants.{Failed, Success, AtLeast}
+use Rattle.sts_code.specs.declared.instr.Kind.TheVariants.{S}
+use Rattle.sts_list.specs.Spelling.{keyword, joiner_words, condition_words, timed_words}
 use Rattle.look_text.specs.declared.near.Nearness.{Nearness}
 use Rattle.look_text.specs.declared.near.Nearness.TheVariants as n
 use Rattle.look_text.specs.declared.wanted.Expected.{Expected}
@@ -56,36 +67,66 @@ is_near n.Begins word = begins_other word
 
 -- ---- the words of the language
 
--- those that begin a line in a function
+-- one instruction of each kind, in the order of the rows
+abbrev pub each_instr : List Instr
+each_instr =
+    i.Push (pos 0) ∷ i.Pop ∷ i.Dup ∷ i.Swap ∷ i.Load 0 ∷ i.Store 0 ∷ i.Add ∷ i.Sub ∷ i.Mul ∷ i.Lt
+    ∷ i.Eq ∷ i.Div 0 ∷ i.Jmp 0 ∷ i.Jz 0 ∷ i.Times 0 ∷ i.Next ∷ i.Open 0 false AllSucceed
+    ∷ i.Fork 0 0 None ∷ i.Join 0 None None 0 ∷ i.Close 0 ∷ i.Cancelled 0 ∷ i.Case 0 0 0 ∷ i.Get 0
+    ∷ i.Except 0 ∷ i.Tally 0 S ∷ i.Total 0 ∷ i.Forget 0 ∷ i.Bind 0 ∷ i.Unbind ∷ i.Read 0
+    ∷ i.Bound 0 ∷ i.OrElse 0 ∷ i.Interrupted ∷ i.Ret ∷ i.Fail ∷ []
+
+-- one joiner of each kind
+abbrev pub each_joiner : List Joiner
+each_joiner =
+    AllSucceed ∷ AnySucceeds ∷ AwaitAll ∷ AwaitOk ∷ Until (Failed 0) ∷ []
+
+-- one condition of each kind
+abbrev pub each_condition : List Pred
+each_condition = Failed 0 ∷ Success 0 ∷ AtLeast (pos 0) ∷ []
+
+abbrev pub first_of : List (List ℕ) → List ℕ
+first_of [] = []
+first_of (word ∷ rest) = word
+
+-- the words that begin a line in a function
 abbrev pub inner_words : List (List ℕ)
-inner_words =
-    codes "push" ∷ codes "pop" ∷ codes "dup" ∷ codes "swap" ∷ codes "load" ∷ codes "store"
-    ∷ codes "add" ∷ codes "sub" ∷ codes "mul" ∷ codes "div" ∷ codes "lt" ∷ codes "eq"
-    ∷ codes "jmp" ∷ codes "jz" ∷ codes "times" ∷ codes "next" ∷ codes "open" ∷ codes "fork"
-    ∷ codes "join" ∷ codes "close" ∷ codes "cancelled" ∷ codes "case" ∷ codes "get"
-    ∷ codes "except" ∷ codes "tally" ∷ codes "total" ∷ codes "forget" ∷ codes "bind"
-    ∷ codes "unbind" ∷ codes "read" ∷ codes "bound" ∷ codes "orelse" ∷ codes "interrupted"
-    ∷ codes "ret" ∷ codes "fail" ∷ codes "end" ∷ []
+inner_words = map keyword each_instr ++ codes "end" ∷ []
 
 abbrev pub outer_words : List (List ℕ)
 outer_words = codes "func" ∷ codes "profile" ∷ []
 
-abbrev pub joiner_words : List (List ℕ)
-joiner_words =
-    codes "all" ∷ codes "any" ∷ codes "awaitall" ∷ codes "awaitok" ∷ codes "until" ∷ []
+-- the first words of the joiners
+abbrev pub first_joiner_words : List (List ℕ)
+first_joiner_words = map (λ joiner. first_of (joiner_words joiner)) each_joiner
 
-abbrev pub condition_words : List (List ℕ)
-condition_words = codes "failed" ∷ codes "success" ∷ codes "atleast" ∷ []
+-- the first words of the conditions of `until`
+abbrev pub first_condition_words : List (List ℕ)
+first_condition_words = map (λ condition. first_of (condition_words condition)) each_condition
 
 -- those that may be expected at a place of a line
 abbrev pub known_words : Expected → List (List ℕ)
 known_words w.Inner = inner_words
 known_words w.Outer = outer_words
-known_words w.Joiner = joiner_words
-known_words w.Condition = condition_words
-known_words w.Timed = codes "timed" ∷ []
+known_words w.Joiner = first_joiner_words
+known_words w.Condition = first_condition_words
+known_words w.Timed = timed_words true
 known_words w.Needs = codes "needs" ∷ []
 known_words wanted = []
+
+-- ---- no kind is left out
+
+-- the word is among these
+abbrev pub IsKnown : List (List ℕ) → List ℕ → Type 0
+IsKnown words word = list_any (bytes_eq word) words ≡ true
+
+-- The first word of each instruction, joiner and condition is among the words that are known where
+-- it is expected.
+pub record AllAreKnown : Type 0 where
+  pub instrs : (instr : Instr) → IsKnown (known_words w.Inner) (keyword instr)
+  pub joiners : (joiner : Joiner) → IsKnown (known_words w.Joiner) (first_of (joiner_words joiner))
+  pub conditions : (condition : Pred)
+      → IsKnown (known_words w.Condition) (first_of (condition_words condition))
 
 -- ---- the near one
 

@@ -6,6 +6,7 @@ ghost use Rattle.look_text.specs.Places.{LinesStandInText};
 ghost use Rattle.look_text.specs.Heads.{HeadsBeginFunctions};
 ghost use Rattle.look_text.specs.Labels.{BehindNamesNone};
 ghost use Rattle.look_text.specs.Names.{UnknownNamesStop};
+ghost use Rattle.look_text.specs.Near.{AllAreKnown};
 ghost use Rattle.look_text.specs.WrongWord.{OperandsStop};
 
 /// A law: each instruction of the program that a text spells has a line in the text. The words of
@@ -51,4 +52,10 @@ pub fn operands_stop()
 /// The function itself does nothing.
 pub fn unknown_names_stop()
     ensures { UnknownNamesStop }
+{}
+
+/// A law: the first word of each instruction, joiner and condition may be the near word of a wrong
+/// one. The function itself does nothing.
+pub fn words_of_all_kinds_are_known()
+    ensures { AllAreKnown }
 {}

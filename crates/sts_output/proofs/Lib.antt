@@ -1,3 +1,4 @@
+pub mod ReasonLemmas
 pub mod RunLemmas
 pub mod Splits
 pub mod StopLemmas

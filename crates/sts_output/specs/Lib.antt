@@ -1,4 +1,5 @@
 pub mod Joined
+pub mod Kept
 pub mod Output
 pub mod Printed
 pub mod Reasons

@@ -1,13 +1,15 @@
 -- The lines on standard error that say why something was not printed as asked (this project's own).
-use Rattle.std.specs.Prelude.{ℕ, ◌-◌, ◌==◌, List, [], ◌∷◌, ◌++◌, Option, Some, None}
-use Rattle.std.specs.Prelude.{Result, Ok, Err, codes, if◌then◌else◌, map, take, slice_get}
+use Rattle.std.specs.Prelude.{◌≡◌, ◌⊎◌, ℕ, ◌-◌, ◌==◌, List, [], ◌∷◌, ◌++◌, map, take, slice_get}
+use Rattle.std.specs.Prelude.{Option, Some, None, option_map, Result, Ok, Err, codes, if◌then◌else◌}
 use Rattle.std.specs.Fmt.{decimal}
 use Rattle.std.specs.List.{ends_with, list_any}
+use Rattle.std.specs.Option.{option_or}
+use Rattle.std.specs.IoError.{error_kind}
 use Rattle.std.specs.Str.{bytes_eq}
+use Rattle.std.specs.declared.io.Error.{Error}
 use Rattle.std.specs.declared.io.ErrorKind.{ErrorKind}
 use Rattle.std.specs.declared.io.ErrorKind.TheVariants as kind
 use Rattle.sts_text.specs.Words.{lines}
-use Rattle.sts_code.specs.Program.{Program}
 use Rattle.sts_code.specs.declared.checking.CodeCause.{CodeCause}
 use Rattle.sts_code.specs.declared.checking.CodeCause.TheVariants as check
 use Rattle.sts_code.specs.declared.checking.CodeError.{CodeError}
@@ -17,12 +19,15 @@ use Rattle.sts_asm.specs.Source.{outlined, sentence_at}
 use Rattle.sts_asm.specs.declared.fault.AsmKind.{AsmKind}
 use Rattle.sts_asm.specs.declared.fault.AsmKind.TheVariants.{Code, TextTooLong}
 use Rattle.sts_asm.specs.declared.fault.AsmError.{AsmError}
+use Rattle.sts_trace.specs.Reading.{outside_read, trace_read}
 use Rattle.sts_trace.specs.declared.error.TraceError.{TraceError}
 use Rattle.sts_trace.specs.declared.error.TraceError.TheVariants as trace
 use Rattle.sts_trace.specs.declared.outside.Due.{Due}
 use Rattle.sts_output.specs.Shown.{shown_byte}
 use Rattle.sts_output.specs.declared.file_error.FileError.{FileError}
 use Rattle.sts_output.specs.declared.file_error.FileError.TheVariants as file_error
+use Rattle.sts_output.specs.declared.notes.Events.{Events}
+use Rattle.sts_output.specs.declared.notes.Events.TheVariants as events
 
 -- ---- files
 
@@ -57,6 +62,12 @@ file_line program (file_error.Unwritten path kind) =
     unwritten_line program path.now (kind_words kind)
 file_line program (file_error.Overwrites path) =
     unwritten_line program path.now (codes "this run reads that file")
+
+-- the line about a file that was not written, if there was an error
+abbrev pub unwritten_reason : List ℕ → List ℕ → Option Error → Option (List ℕ)
+unwritten_reason program path None = None
+unwritten_reason program path (Some error) =
+    Some (unwritten_line program path (kind_words (error_kind error)))
 
 -- ---- lines of texts
 
@@ -113,10 +124,6 @@ fault_reason program name text e =
     reason_line program name (place text (fault_line text e) ++ fault_words e.kind)
     (codes "; ./look explain FILE says more")
 
-abbrev pub text_reason : List ℕ → List ℕ → List ℕ → Result Program AsmError → Option (List ℕ)
-text_reason program name text (Ok p) = None
-text_reason program name text (Err e) = Some (fault_reason program name text e)
-
 -- ---- faults of a trace or an outside text
 
 -- what is often wrong with a line: it ends as on Windows, or it is short for several lines
@@ -157,3 +164,35 @@ abbrev pub outside_reason : List ℕ → List ℕ → List ℕ → Result (List 
 outside_reason program name text (Ok dues) = None
 outside_reason program name text (Err e) =
     Some (events_line program name text e (codes "; docs/LANGUAGE.md#outside-events says more"))
+
+-- ---- the line of a status
+
+abbrev pub events_reason : List ℕ → Events → Option (List ℕ)
+events_reason program events.None = None
+events_reason program (events.Trace named) =
+    trace_reason program named.name.now named.text.now (trace_read named.text.now)
+events_reason program (events.Outside named) =
+    outside_reason program named.name.now named.text.now (outside_read named.text.now)
+
+-- the line about the first fault: one of the text comes before one of its events
+abbrev pub first_reason : List ℕ → (name text : List ℕ) → Option AsmError → Option (List ℕ)
+    → Option (List ℕ)
+first_reason program name text fault of_events =
+    option_or (option_map (fault_reason program name text) fault) of_events
+
+-- `sts: ./look explain FILE says why`
+abbrev pub refused_reason : List ℕ → List ℕ
+refused_reason program = program ++ codes ": ./look explain FILE says why\n"
+
+-- The line that says why there was this status, for a text with this fault or with none. A fault of
+-- its events has a line of its own.
+abbrev pub status_reason : List ℕ → ℕ → (name text : List ℕ) → Option AsmError → Option (List ℕ)
+    → Option (List ℕ)
+status_reason program status name text fault of_events =
+    if status == 3 then first_reason program name text fault of_events
+    else (if status == 4 then Some (refused_reason program) else None)
+
+-- A line is added, if there is one and there is memory for it.
+abbrev pub Adds : (old new : List ℕ) → Option (List ℕ) → Type 0
+Adds old new None = new ≡ old
+Adds old new (Some line) = (new ≡ old) ⊎ (new ≡ old ++ line)

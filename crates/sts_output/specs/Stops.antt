@@ -6,8 +6,8 @@ use Rattle.sts_model.specs.declared.event.Event.{Event}
 use Rattle.sts_asm.specs.declared.fault.AsmError.{AsmError}
 use Rattle.sts_trace.specs.declared.error.TraceError.{TraceError}
 use Rattle.sts_output.specs.Output.{Output, memory_output, text_fault_output, trace_fault_output}
+use Rattle.sts_output.specs.Kept.{KeepsFault}
 use Rattle.sts_output.specs.declared.assembled.Assembled.{Assembled}
-use Rattle.sts_output.specs.declared.assembled.Assembled.TheVariants.{Fault}
 use Rattle.sts_output.specs.declared.stopped.Stopped.{Stopped}
 use Rattle.sts_output.specs.declared.stopped.Stopped.TheVariants as stopped
 
@@ -30,9 +30,10 @@ pub record IsTextFault (read : Result Program AsmError) (output : Output) : Type
   pub fault : read ≡ Err error
   pub printed : output ≡ text_fault_output error
 
--- the fault of the text, if it has one, is kept
-abbrev pub KeepsFault : Result Program AsmError → Assembled → Type 0
-KeepsFault read assembled = (error : AsmError) → read ≡ Err error → assembled ≡ Fault error
+-- the fault of the text is kept, unless memory ran out
+abbrev pub Keeps : {T : Type 0} → Result T Stopped → Result Program AsmError → (old new : Assembled)
+    → Type 0
+Keeps r read old new = Gives r (λ _. KeepsFault read old new) (λ _. KeepsFault read old new)
 
 -- the output for a fault of a trace
 pub record IsTraceFault (read : Result (List Event) TraceError) (output : Output) : Type 0 where

@@ -1,5 +1,9 @@
 //! What an assembled text leaves for the lines on standard error.
 
+ghost use Rattle.std.specs.Prelude.{◌≡◌};
+ghost use Rattle.std.specs.Option.{option_copied};
+ghost use Rattle.sts_output.specs.Kept as def;
+
 use sts_asm::AsmError;
 use sts_code::Program;
 
@@ -17,7 +21,9 @@ pub enum Assembled {
 
 impl Assembled {
     /// Returns the fault of the text, if it is kept.
-    pub fn fault(&self) -> Option<AsmError> {
+    pub fn fault(&self) -> Option<AsmError>
+        ensures { result ≡ def.kept_fault self.now }
+    {
         match self {
             Assembled::Fault(error) => Some(*error),
             _ => None,
@@ -25,7 +31,9 @@ impl Assembled {
     }
 
     /// Returns the program, if it is kept.
-    pub fn program(&self) -> Option<&Program> {
+    pub fn program(&self) -> Option<&Program>
+        ensures { option_copied result ≡ def.kept_program self.now }
+    {
         match self {
             Assembled::Program(program) => Some(program),
             _ => None,

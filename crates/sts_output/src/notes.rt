@@ -1,5 +1,9 @@
 //! The lines on standard error that tell a person why something failed.
 
+ghost use Rattle.std.specs.Prelude.{◌≡◌, ◌⊎◌, ◌++◌, [], Some, IfOk, option_map};
+ghost use Rattle.std.specs.String.{string_bytes};
+ghost use Rattle.sts_output.specs.Reasons as def;
+
 use crate::file_error::FileError;
 use crate::reasons::{Named, outside_reason, text_reason, trace_reason};
 use std::alloc::{AllocError, Global};
@@ -30,7 +34,10 @@ pub struct Notes {
 
 impl Notes {
     /// Returns notes with no line, of a program of this name.
-    pub fn new(alloc: Global, program: &'static str) -> Notes {
+    pub fn new(alloc: Global, program: &'static str) -> Notes
+        ensures program { result.program ≡ program.entry }
+        ensures lines { result.lines.items ≡ [] }
+    {
         Notes {
             alloc,
             program,
@@ -39,26 +46,37 @@ impl Notes {
     }
 
     /// Returns the lines.
-    pub fn lines(&self) -> &[u8] {
+    pub fn lines(&self) -> &[u8]
+        ensures { result.now ≡ self.now.lines.items }
+    {
         self.lines.as_slice()
     }
 
-    fn add(&mut self, line: &[u8]) {
-        let known = self.lines.len();
-        if self.lines.extend_from_slice(line).is_err() {
-            self.lines.truncate(known);
-        }
+    /// Adds a line, if there is memory for it.
+    fn add(&mut self, line: &[u8])
+        ensures program { self.new.program ≡ self.old.program }
+        ensures line { def.Adds self.old.lines.items self.new.lines.items (Some line.now) }
+    {
+        let _added = self.lines.extend_from_slice(line);
     }
 
     /// Adds which file was not read or written, and why.
-    pub fn file(&mut self, error: FileError<'_>) {
+    pub fn file(&mut self, error: FileError<'_>)
+        ensures program { self.new.program ≡ self.old.program }
+        ensures line { def.Adds self.old.lines.items self.new.lines.items
+            (Some (def.file_line self.old.program.now error.entry)) }
+    {
         if let Ok(line) = error.line(self.alloc, self.program) {
             self.add(line.as_slice());
         }
     }
 
     /// Adds that a file was not written, if there was an error.
-    pub fn written(&mut self, path: &str, error: Option<io::Error>) {
+    pub fn written(&mut self, path: &str, error: Option<io::Error>)
+        ensures program { self.new.program ≡ self.old.program }
+        ensures line { def.Adds self.old.lines.items self.new.lines.items
+            (def.unwritten_reason self.old.program.now path.now error) }
+    {
         if let Some(error) = error {
             self.file(FileError::unwritten(path, &error));
         }
@@ -72,17 +90,37 @@ impl Notes {
         text: Named<'_>,
         fault: Option<AsmError>,
         events: Events<'_>,
-    ) {
-        if status == STATUS_FAULT {
-            if let Ok(Some(line)) = fault_line(self.alloc, self.program, text, fault, events) {
-                self.add(line.as_slice());
-            }
+    )
+        ensures program { self.new.program ≡ self.old.program }
+        ensures line { def.Adds self.old.lines.items self.new.lines.items
+            (def.status_reason self.old.program.now status
+            text.entry.name.now text.entry.text.now fault
+            (def.events_reason self.old.program.now events.entry)) }
+    {
+        let line = status_line(self.alloc, self.program, status, text, fault, events);
+        if let Ok(Some(line)) = line {
+            self.add(line.as_slice());
         }
-        if status == STATUS_REFUSED {
-            if let Ok(line) = refused_line(self.alloc, self.program) {
-                self.add(line.as_bytes());
-            }
-        }
+    }
+}
+
+/// Returns the line that says why there was this status, if it has one.
+fn status_line(
+    alloc: Global,
+    program: &str,
+    status: u8,
+    text: Named<'_>,
+    fault: Option<AsmError>,
+    events: Events<'_>,
+) -> Result<Option<Vec<u8>>, AllocError>
+    ensures { IfOk result (λ r. option_map (λ line. line.items) r
+        ≡ def.status_reason program.now status text.entry.name.now text.entry.text.now
+        fault (def.events_reason program.now events.entry)) }
+{
+    match status {
+        STATUS_FAULT => fault_line(alloc, program, text, fault, events),
+        STATUS_REFUSED => Ok(Some(refused_line(alloc, program)?.into_bytes())),
+        _ => Ok(None),
     }
 }
 
@@ -93,7 +131,11 @@ fn fault_line(
     text: Named<'_>,
     fault: Option<AsmError>,
     events: Events<'_>,
-) -> Result<Option<Vec<u8>>, AllocError> {
+) -> Result<Option<Vec<u8>>, AllocError>
+    ensures { IfOk result (λ r. option_map (λ line. line.items) r
+        ≡ def.first_reason program.now text.entry.name.now text.entry.text.now
+        fault (def.events_reason program.now events.entry)) }
+{
     if let Some(error) = fault {
         return Ok(Some(text_reason(alloc, program, text, error)?));
     }
@@ -104,6 +146,8 @@ fn fault_line(
     }
 }
 
-fn refused_line(alloc: Global, program: &str) -> Result<String, AllocError> {
+fn refused_line(alloc: Global, program: &str) -> Result<String, AllocError>
+    ensures { IfOk result (λ line. string_bytes line ≡ def.refused_reason program.now) }
+{
     format!(in alloc; "{program}: ./look explain FILE says why\n")
 }

@@ -1,9 +1,7 @@
 //! Lines for standard error that say where a text has its fault.
 
-ghost use Rattle.std.specs.Prelude.{◌≡◌, ◌++◌, IfOk, OnOk, Some, None, option_map, Ok, Result};
-ghost use Rattle.sts_code.specs.Program.{Program as AnyProgram};
-ghost use Rattle.sts_asm.specs.Fault.{FailsAt};
-ghost use Rattle.sts_asm.specs.declared.fault.AsmError.{AsmError};
+ghost use Rattle.std.specs.Prelude.{◌≡◌, ◌≢◌, ◌++◌, IfOk, OnOk, Some, None, option_map, Ok};
+ghost use Rattle.sts_asm.specs.declared.fault.AsmKind.TheVariants.{Memory};
 ghost use Rattle.std.specs.Option.{option_copied};
 ghost use Rattle.sts_asm.specs.Source.{outlined as outlined_of};
 ghost use Rattle.sts_trace.specs.Reading.{outside_read, trace_read};
@@ -170,9 +168,8 @@ pub fn text_reason(
     named: Named<'_>,
     error: AsmError,
 ) -> Result<Vec<u8>, AllocError>
-    ensures { (read : Result AnyProgram AsmError) → FailsAt error error.kind read
-        → IfOk result (λ line. Some line.items
-        ≡ def.text_reason program.now named.entry.name.now named.entry.text.now read) }
+    ensures { IfOk result (λ line. (error.kind ≢ Memory) × (line.items
+        ≡ def.fault_reason program.now named.entry.name.now named.entry.text.now error)) }
 {
     if matches!(error.kind, AsmKind::Memory) {
         return Err(AllocError);

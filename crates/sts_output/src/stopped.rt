@@ -1,6 +1,6 @@
 //! Why a mode or an explanation goes no further, and the steps that modes share.
 
-ghost use Rattle.std.specs.Prelude.{◌≡◌, IfOk, Ok, ⊤};
+ghost use Rattle.std.specs.Prelude.{◌≡◌, IfOk, Ok};
 ghost use Rattle.sts_asm.specs.Text.{judged};
 ghost use Rattle.sts_trace.specs.Reading.{trace_read};
 ghost use Rattle.sts_output.specs.Output.{Output as AnyOutput, Writes};
@@ -45,8 +45,7 @@ impl From<AllocError> for Stopped {
 pub fn program_of(alloc: Global, text: &[u8], assembled: &mut Assembled) -> Result<Program, Stopped>
     ensures program { def.Gives result (λ p. judged text.now ≡ Ok p)
         (def.IsTextFault (judged text.now)) }
-    ensures fault { def.Gives result (λ _. ⊤)
-        (λ _. def.KeepsFault (judged text.now) assembled.new) }
+    ensures fault { def.Keeps result (judged text.now) assembled.old assembled.new }
 {
     match assemble(alloc, text) {
         Ok(program) => Ok(program),

@@ -3,7 +3,7 @@
 ghost use Rattle.std.specs.Prelude.{◌≡◌};
 ghost use Rattle.sts_asm.specs.Text.{judged};
 ghost use Rattle.sts_output.specs.Output as def;
-ghost use Rattle.sts_output.specs.Stops.{Prints};
+ghost use Rattle.sts_output.specs.Stops.{Keeps, Prints};
 
 use crate::assembled::Assembled;
 use crate::output::Output;
@@ -16,7 +16,8 @@ use std::alloc::Global;
 ///
 /// The text has a fault, or memory ran out.
 pub fn listed(alloc: Global, text: &[u8], assembled: &mut Assembled) -> Result<Output, Stopped>
-    ensures { Prints result (λ o. o ≡ def.list_output (judged text.now)) }
+    ensures output { Prints result (λ o. o ≡ def.list_output (judged text.now)) }
+    ensures fault { Keeps result (judged text.now) assembled.old assembled.new }
 {
     let program = program_of(alloc, text, assembled)?;
     let listing = sts_list::list(alloc, &program)?;

@@ -4,7 +4,7 @@ ghost use Rattle.std.specs.Prelude.{IfOk};
 ghost use Rattle.std.specs.String.{string_bytes};
 ghost use Rattle.sts_asm.specs.Text.{judged};
 ghost use Rattle.sts_output.specs.Output as def;
-ghost use Rattle.sts_output.specs.Stops.{Prints};
+ghost use Rattle.sts_output.specs.Stops.{Keeps, Prints};
 
 use crate::assembled::Assembled;
 use crate::output::Output;
@@ -61,7 +61,8 @@ fn told(alloc: Global, verified: &Verified) -> Result<Output, AllocError>
 ///
 /// The text has a fault, the program is refused, or memory ran out.
 pub fn verified(alloc: Global, text: &[u8], assembled: &mut Assembled) -> Result<Output, Stopped>
-    ensures { Prints result (def.VerifyShows (judged text.now)) }
+    ensures output { Prints result (def.VerifyShows (judged text.now)) }
+    ensures fault { Keeps result (judged text.now) assembled.old assembled.new }
 {
     let program = program_of(alloc, text, assembled)?;
     let verified = verified_of(alloc, program)?;
