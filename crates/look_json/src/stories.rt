@@ -4,7 +4,7 @@ ghost use Rattle.std.specs.Prelude.{◌≡◌, IfOk, Ok};
 ghost use Rattle.sts_asm.specs.Text.{judged};
 ghost use Rattle.sts_trace.specs.Reading.{trace_read};
 ghost use Rattle.sts_output.specs.Output as cli;
-ghost use Rattle.sts_output.specs.Stops.{KeepsFault};
+ghost use Rattle.sts_output.specs.Kept.{KeepsFault};
 ghost use Rattle.look_tell.specs.Telling.{IsStoryOf};
 ghost use Rattle.look_json.specs.Stories as def;
 
@@ -77,7 +77,8 @@ fn of_trace(
 fn told(alloc: Global, asked: StoryOf<'_>, assembled: &mut Assembled) -> Result<Output, AllocError>
     ensures told { IfOk result (λ o. def.Tells asked.entry.options (judged asked.entry.text.now)
         asked.entry.text.now asked.entry.trace.now o) }
-    ensures fault { IfOk result (λ _. KeepsFault (judged asked.entry.text.now) assembled.new) }
+    ensures fault { IfOk result (λ _. KeepsFault (judged asked.entry.text.now)
+        assembled.old assembled.new) }
 {
     let ReadText { names, program } = read_text(alloc, asked.text)?;
     match program {

@@ -5,7 +5,8 @@ ghost use Rattle.sts_asm.specs.Fault.{IsJudged};
 ghost use Rattle.sts_asm.specs.Text.{judged};
 ghost use Rattle.sts_trace.specs.Reading.{trace_read};
 ghost use Rattle.sts_output.specs.Output.{Output as AnyOutput, Writes};
-ghost use Rattle.sts_output.specs.Stops.{KeepsFault, Prints};
+ghost use Rattle.sts_output.specs.Kept.{KeepsFault, KeepsProgram};
+ghost use Rattle.sts_output.specs.Stops.{Keeps, Prints};
 ghost use Rattle.look_lines.specs.Form as def;
 
 use crate::form::{Form, Run};
@@ -53,7 +54,8 @@ pub fn shown<F: Form>(
 ) -> Result<Output, AllocError>
     requires { IsJudged read }
     ensures shown { IfOk result (λ o. o ≡ def.text_output (F.shows form.now) read trace.now) }
-    ensures fault { IfOk result (λ _. KeepsFault read assembled.new) }
+    ensures fault { IfOk result (λ _. KeepsFault read assembled.old assembled.new) }
+    ensures program { IfOk result (λ _. KeepsProgram read assembled.new) }
 {
     match read {
         Ok(program) => {
@@ -76,8 +78,9 @@ fn shown_of_text<F: Form>(
     trace: &[u8],
     assembled: &mut Assembled,
 ) -> Result<Output, Stopped>
-    ensures { Prints result (λ o. o
+    ensures output { Prints result (λ o. o
         ≡ def.text_output (F.shows form.now) (judged text.now) trace.now) }
+    ensures fault { Keeps result (judged text.now) assembled.old assembled.new }
 {
     let Source { program, .. } = read(alloc, text)?;
     Ok(shown(alloc, form, program, trace, assembled)?)

@@ -5,7 +5,7 @@ ghost use Rattle.std.specs.String.{string_bytes};
 ghost use Rattle.sts_asm.specs.Text.{judged};
 ghost use Rattle.sts_plain.specs.Seen.{shown as shown_state};
 ghost use Rattle.sts_output.specs.Output as cli;
-ghost use Rattle.sts_output.specs.Stops.{Prints};
+ghost use Rattle.sts_output.specs.Stops.{Keeps, Prints};
 ghost use Rattle.look_lines.specs.Form.{text_output};
 ghost use Rattle.look_lines.specs.Watched.{watched};
 ghost use Rattle.look_tell.specs.Story.{after_events};
@@ -389,9 +389,10 @@ fn picture(
     trace: &[u8],
     assembled: &mut Assembled,
 ) -> Result<Output, Stopped>
-    ensures { Prints result (λ o. o
+    ensures output { Prints result (λ o. o
         ≡ text_output (def.picture_form files.entry text.now options) (judged text.now)
         trace.now) }
+    ensures fault { Keeps result (judged text.now) assembled.old assembled.new }
 {
     let ReadText { names, program } = read_text(alloc, text)?;
     let form = Picture {

@@ -4,7 +4,7 @@
 ghost use Rattle.std.specs.Prelude.{◌≡◌, IfOk};
 ghost use Rattle.sts_asm.specs.Text.{judged};
 ghost use Rattle.sts_output.specs.Output.{Output as AnyOutput, Writes};
-ghost use Rattle.sts_output.specs.Stops.{Prints};
+ghost use Rattle.sts_output.specs.Stops.{Keeps, Prints};
 ghost use Rattle.look_lines.specs.Form.{text_output};
 ghost use Rattle.look_view.specs.View as def;
 
@@ -48,8 +48,9 @@ fn view(
     trace: &[u8],
     assembled: &mut Assembled,
 ) -> Result<Output, Stopped>
-    ensures { Prints result (λ o. o
+    ensures output { Prints result (λ o. o
         ≡ text_output (def.named_form text.now wanted) (judged text.now) trace.now) }
+    ensures fault { Keeps result (judged text.now) assembled.old assembled.new }
 {
     let ReadText { names, program } = read_text(alloc, text)?;
     let form = ViewOfText {
