@@ -156,17 +156,6 @@ impl<'t> Names<'t> {
         })
     }
 
-    /// Returns the lines and the names of a text, also of one with a fault.
-    ///
-    /// # Errors
-    ///
-    /// Memory ran out.
-    pub fn read(alloc: Global, text: &'t [u8]) -> Result<Names<'t>, AllocError>
-        ensures { IfOk result (λ n. n ≡ text.now) }
-    {
-        Ok(read_text(alloc, text)?.names)
-    }
-
     /// Returns the functions of the text with their lines, or none if a line has a fault.
     pub fn outline(&self) -> &Outline<'t>
         ensures { result.now ≡ def.outline_of self.now }
