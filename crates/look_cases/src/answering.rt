@@ -1,6 +1,6 @@
 //! The answer to a case.
 
-ghost use Rattle.std.specs.Prelude.{◌≡◌, ℕ, [], IfOk, Result, Ok, Err, option_map};
+ghost use Rattle.std.specs.Prelude.{◌≡◌, ℕ, [], IfErr, IfOk, Result, Ok, Err, option_map};
 ghost use Rattle.serde_json.specs.Data.{Data};
 ghost use Rattle.serde_json.specs.View.{view};
 ghost use Rattle.sts_code.specs.Program.{Program as AnyProgram};
@@ -9,6 +9,7 @@ ghost use Rattle.sts_plain.specs.Seen.{shown};
 ghost use Rattle.sts_rules.specs.Refusal.{IsRefusal};
 ghost use Rattle.sts_asm.specs.Fault.{FailsAt};
 ghost use Rattle.sts_asm.specs.declared.fault.AsmError.{AsmError};
+ghost use Rattle.sts_output.specs.Stops.{IsReported, program_in};
 ghost use Rattle.sts_trace.specs.Reading.{trace_read};
 ghost use Rattle.look_cases.specs.Answer as def;
 ghost use Rattle.look_cases.specs.Case.{seen};
@@ -109,15 +110,24 @@ impl Asked<'_> {
         self.of_program(alloc, &refusal.program, verdict)
     }
 
+    /// Returns the answer of a program that was judged.
+    fn of_judged(self, alloc: Global, judged: &Result<Verified, Refusal>) -> Made
+        requires { IfErr judged.now IsReported }
+        ensures { IfOk result (λ v. def.Answers self.entry.number (seen self.entry.case)
+            (Ok (program_in judged.now)) (view v)) }
+    {
+        match judged {
+            Ok(verified) => self.of_accepted(alloc, verified),
+            Err(refusal) => self.of_refused(alloc, refusal),
+        }
+    }
+
     /// Returns the answer of a text that spells a program.
     fn judged_program(self, alloc: Global, program: Program) -> Made
         ensures { IfOk result (λ v. def.Answers self.entry.number (seen self.entry.case)
             (Ok program) (view v)) }
     {
-        match judge(alloc, program)? {
-            Ok(verified) => self.of_accepted(alloc, &verified),
-            Err(refusal) => self.of_refused(alloc, &refusal),
-        }
+        self.of_judged(alloc, &judge(alloc, program)?)
     }
 
     /// Returns the answer of a text with a fault.
@@ -142,6 +152,36 @@ fn no_case(alloc: Global, number: u64) -> Made
             ("version", Scalar::Count(VERSION)),
         ],
     )
+}
+
+/// Returns the answer to a case whose program was judged.
+///
+/// # Errors
+///
+/// Memory was refused.
+pub fn answer_judged(
+    alloc: Global,
+    number: u64,
+    case: Case<'_>,
+    judged: &Result<Verified, Refusal>,
+) -> Made
+    requires { IfErr judged.now IsReported }
+    ensures { IfOk result (λ v. def.Answers number (seen case.entry) (Ok (program_in judged.now))
+        (view v)) }
+{
+    Asked { number, case }.of_judged(alloc, judged)
+}
+
+/// Returns the answer to a case whose text has this fault. Running out of memory is no fault of it.
+///
+/// # Errors
+///
+/// Memory was refused.
+pub fn answer_faulty(alloc: Global, number: u64, case: Case<'_>, error: AsmError) -> Made
+    ensures { (read : Result AnyProgram AsmError) → FailsAt error error.kind read
+        → IfOk result (λ v. def.Answers number (seen case.entry) read (view v)) }
+{
+    Asked { number, case }.faulty_text(alloc, error)
 }
 
 /// Returns the answer to the case of this number, or to a line that says no case.

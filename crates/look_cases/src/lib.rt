@@ -10,7 +10,7 @@ mod replies;
 mod runs;
 mod verdicts;
 
-pub use answering::answer;
+pub use answering::{answer, answer_faulty, answer_judged};
 pub use faults::{text_fault, trace_fault};
 pub use objects::{Made, Scalar, object_of, value_of, widened, with_list, with_member, with_text};
 pub use reading::{Case, case_of};

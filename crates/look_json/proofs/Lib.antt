@@ -1,2 +1,3 @@
 mod AnswerFloats
 mod Plain
+pub mod ExplainedLemmas

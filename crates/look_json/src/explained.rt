@@ -1,25 +1,30 @@
 //! What is wrong with a text, as lines of JSON.
 
-ghost use Rattle.std.specs.Prelude.{◌≡◌, ◌++◌, IfOk, OnOk, Some, false};
+ghost use Rattle.std.specs.Prelude.{◌≡◌, ◌≢◌, ◌++◌, IfErr, IfOk, OnOk, Ok, Err, false};
 ghost use Rattle.std.specs.String.{string_bytes};
 ghost use Rattle.serde_json.specs.View.{view};
 ghost use Rattle.serde_json.specs.Written.{has_float};
+ghost use Rattle.sts_asm.specs.Source.{outline_or_empty, outlined};
+ghost use Rattle.sts_asm.specs.Text.{judged as judged_text};
+ghost use Rattle.sts_asm.specs.declared.fault.AsmKind.TheVariants.{Memory};
 ghost use Rattle.sts_output.specs.Output as cli;
+ghost use Rattle.sts_output.specs.Stops.{IsReported, program_in};
 ghost use Rattle.sts_text.specs.Words.{lines};
-ghost use Rattle.look_cases.specs.Answer.{IsAnswer};
 ghost use Rattle.look_views.specs.Views.{line};
 ghost use Rattle.look_json.specs.Explained as def;
 
 use crate::lines::text_of;
-use look_cases::{Case, Made, answer};
+use look_cases::{Case, Made, answer_faulty, answer_judged};
 use look_lines::Said;
-use look_refusal::{explanation_of, whole};
+use look_refusal::{text_fault, verdict};
 use look_views::{VERSION, push_line, push_made};
 use serde_json::{Value, json};
 use std::alloc::{AllocError, Global};
 use std::io::Write;
-use sts_output::{Output, Status, TakeError, failed, written};
+use sts_asm::{AsmError, Outline, Source, read};
+use sts_output::{Output, Refusal, Status, TakeError, failed, judge, written};
 use sts_text::cut_at_newline;
+use sts_verify::Verified;
 
 fn said(alloc: Global, words: &[u8]) -> Made
     ensures { IfOk result (λ v. view v ≡ def.said words.now) }
@@ -69,13 +74,6 @@ fn say_explained(alloc: Global, out: &mut String, words: &[u8]) -> Said
     }
 }
 
-/// The answer to a text as a case.
-fn answered(alloc: Global, text: &[u8]) -> Made
-    ensures { IfOk result (λ v. IsAnswer 1 (Some (def.case_of text.now)) (view v)) }
-{
-    answer(alloc, 1, Some(Case { text, trace: None }))
-}
-
 /// These lines, with the status of an output.
 pub(crate) fn with_status(text: String, told: &Output) -> Output
     ensures { result ≡ record { bytes = string_bytes text; status = told.now.status } }
@@ -94,14 +92,44 @@ fn said_by(alloc: Global, answer: &Value, told: &Output) -> Result<String, Alloc
     Ok(out)
 }
 
+/// The answer, and the lines of the explanation, of a program that was judged.
+fn of_judged(
+    alloc: Global,
+    outline: &Outline<'_>,
+    judged: &Result<Verified, Refusal>,
+    text: &[u8],
+) -> Result<Output, AllocError>
+    requires outline { outline.now ≡ outline_or_empty (outlined text.now) }
+    requires program { judged_text text.now ≡ Ok (program_in judged.now) }
+    requires refusal { IfErr judged.now IsReported }
+    ensures { IfOk result (λ o. def.IsExplained text.now o) }
+{
+    let value = answer_judged(alloc, 1, Case { text, trace: None }, judged)?;
+    let told = verdict(alloc, outline, judged)?;
+    let said = said_by(alloc, &value, &told)?;
+    Ok(with_status(said, &told))
+}
+
+/// The answer, and the lines of the explanation, of a text with this fault.
+fn of_fault(alloc: Global, text: &[u8], error: AsmError) -> Result<Output, AllocError>
+    requires fault { error.kind ≢ Memory }
+    requires text { judged_text text.now ≡ Err error }
+    ensures { IfOk result (λ o. def.IsExplained text.now o) }
+{
+    let value = answer_faulty(alloc, 1, Case { text, trace: None }, error)?;
+    let told = text_fault(alloc, error, text)?;
+    let said = said_by(alloc, &value, &told)?;
+    Ok(with_status(said, &told))
+}
+
 fn said_of(alloc: Global, text: &[u8]) -> Result<Output, AllocError>
     ensures { IfOk result (λ o. def.IsExplained text.now o) }
 {
-    let printed = explanation_of(alloc, text)?;
-    let told = whole(printed)?;
-    let value = answered(alloc, text)?;
-    let said = said_by(alloc, &value, &told)?;
-    Ok(with_status(said, &told))
+    let Source { outline, program } = read(alloc, text)?;
+    match program {
+        Ok(program) => of_judged(alloc, &outline, &judge(alloc, program)?, text),
+        Err(error) => of_fault(alloc, text, error),
+    }
 }
 
 /// Writes what is wrong with a text, if anything is, as lines of JSON, and gives the status that

@@ -1,5 +1,5 @@
 -- What explains a text that was read: its fault, or the verdict on its program.
-use Rattle.std.proofs.Common.{◌≡◌, ℕ, List, Bool, true, false, cond, length, refl, sym, ◌∙◌, ap, subst}
+use Rattle.std.proofs.Common.{◌≡◌, ◌≢◌, ℕ, List, Bool, true, false, cond, length, refl, sym, ◌∙◌, ap, subst}
 use Rattle.std.specs.Prelude.{Result, Ok, Err, nat_lt}
 use Rattle.sts_code.specs.Program.{Program}
 use Rattle.sts_asm.specs.declared.fault.AsmKind.TheVariants.{TextTooLong}
@@ -9,7 +9,7 @@ use Rattle.sts_asm.specs.Outline.{Outline, outline_of}
 use Rattle.sts_asm.specs.Source.{outline_or_empty, outlined}
 use Rattle.sts_asm.specs.Text.{judged, program_of}
 use Rattle.sts_output.specs.Output.{Output}
-use Rattle.look_refusal.specs.Output.{Explains, IsVerdict, IsRefused, refused}
+use Rattle.look_refusal.specs.Output.{Explains, IsVerdict, IsRefused, accepted, refused}
 
 -- too long, or as it was read
 abbrev unless_long : {X : Type 0} → Bool → Result X AsmError → Result X AsmError
@@ -30,6 +30,7 @@ verdict_explains text p o output e is v =
     subst (λ (r : Result Program AsmError). Explains r text output) (sym e)
     (o, (spelled text p e ∙ ap (λ (x : Outline). Ok x) (sym is), v))
 
--- a refusal explains it, too
-pub refusal_explains : (text : List ℕ) (p : Program) (o : Outline) (output : Output) → judged text ≡ Ok p → o ≡ outline_or_empty (outlined text) → IsRefused p o output → Explains (judged text) text output
-refusal_explains text p o output e is r = verdict_explains text p o output e is (refused r)
+-- and it doesn't say that memory ran out
+pub verdict_whole : (p : Program) (o : Outline) (output : Output) → IsVerdict p o output → output.status ≢ 6
+verdict_whole p o output (accepted notes sound right e) = λ six. (let zero : 0 ≡ 6 = sym (ap (λ (x : Output). x.status) e) ∙ six in absurd (cc))
+verdict_whole p o output (refused r) = λ six. (let four : 4 ≡ 6 = sym (ap (λ (x : Output). x.status) r.printed) ∙ six in absurd (cc))

@@ -23,4 +23,3 @@ pub mod Walking
 pub mod WayLemmas
 pub mod Weighed
 pub mod WeightLemmas
-pub mod WrittenLemmas

@@ -1,12 +1,12 @@
 //! Explains what is wrong with a text, if anything is.
 
-ghost use Rattle.std.specs.Prelude.{◌≡◌, IfOk, Ok, OnOk};
+ghost use Rattle.std.specs.Prelude.{◌≡◌, IfErr, IfOk, OnOk};
 ghost use Rattle.sts_rules.specs.Refusal.{IsAccepted, IsRefusal};
 ghost use Rattle.sts_asm.specs.Source.{outline_or_empty, outlined};
 ghost use Rattle.sts_asm.specs.Text.{judged};
 ghost use Rattle.sts_budget.specs.Change.{cause_of};
 ghost use Rattle.sts_output.specs.Output as cli;
-ghost use Rattle.sts_output.specs.Stops.{Prints};
+ghost use Rattle.sts_output.specs.Stops.{IsReported, Prints, program_in};
 ghost use Rattle.look_refusal.specs.Output as def;
 
 use crate::differences::difference_lines;
@@ -25,6 +25,7 @@ use sts_budget::Resource;
 use sts_code::Program;
 use sts_output::{Output, Refusal, Status, Stopped, judge, write_shown};
 use sts_rules::Cause;
+use sts_verify::Verified;
 
 /// A program, and the outline of the text that spells it.
 #[derive(Clone, Copy)]
@@ -133,16 +134,22 @@ pub fn refused(alloc: Global, outline: &Outline<'_>, refusal: &Refusal) -> Made
     Ok(Output { bytes, status: 4 })
 }
 
-fn verdict(alloc: Global, outline: &Outline<'_>, program: Program) -> Made
-    ensures { IfOk result (λ o. def.IsVerdict program outline.now o) }
+/// Returns the explanation of a program that was judged.
+///
+/// # Errors
+///
+/// Memory ran out.
+pub fn verdict(alloc: Global, outline: &Outline<'_>, judged: &Result<Verified, Refusal>) -> Made
+    requires { IfErr judged.now IsReported }
+    ensures { IfOk result (λ o. def.IsVerdict (program_in judged.now) outline.now o) }
 {
-    match judge(alloc, program)? {
+    match judged {
         Ok(verified) => Told {
             outline,
             program: verified.program(),
         }
         .accepted(alloc),
-        Err(refusal) => refused(alloc, outline, &refusal),
+        Err(refusal) => refused(alloc, outline, refusal),
     }
 }
 
@@ -162,7 +169,7 @@ pub fn explained_by(
     ensures { IfOk result (λ o. def.Explains (judged text.now) text.now o) }
 {
     match read {
-        Ok(program) => verdict(alloc, outline, program),
+        Ok(program) => verdict(alloc, outline, &judge(alloc, program)?),
         Err(error) => text_fault(alloc, error, text),
     }
 }
@@ -187,19 +194,4 @@ pub fn explain<W: Write>(alloc: Global, text: &[u8], out: &mut W) -> Status
         × cli.Writes (W.contents out.old) (W.contents out.new) s o) }
 {
     write_shown(explained(alloc, text), out)
-}
-
-/// Returns what `explain` prints of a text; it may be that memory ran out.
-///
-/// # Errors
-///
-/// Memory ran out.
-pub fn explanation_of(alloc: Global, text: &[u8]) -> Made
-    ensures { IfOk result (λ o. def.IsExplanation text.now o) }
-{
-    let mut bytes = Vec::new(alloc);
-    match explain(alloc, text, &mut bytes) {
-        Ok(status) => Ok(Output { bytes, status }),
-        Err(_) => Err(AllocError),
-    }
 }

@@ -35,7 +35,7 @@ pub fn whole(told: Output) -> Made
 /// # Errors
 ///
 /// Memory ran out.
-pub(crate) fn text_fault(alloc: Global, error: AsmError, text: &[u8]) -> Made
+pub fn text_fault(alloc: Global, error: AsmError, text: &[u8]) -> Made
     ensures { IfOk result (λ o. o ≡ def.fault_output error text.now) }
 {
     let mut bytes = Vec::new(alloc);

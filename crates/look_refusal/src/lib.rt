@@ -25,7 +25,7 @@ pub mod walk;
 pub mod ways;
 mod weights;
 
-pub use explaining::{explain, explained_by, explanation_of, refused};
-pub use explanation::{Made, program_of, whole};
+pub use explaining::{explain, explained_by, refused, verdict};
+pub use explanation::{Made, program_of, text_fault, whole};
 pub use remedy::{Remedy, label_remedy};
 pub use sentences::remedy_sentence;

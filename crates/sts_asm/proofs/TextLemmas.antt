@@ -63,10 +63,10 @@ closed_open at p b e t = rw (sym e, t) refl
 pub closed_well : (at : ℕ) (p : Outline) (b : Bool) → b ≡ is_some p.current → b ≡ false → closed at p ≡ Ok p
 closed_well at p b e t = rw (sym e, t) refl
 
-told_by : {X : Type 0} (e : AsmError) (k : AsmKind) → k ≢ Memory → FailsAt {X} e k (Err e)
+told_by : {X : Type 0} (e : AsmError) (k : AsmKind) → k ≢ Memory → FailsAt {Y = X} e k (Err e)
 told_by e Memory no = absurd (no refl)
 told_by e _ no = refl
 
 -- a fault of the text is the fault of what was read
-pub told_fault : {X : Type 0} (e : AsmError) → IsJudged {X} (Err e) → FailsAt {X} e e.kind (Err e)
+pub told_fault : {X : Type 0} (e : AsmError) → IsJudged {X = X} (Err e) → FailsAt {Y = X} e e.kind (Err e)
 told_fault e fault = told_by e e.kind fault

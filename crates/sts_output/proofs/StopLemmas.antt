@@ -1,12 +1,20 @@
 -- Outputs of modes and explanations that went on, or no further.
 use Rattle.std.proofs.Common.{◌≡◌, ◌⊎◌, ℕ, List, inl, inr, Result, Ok, Err, arith, ap, refl, sym, subst}
-use Rattle.std.specs.Prelude.{IfOk, Option}
+use Rattle.std.specs.Prelude.{IfErr, IfOk, MatchResult, Option}
+use Rattle.sts_code.specs.Program.{Program}
+use Rattle.sts_rules.specs.Refusal.{IsAccepted, IsRefusal}
 use Rattle.sts_output.specs.Output.{Output, Writes, failure_output, memory_output}
-use Rattle.sts_output.specs.Stops.{Gives, Says, Prints, IsShown}
+use Rattle.sts_output.specs.Stops.{Gives, IsReported, IsShown, Prints, Says, program_in}
+use Rattle.sts_output.specs.declared.refusal.Refusal.{Refusal}
 use Rattle.sts_output.specs.declared.stopped.Stopped.{Stopped}
 use Rattle.sts_output.specs.declared.stopped.Stopped.TheVariants as stopped
 use Rattle.sts_output.specs.declared.taking.TakeError.{TakeError}
 use Rattle.sts_output.specs.declared.taking.TakeError.TheVariants.{Memory, Read}
+
+-- what was judged is the program that was given, and a refusal is the verifier's
+pub judged_right : (r : Result Program Refusal) (p : Program) → MatchResult r (λ v. (v ≡ p) × IsAccepted p) (λ r. (r.program ≡ p) × IsRefusal p r.function r.pc r.cause) → (program_in r ≡ p) × IfErr r IsReported
+judged_right (Ok v) p h = (h.0, tt)
+judged_right (Err r) p h = (h.0, subst (λ (q : Program). IsRefusal q r.function r.pc r.cause) (sym h.0) h.1)
 
 -- what holds of the output that says why may be weakened
 pub says_less : (e : Stopped) (P Q : Output → Type 0) → ((o : Output) → P o → Q o) → Says P e → Says Q e

@@ -4,10 +4,12 @@ use Rattle.std.specs.Prelude.{◌≡◌, ⊤, List, Result, Ok, Err, MatchResult
 use Rattle.sts_code.specs.Program.{Program}
 use Rattle.sts_model.specs.declared.event.Event.{Event}
 use Rattle.sts_asm.specs.declared.fault.AsmError.{AsmError}
+use Rattle.sts_rules.specs.Refusal.{IsRefusal}
 use Rattle.sts_trace.specs.declared.error.TraceError.{TraceError}
 use Rattle.sts_output.specs.Output.{Output, memory_output, text_fault_output, trace_fault_output}
 use Rattle.sts_output.specs.Kept.{KeepsFault}
 use Rattle.sts_output.specs.declared.assembled.Assembled.{Assembled}
+use Rattle.sts_output.specs.declared.refusal.Refusal.{Refusal}
 use Rattle.sts_output.specs.declared.stopped.Stopped.{Stopped}
 use Rattle.sts_output.specs.declared.stopped.Stopped.TheVariants as stopped
 
@@ -23,6 +25,15 @@ Gives r P Q = MatchResult r P (Says Q)
 -- an output, also if it went no further
 abbrev pub Prints : Result Output Stopped → (Output → Type 0) → Type 0
 Prints r P = Gives r P P
+
+-- the program that was judged: it is accepted, or refused
+abbrev pub program_in : Result Program Refusal → Program
+program_in (Ok p) = p
+program_in (Err refusal) = refusal.program
+
+-- a refusal that the verifier reports
+abbrev pub IsReported : Refusal → Type 0
+IsReported refusal = IsRefusal refusal.program refusal.function refusal.pc refusal.cause
 
 -- the output for a fault of the text
 pub record IsTextFault (read : Result Program AsmError) (output : Output) : Type 0 where

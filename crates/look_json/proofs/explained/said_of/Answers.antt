@@ -1,20 +1,11 @@
-use Rattle.std.proofs.Common.{ℕ, List, ◌∙◌, ap, sym, subst}
-use Rattle.sts_output.specs.Output.{Output}
-use Rattle.serde_json.specs.View.{view}
-use Rattle.look_refusal.specs.Output.{IsExplanation}
-use Rattle.look_json.proofs.AnswerFloats.{answer_plain}
+use Rattle.std.proofs.Common.{Ok, ap, sym, ◌∙◌}
+use Rattle.sts_code.specs.Program.{Program}
+use Rattle.sts_output.proofs.StopLemmas.{judged_right}
 use Rattle.look_json.proofs.explained.said_of.Goals as goal
 
-pub returns : goal.returns
-returns c =
-    let text = c.args.text.now in
-    let answer = view c.in_ok-value.value in
-    let made : (b : List ℕ) → Output = λ b. record { bytes = b; status = c.in_ok-told.told.status } in
-    record {
-      answer = answer;
-      explained = c.in_ok-told.told;
-      right = c.in_ok-value.ensures;
-      words = subst (λ (o : Output). IsExplanation text o) (sym c.in_ok-told.ensures.same) c.in_ok-printed.ensures;
-      whole = c.in_ok-told.ensures.whole;
-      printed = c.with_status.ensures ∙ ap made (c.in_ok-said.ensures (answer_plain text answer c.in_ok-value.ensures));
-    }
+pub of_judged-requires-clause-refusal : goal.of_judged-requires-clause-refusal
+of_judged-requires-clause-refusal c = (judged_right _ _ c.in_ok-judge.ensures).1
+
+pub of_judged-requires-clause-program : goal.of_judged-requires-clause-program
+of_judged-requires-clause-program c =
+    sym c.in_ok-read.ensures.program ∙ c.in-Ok.is ∙ ap (λ (p : Program). Ok p) (sym (judged_right _ _ c.in_ok-judge.ensures).0)
