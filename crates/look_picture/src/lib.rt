@@ -6,5 +6,5 @@ pub mod picture;
 mod title;
 mod told;
 
-pub use picture::{Picture, draw};
+pub use picture::draw;
 pub use title::FileNames;
