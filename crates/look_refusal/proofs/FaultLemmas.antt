@@ -1,4 +1,4 @@
--- What explains a text that was read: its fault, or the verdict on its program.
+-- A text is explained by its fault, or by the verdict on its program.
 use Rattle.std.proofs.Common.{◌≡◌, ◌≢◌, ℕ, List, Bool, true, false, cond, length, refl, sym, ◌∙◌, ap, subst}
 use Rattle.std.specs.Prelude.{Result, Ok, Err, nat_lt}
 use Rattle.sts_code.specs.Program.{Program}

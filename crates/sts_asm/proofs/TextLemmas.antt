@@ -4,7 +4,7 @@ use Rattle.sts_asm.specs.declared.fault.AsmKind.{AsmKind}
 use Rattle.sts_asm.specs.declared.fault.AsmKind.TheVariants.{Unclosed, Memory}
 use Rattle.sts_asm.specs.declared.fault.AsmError.{AsmError}
 use Rattle.sts_text.specs.Words.{lines}
-use Rattle.sts_asm.specs.Fault.{◌>>=◌, at_line, FailsAt, IsJudged}
+use Rattle.sts_asm.specs.Fault.{◌>>=◌, at_line, FailsAt}
 use Rattle.sts_asm.specs.Outline.{Outline, empty, line_read, lines_read, closed, outline_of}
 
 -- a good line leads to the lines after it
@@ -63,10 +63,10 @@ closed_open at p b e t = rw (sym e, t) refl
 pub closed_well : (at : ℕ) (p : Outline) (b : Bool) → b ≡ is_some p.current → b ≡ false → closed at p ≡ Ok p
 closed_well at p b e t = rw (sym e, t) refl
 
-told_by : {X : Type 0} (e : AsmError) (k : AsmKind) → k ≢ Memory → FailsAt {Y = X} e k (Err e)
-told_by e Memory no = absurd (no refl)
-told_by e _ no = refl
+told_by : (X : Type 0) (e : AsmError) (k : AsmKind) → k ≢ Memory → FailsAt {Y = X} e k (Err e)
+told_by X e Memory other = absurd (other refl)
+told_by X e _ other = refl
 
 -- a fault of the text is the fault of what was read
-pub told_fault : {X : Type 0} (e : AsmError) → IsJudged {X = X} (Err e) → FailsAt {Y = X} e e.kind (Err e)
-told_fault e fault = told_by e e.kind fault
+pub told_fault : (X : Type 0) (e : AsmError) → e.kind ≢ Memory → FailsAt {Y = X} e e.kind (Err e)
+told_fault X e fault = told_by X e e.kind fault

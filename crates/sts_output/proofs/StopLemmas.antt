@@ -11,7 +11,7 @@ use Rattle.sts_output.specs.declared.stopped.Stopped.TheVariants as stopped
 use Rattle.sts_output.specs.declared.taking.TakeError.{TakeError}
 use Rattle.sts_output.specs.declared.taking.TakeError.TheVariants.{Memory, Read}
 
--- what was judged is the program that was given, and a refusal is the verifier's
+-- the verifier judged the program that was given, and reported the refusal
 pub judged_right : (r : Result Program Refusal) (p : Program) → MatchResult r (λ v. (v ≡ p) × IsAccepted p) (λ r. (r.program ≡ p) × IsRefusal p r.function r.pc r.cause) → (program_in r ≡ p) × IfErr r IsReported
 judged_right (Ok v) p h = (h.0, tt)
 judged_right (Err r) p h = (h.0, subst (λ (q : Program). IsRefusal q r.function r.pc r.cause) (sym h.0) h.1)

@@ -15,7 +15,7 @@ returns c =
     let text = c.args.text.now in
     let told = c.in_ok-told.told in
     let answer = view c.in_ok-value.value in
-    let right = c.in_ok-value.ensures (Err c.args.error) (told_fault c.args.error c.requires.fault) in
+    let right = c.in_ok-value.ensures (Err c.args.error) (told_fault Program c.args.error c.requires.fault) in
     explained_as text answer told c.with_status.result _
     (subst (λ (r : Result Program AsmError). Answers 1 (case_of text) r answer) (sym c.requires.text) right)
     (subst (λ (r : Result Program AsmError). Explains r text told) (sym c.requires.text) c.in_ok-told.ensures)
