@@ -1,3 +1,4 @@
+pub mod Aside
 pub mod Dues
 pub mod Ending
 pub mod Running

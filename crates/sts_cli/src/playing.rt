@@ -1,11 +1,15 @@
 //! Does what a mode asks for, and writes the output.
 
-ghost use Rattle.std.specs.Prelude.{◌≤◌, IfOk, OnOk};
+ghost use Rattle.std.specs.Prelude.{◌≡◌, ◌≤◌, IfOk, OnOk, None};
 ghost use Rattle.std.specs.Io.KnownBytes.{Appends};
+ghost use Rattle.sts_asm.specs.Text.{judged};
 ghost use Rattle.sts_trace.specs.Spelling.{trace_text};
 ghost use Rattle.sts_output.specs.Joined.{halves_of};
+ghost use Rattle.sts_output.specs.Kept.{KeepsFault};
 ghost use Rattle.sts_output.specs.Output as def;
-ghost use Rattle.sts_output.specs.Stops.{Prints};
+ghost use Rattle.sts_output.specs.Stops.{Keeps, Prints};
+ghost use Rattle.sts_output.specs.declared.assembled.Assembled.TheVariants.{Nothing};
+ghost use Rattle.sts_cli.specs.Aside.{LeavesFault};
 ghost use Rattle.sts_cli.specs.Running.{IsOutcomeOf, Outcome, RunWrites, trace_and_output};
 
 use crate::modes::run::{Manner, Ran};
@@ -30,7 +34,8 @@ fn output(
     trace: &[u8],
     assembled: &mut Assembled,
 ) -> Result<Output, Stopped>
-    ensures { Prints result (def.Shows mode text.now trace.now) }
+    ensures output { Prints result (def.Shows mode text.now trace.now) }
+    ensures fault { Keeps result (judged text.now) assembled.old assembled.new }
 {
     match mode {
         Mode::Plain => plain::after_trace(alloc, text, trace, assembled),
@@ -53,8 +58,10 @@ pub(crate) fn play_and_keep<W: Write>(
     out: &mut W,
     assembled: &mut Assembled,
 ) -> Status
-    ensures { IfOk result (λ s. (o : def.Output) × def.IsOutputOf mode text.now trace.now o
+    ensures output { IfOk result (λ s. (o : def.Output) × def.IsOutputOf mode text.now trace.now o
         × def.Writes (W.contents out.old) (W.contents out.new) s o) }
+    ensures fault { IfOk result (λ s. s ≡ 3
+        → KeepsFault (judged text.now) assembled.old assembled.new) }
 {
     write_shown(output(alloc, mode, text, trace, assembled), out)
 }
@@ -107,7 +114,9 @@ pub(crate) struct Aside {
 }
 
 impl Aside {
-    pub(crate) fn new() -> Aside {
+    pub(crate) fn new() -> Aside
+        ensures { (result.assembled ≡ Nothing) × (result.unwritten ≡ None) }
+    {
         Aside {
             assembled: Assembled::Nothing,
             unwritten: None,
@@ -118,8 +127,10 @@ impl Aside {
 
 /// Writes the output of a run, and leaves in `aside` which outside events came.
 fn print_ran<W: Write>(ran: &mut Ran, out: &mut W, aside: &mut Aside) -> Status
-    ensures { IfOk result (λ s.
+    ensures output { IfOk result (λ s.
         def.Writes (W.contents out.old) (W.contents out.new) s ran.old.output) }
+    ensures kept { aside.new.assembled ≡ aside.old.assembled }
+    ensures written { aside.new.unwritten ≡ aside.old.unwritten }
 {
     aside.came = ran.came.take();
     written(out, ran.output.bytes.as_slice(), ran.output.status)
@@ -133,9 +144,11 @@ fn write_ran<T: Write, W: Write>(
     out: &mut W,
     aside: &mut Aside,
 ) -> Status
-    ensures { IfOk result (λ s. RunWrites
+    ensures output { IfOk result (λ s. RunWrites
         (trace_and_output (T.contents trace.old) (T.contents trace.new)
         (W.contents out.old) (W.contents out.new)) s ran.old) }
+    ensures kept { aside.new.assembled ≡ aside.old.assembled }
+    ensures written { IfOk result (λ s. s ≡ 3 → aside.new.unwritten ≡ aside.old.unwritten) }
 {
     match traced(ran.journal.as_slice(), trace) {
         Ok(()) => print_ran(ran, out, aside),
@@ -167,9 +180,11 @@ pub(crate) fn play_untraced<R: Threads + Wait + Sync, W: Write>(
     aside: &mut Aside,
 ) -> Status
     requires { (1 ≤ job.workers) × (job.workers ≤ 16) }
-    ensures { IfOk result (λ s. (o : Outcome)
+    ensures output { IfOk result (λ s. (o : Outcome)
         × IsOutcomeOf job.entry.text.now job.entry.outside.now o
         × def.Writes (W.contents out.old) (W.contents out.new) s o.output) }
+    ensures fault { IfOk result (λ s.
+        LeavesFault s (judged job.entry.text.now) aside.old aside.new) }
 {
     let manner = Manner {
         workers: job.workers,
@@ -192,10 +207,12 @@ pub(crate) fn play_traced<R: Threads + Wait + Sync, T: Write, W: Write>(
     aside: &mut Aside,
 ) -> Status
     requires { (1 ≤ job.workers) × (job.workers ≤ 16) }
-    ensures { IfOk result (λ s. (o : Outcome)
+    ensures output { IfOk result (λ s. (o : Outcome)
         × IsOutcomeOf job.entry.text.now job.entry.outside.now o
         × RunWrites (trace_and_output (T.contents trace.old) (T.contents trace.new)
         (W.contents out.old) (W.contents out.new)) s o) }
+    ensures fault { IfOk result (λ s.
+        LeavesFault s (judged job.entry.text.now) aside.old aside.new) }
 {
     let manner = Manner {
         workers: job.workers,

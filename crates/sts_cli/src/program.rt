@@ -1,18 +1,25 @@
 //! The program `sts`, without its `main`: opens the files that a command line names, and writes the
 //! output.
 
-ghost use Rattle.std.specs.Prelude.{◌≤◌, ℕ, IfOk, List, Option, [], map};
+ghost use Rattle.std.specs.Prelude.{◌≡◌, ◌≤◌, ℕ, IfOk, List, Option, None, [], map};
 ghost use Rattle.clap.specs.Words.{Text};
 ghost use Rattle.sts_args.specs.Asked.{HasWorkers};
 ghost use Rattle.sts_args.specs.Refused.{Refuses};
+ghost use Rattle.sts_cli.specs.Aside.{LeavesFault, run_reason};
 ghost use Rattle.sts_cli.specs.Ending as def;
+ghost use Rattle.sts_asm.specs.Text.{judged};
+ghost use Rattle.sts_trace.specs.Reading.{trace_read};
 ghost use Rattle.sts_output.specs.Joined.{halves_of};
+ghost use Rattle.sts_output.specs.Kept.{fault_in, kept_fault};
 ghost use Rattle.sts_output.specs.Output.{IsOutputOf, Output, Writes};
+ghost use Rattle.sts_output.specs.Reasons.{Adds, events_reason, first_reason, status_reason};
+ghost use Rattle.sts_output.specs.Reasons.{trace_reason};
 ghost use Rattle.sts_output.specs.Streams.{Files as AnyFiles, SameFile, same_file};
 
 use crate::playing::{Aside, Job, play_and_keep, play_traced, play_untraced};
-use crate::remarks::remark_outside;
+use crate::remarks::{Came, remark_outside};
 use std::alloc::{AllocError, Global};
+use std::io;
 use std::io::{Input, Write};
 use std::rt::{Env, Files};
 use std::sync::Wait;
@@ -36,8 +43,11 @@ fn play_text<W: Write>(
     out: &mut W,
     notes: &mut Notes,
 ) -> Status
-    ensures { IfOk result (λ s. (o : Output) × IsOutputOf mode text.entry.text.now [] o
+    ensures output { IfOk result (λ s. (o : Output) × IsOutputOf mode text.entry.text.now [] o
         × Writes (W.contents out.old) (W.contents out.new) s o) }
+    ensures note { IfOk result (λ s. Adds notes.old.lines.items notes.new.lines.items
+        (status_reason notes.old.program.now s text.entry.name.now text.entry.text.now
+        (fault_in (judged text.entry.text.now)) None)) }
 {
     let mut assembled = Assembled::Nothing;
     let status = play_and_keep(alloc, mode, text.text, &[], out, &mut assembled)?;
@@ -79,9 +89,14 @@ fn play_trace<W: Write>(
     out: &mut W,
     remarks: &mut Remarks,
 ) -> Status
-    ensures { IfOk result (λ s. (o : Output)
+    ensures output { IfOk result (λ s. (o : Output)
         × IsOutputOf mode text.entry.text.now trace.entry.text.now o
         × Writes (W.contents out.old) (W.contents out.new) s o) }
+    ensures note { IfOk result (λ s. Adds
+        remarks.old.notes.lines.items remarks.new.notes.lines.items
+        (status_reason remarks.old.notes.program.now s text.entry.name.now text.entry.text.now
+        (fault_in (judged text.entry.text.now)) (trace_reason remarks.old.notes.program.now
+        trace.entry.name.now trace.entry.text.now (trace_read trace.entry.text.now)))) }
 {
     let mut assembled = Assembled::Nothing;
     let alloc = remarks.alloc;
@@ -159,7 +174,10 @@ struct RunRequest<'a> {
 }
 
 /// Returns the outside text of a run, if it has one.
-fn outside_of<'a>(wanted: RunRequest<'a>, texts: &'a Texts) -> Events<'a> {
+fn outside_of<'a>(wanted: RunRequest<'a>, texts: &'a Texts) -> Events<'a>
+    ensures { (program : List ℕ) → events_reason program result
+        ≡ run_reason program wanted.entry.outside texts.now.events.items }
+{
     match wanted.outside {
         Some(name) => Events::Outside(Named::new(name, texts.events.as_slice())),
         None => Events::None,
@@ -178,12 +196,15 @@ fn on_texts<R: Threads + Wait + Sync, S: Sinks, W: Write>(
     aside: &mut Aside,
 ) -> Status
     requires { (1 ≤ wanted.workers) × (wanted.workers ≤ 16) }
-    ensures { IfOk result (λ s. (o : Output)
+    ensures output { IfOk result (λ s. (o : Output)
         × def.IsPrinted (def.Spares
         (same_file (S.same sinks.old) (S.said_yes sinks.old) (S.said_yes sinks.new))
         wanted.entry.file.now wanted.entry.outside wanted.entry.trace)
         texts.now.program.items texts.now.events.items o
         × Writes (W.contents out.old) (W.contents out.new) s o) }
+    ensures fault { IfOk result (λ s.
+        LeavesFault s (judged texts.now.program.items) aside.old aside.new) }
+    ensures notes { IfOk result (λ s. s ≡ 3 → notes.new ≡ notes.old) }
 {
     let (program, outside) = (texts.program.as_slice(), texts.events.as_slice());
     let job = Job {
@@ -200,6 +221,25 @@ fn on_texts<R: Threads + Wait + Sync, S: Sinks, W: Write>(
     }
 }
 
+/// Adds why the trace of a run was not written, if it wasn't.
+fn note_trace(trace: Option<&str>, error: Option<io::Error>, notes: &mut Notes)
+    ensures program { notes.new.program ≡ notes.old.program }
+    ensures lines { error ≡ None → notes.new.lines.items ≡ notes.old.lines.items }
+{
+    if let Some(path) = trace {
+        notes.written(path, error);
+    }
+}
+
+/// Adds which outside events had no effect, if some came.
+fn remark_came(events: Events<'_>, came: Option<&Came>, remarks: &mut Remarks)
+    ensures { remarks.new.notes ≡ remarks.old.notes }
+{
+    if let (Events::Outside(named), Some(came)) = (events, came) {
+        remark_outside(remarks, named, came);
+    }
+}
+
 /// Adds the lines about a run that was done: why it failed, and which outside events had no effect.
 fn remark(
     wanted: RunRequest<'_>,
@@ -207,17 +247,49 @@ fn remark(
     status: u8,
     aside: &mut Aside,
     remarks: &mut Remarks,
-) {
+)
+    ensures { aside.old.unwritten ≡ None → Adds
+        remarks.old.notes.lines.items remarks.new.notes.lines.items
+        (status_reason remarks.old.notes.program.now status wanted.entry.file.now
+        texts.now.program.items (kept_fault aside.old.assembled)
+        (run_reason remarks.old.notes.program.now wanted.entry.outside texts.now.events.items)) }
+{
     let events = outside_of(wanted, texts);
-    if let Some(path) = wanted.trace {
-        remarks.notes.written(path, aside.unwritten.take());
-    }
+    note_trace(wanted.trace, aside.unwritten.take(), &mut remarks.notes);
     let text = Named::new(wanted.file, texts.program.as_slice());
     let fault = aside.assembled.fault();
     remarks.notes.status(status, text, fault, events);
-    if let (Events::Outside(named), Some(came)) = (events, &aside.came) {
-        remark_outside(remarks, named, came);
-    }
+    remark_came(events, aside.came.as_ref(), remarks);
+}
+
+/// Runs texts that were read, and adds the lines about the run.
+fn run_texts<R: Threads + Wait + Sync, S: Sinks, W: Write>(
+    rt: &R,
+    sinks: &mut S,
+    wanted: RunRequest<'_>,
+    texts: &Texts,
+    out: &mut W,
+    remarks: &mut Remarks,
+) -> Status
+    requires { (1 ≤ wanted.workers) × (wanted.workers ≤ 16) }
+    ensures output { IfOk result (λ s. (o : Output)
+        × def.IsPrinted (def.Spares
+        (same_file (S.same sinks.old) (S.said_yes sinks.old) (S.said_yes sinks.new))
+        wanted.entry.file.now wanted.entry.outside wanted.entry.trace)
+        texts.now.program.items texts.now.events.items o
+        × Writes (W.contents out.old) (W.contents out.new) s o) }
+    ensures note { IfOk result (λ s. s ≡ 3 → Adds
+        remarks.old.notes.lines.items remarks.new.notes.lines.items
+        (first_reason remarks.old.notes.program.now wanted.entry.file.now
+        texts.now.program.items (fault_in (judged texts.now.program.items))
+        (run_reason remarks.old.notes.program.now wanted.entry.outside texts.now.events.items))) }
+{
+    let mut aside = Aside::new();
+    let alloc = remarks.alloc;
+    let notes = &mut remarks.notes;
+    let status = on_texts(rt, alloc, sinks, wanted, texts, out, notes, &mut aside)?;
+    remark(wanted, texts, status, &mut aside, remarks);
+    Ok(status)
 }
 
 /// Does a run. The text is read before the outside text, and both before the file of the trace is
@@ -237,14 +309,7 @@ fn on_run<R: Threads + Wait + Sync, S: Sources + Sinks, W: Write>(
         × Writes (W.contents out.old) (W.contents out.new) s o) }
 {
     match read_texts(remarks.alloc, &*sources, wanted.file, wanted.outside) {
-        Ok(texts) => {
-            let mut aside = Aside::new();
-            let alloc = remarks.alloc;
-            let notes = &mut remarks.notes;
-            let status = on_texts(rt, alloc, sources, wanted, &texts, out, notes, &mut aside)?;
-            remark(wanted, &texts, status, &mut aside, remarks);
-            Ok(status)
-        }
+        Ok(texts) => run_texts(rt, sources, wanted, &texts, out, remarks),
         Err(error) => file_failed(error, out, &mut remarks.notes),
     }
 }

@@ -1,5 +1,7 @@
 //! The lines on standard error about outside events that had no effect, or came late.
 
+ghost use Rattle.std.specs.Prelude.{◌≡◌};
+
 use std::alloc::AllocError;
 use std::fmt::Write;
 use sts_model::Event;
@@ -140,7 +142,9 @@ fn say_line(
 }
 
 /// Adds the line about the event of line `index`, counted from 0, if there is memory for it.
-fn remark_event(remarks: &mut Remarks, name: &str, index: usize, due: Due, lost: Lost) {
+fn remark_event(remarks: &mut Remarks, name: &str, index: usize, due: Due, lost: Lost)
+    ensures { remarks.new.notes ≡ remarks.old.notes }
+{
     let mut line = String::new(remarks.alloc);
     if say_line(&mut line, remarks.program, name, index, due, lost).is_ok() {
         remarks.add(line.as_bytes());
@@ -148,7 +152,9 @@ fn remark_event(remarks: &mut Remarks, name: &str, index: usize, due: Due, lost:
 }
 
 /// Adds a line for each event of an outside text that had no effect in a run, or came late.
-pub(crate) fn remark_outside(remarks: &mut Remarks, named: Named<'_>, came: &Came) {
+pub(crate) fn remark_outside(remarks: &mut Remarks, named: Named<'_>, came: &Came)
+    ensures { remarks.new.notes ≡ remarks.old.notes }
+{
     let Ok(dues) = read_outside(remarks.alloc, named.text) else {
         return;
     };

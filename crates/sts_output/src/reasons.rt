@@ -22,7 +22,10 @@ pub struct Named<'a> {
 
 impl<'a> Named<'a> {
     /// Returns the text of this name.
-    pub fn new(name: &'a str, text: &'a [u8]) -> Named<'a> {
+    pub fn new(name: &'a str, text: &'a [u8]) -> Named<'a>
+        ensures name { result.name ≡ name.entry }
+        ensures text { result.text ≡ text.entry }
+    {
         Named { name, text }
     }
 }

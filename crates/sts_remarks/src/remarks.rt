@@ -1,5 +1,8 @@
 //! The lines for standard error of one call.
 
+ghost use Rattle.std.specs.Prelude.{◌≡◌, [], Some};
+ghost use Rattle.sts_output.specs.Reasons.{Adds};
+
 use crate::idle::idle_line;
 use crate::watched::unwritten_line;
 use std::alloc::Global;
@@ -36,7 +39,11 @@ pub struct Remarks {
 
 impl Remarks {
     /// Returns no lines, of a program of this name.
-    pub fn new(alloc: Global, program: &'static str) -> Remarks {
+    pub fn new(alloc: Global, program: &'static str) -> Remarks
+        ensures program { result.notes.program ≡ program.entry }
+        ensures notes { result.notes.lines.items ≡ [] }
+        ensures lines { result.lines.items ≡ [] }
+    {
         Remarks {
             alloc,
             program,
@@ -46,22 +53,26 @@ impl Remarks {
     }
 
     /// Returns the lines that are about no failure.
-    pub fn lines(&self) -> &[u8] {
+    pub fn lines(&self) -> &[u8]
+        ensures { result.now ≡ self.now.lines.items }
+    {
         self.lines.as_slice()
     }
 
-    /// Adds a line.
-    pub fn add(&mut self, line: &[u8]) {
-        let known = self.lines.len();
-        if self.lines.extend_from_slice(line).is_err() {
-            self.lines.truncate(known);
-        }
+    /// Adds a line, if there is memory for it.
+    pub fn add(&mut self, line: &[u8])
+        ensures notes { self.new.notes ≡ self.old.notes }
+        ensures line { Adds self.old.lines.items self.new.lines.items (Some line.now) }
+    {
+        let _added = self.lines.extend_from_slice(line);
     }
 
     /// Adds which event of a trace is the first that did nothing, if a program ran the trace, and the
     /// run has no end. Only events among the first 64 KiB are looked at. Events count from 1, and
     /// `unit` is the word before the number.
-    pub fn idle(&mut self, status: u8, unit: &str, program: Option<&Program>, trace: Named<'_>) {
+    pub fn idle(&mut self, status: u8, unit: &str, program: Option<&Program>, trace: Named<'_>)
+        ensures notes { self.new.notes ≡ self.old.notes }
+    {
         if status != STATUS_NO_END {
             return;
         }
@@ -91,7 +102,9 @@ impl Remarks {
     }
 
     /// Adds why standard output was not written, if a write failed.
-    pub fn unwritten(&mut self, failure: Option<ErrorKind>) {
+    pub fn unwritten(&mut self, failure: Option<ErrorKind>)
+        ensures notes { self.new.notes ≡ self.old.notes }
+    {
         let Some(kind) = failure else {
             return;
         };

@@ -4,8 +4,9 @@
 ghost use Rattle.std.specs.Prelude.{◌≡◌, IfOk};
 ghost use Rattle.sts_asm.specs.Text.{judged};
 ghost use Rattle.sts_plain.specs.Seen.{ended_or_running};
+ghost use Rattle.sts_output.specs.Kept.{KeepsProgram};
 ghost use Rattle.sts_output.specs.Output as def;
-ghost use Rattle.sts_output.specs.Stops.{Prints};
+ghost use Rattle.sts_output.specs.Stops.{Keeps, Prints};
 
 use std::alloc::{AllocError, Global};
 use sts_machine::replay;
@@ -49,7 +50,9 @@ pub fn replayed(
     trace: &[u8],
     assembled: &mut Assembled,
 ) -> Result<Output, Stopped>
-    ensures { Prints result (def.ReplayShows (judged text.now) trace.now) }
+    ensures output { Prints result (def.ReplayShows (judged text.now) trace.now) }
+    ensures fault { Keeps result (judged text.now) assembled.old assembled.new }
+    ensures program { IfOk result (λ _. KeepsProgram (judged text.now) assembled.new) }
 {
     let program = program_of(alloc, text, assembled)?;
     let events = events_of(alloc, trace)?;

@@ -4,6 +4,7 @@ ghost use Rattle.std.specs.Prelude.{◌≡◌, ◌≤◌, ◌++◌, IfOk, OnOk, 
 ghost use Rattle.std.specs.String.{string_bytes};
 ghost use Rattle.sts_asm.specs.Text.{judged};
 ghost use Rattle.sts_trace.specs.Reading.{outside_read};
+ghost use Rattle.sts_output.specs.Kept.{KeepsFault};
 ghost use Rattle.sts_output.specs.Printed.{end_line, steps_line};
 ghost use Rattle.sts_cli.specs.Running as def;
 
@@ -177,7 +178,9 @@ pub(crate) fn outcome<R: Threads + Wait + Sync>(
     outside: &[u8],
     assembled: &mut Assembled,
 ) -> Result<Ran, AllocError>
-    ensures { IfOk result (def.Holds manner.kept (def.TextRuns (judged text.now) outside.now)) }
+    ensures ran { IfOk result
+        (def.Holds manner.kept (def.TextRuns (judged text.now) outside.now)) }
+    ensures fault { IfOk result (λ _. KeepsFault (judged text.now) assembled.old assembled.new) }
 {
     match assemble(alloc, text) {
         Ok(program) => with_outside(rt, alloc, program, manner, outside),

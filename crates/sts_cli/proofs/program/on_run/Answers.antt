@@ -6,13 +6,14 @@ use Rattle.sts_output.specs.Output.{failure_output}
 use Rattle.sts_cli.proofs.Reports.{of_texts}
 use Rattle.sts_cli.proofs.program.on_run.Goals as goal
 
-pub returns-in_ok-status-in-Ok : goal.returns-in_ok-status-in-Ok
-returns-in_ok-status-in-Ok g c =
+pub returns-in-Ok : goal.returns-in-Ok
+returns-in-Ok g c =
     let sources = c.args.sources.now in
     let file = g.S.Sources.held sources c.args.wanted.file.now in
     let outside = streams.events_of (g.S.Sources.held sources) c.args.wanted.outside in
-    let h = c.in_ok-status-in-Ok.ensures in
-    (h.0, of_texts _ file outside _ _ h.0 c.in-Ok.ensures.program c.in-Ok.ensures.events h.1, h.2)
+    IfOk-weaker c.run_texts.result _ _
+    (λ s h. (h.0, of_texts _ file outside _ _ h.0 c.in-Ok.ensures.program c.in-Ok.ensures.events h.1, h.2))
+    c.run_texts.ensures.output
 
 pub returns-in-Err : goal.returns-in-Err
 returns-in-Err g c =

@@ -11,7 +11,7 @@ pub returns-in-Ok : goal.returns-in-Ok
 returns-in-Ok g c =
     let file = g.S.Sources.held c.args.sources.now c.args.path.now in
     let taken = subst (λ xs. IsTakenOf file streams.most_of_a_text xs) (sym c.as_slice-bytes.ensures.value) c.in-Ok.ensures in
-    IfOk-weaker c.play_text.result _ _ (λ s h. (h.0, of_text c.args.mode file _ h.0 taken h.1, h.2)) c.play_text.ensures
+    IfOk-weaker c.play_text.result _ _ (λ s h. (h.0, of_text c.args.mode file _ h.0 taken h.1, h.2)) c.play_text.ensures.output
 
 pub returns-in-Err : goal.returns-in-Err
 returns-in-Err g c =

@@ -13,7 +13,7 @@ returns-in-Ok g c =
     let trace_file = g.S.Sources.held c.args.sources.now c.args.trace.now in
     let taken = subst (λ xs. IsTakenOf file streams.most_of_a_text xs) (sym c.as_slice-text.ensures.value) c.in-Ok.ensures.program in
     let traced = subst (λ xs. IsTakenOf trace_file streams.most_of_a_stream xs) (sym c.as_slice-events.ensures.value) c.in-Ok.ensures.events in
-    IfOk-weaker c.play_trace.result _ _ (λ s h. (h.0, of_text_and_trace c.args.mode file trace_file _ _ h.0 taken traced h.1, h.2)) c.play_trace.ensures
+    IfOk-weaker c.play_trace.result _ _ (λ s h. (h.0, of_text_and_trace c.args.mode file trace_file _ _ h.0 taken traced h.1, h.2)) c.play_trace.ensures.output
 
 pub returns-in-Err : goal.returns-in-Err
 returns-in-Err g c =
