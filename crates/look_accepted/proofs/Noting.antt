@@ -1,122 +1,102 @@
 -- The notes of a function, place by place.
-use Rattle.std.proofs.Common.{◌≡◌, ℕ, zero, suc, ◌+◌, ◌<◌, ◌≤◌, ◌⊎◌, inl, inr, List, [], ◌∷◌, ◌++◌, length, refl, ap, sym, ◌∙◌, arith, subst, append_assoc, Bool, true, false, cond, Option, Some, None}
+use Rattle.std.proofs.Common.{◌≡◌, ℕ, zero, suc, ◌+◌, ◌<◌, ◌≤◌, ◌⊎◌, inl, inr, List, [], ◌∷◌, ◌++◌, length, refl, ap, sym, ◌∙◌, arith, subst, append_assoc, true, Option, Some, None}
 use Rattle.std.proofs.Common.{get_or-set_same, get_or-set_other, length-set}
-use Rattle.std.specs.Prelude.{slice_index_or, slice_set, replicate, MatchOption, is_some, ◌==◌}
-use Rattle.std.proofs.lemmas.Bool.{cond_both, cases_lt}
-use Rattle.std.proofs.lemmas.Bool.Decides.{nat_tests}
-use Rattle.std.proofs.lemmas.List.{append-nil, get_or_default, get_or_past, length-replicate}
-use Rattle.laws_words.proofs.OptionLemmas.{none_of}
+use Rattle.std.specs.Prelude.{slice_index_or, slice_set, replicate, MatchOption, is_some}
+use Rattle.std.proofs.lemmas.Bool.{cases_eq}
+use Rattle.std.proofs.lemmas.List.{append-nil, get_or_default, length-replicate}
+use Rattle.laws_words.proofs.NumberLemmas.{split}
 use Rattle.sts_code.specs.Program.{Program, routine, instr_at}
-use Rattle.sts_code.specs.declared.instr.Instr.{Instr}
-use Rattle.look_accepted.specs.declared.node.Node.{Node}
+use Rattle.sts_rules.specs.Refusal.{size}
+use Rattle.sts_types.specs.Typing.{Typing}
 use Rattle.look_accepted.specs.declared.notes.Note.{Note}
+use Rattle.look_accepted.specs.declared.point.Point.{Point}
 use Rattle.look_accepted.specs.declared.reliance.Reliance.{Reliance}
-use Rattle.look_accepted.specs.Nodes.{Comes}
+use Rattle.look_accepted.specs.Nodes.{Node, Comes}
+use Rattle.look_accepted.specs.Points.{node_at}
 use Rattle.look_accepted.specs.Found.{AreAll}
 use Rattle.look_accepted.specs.Relying.{Relies, relies, relied_on, relied_on_at}
-use Rattle.sts_rules.specs.Refusal.{size}
 use Rattle.look_accepted.specs.Notes.{AreRules, IsPlain, none, plain, noted, AddsNotes}
-use Rattle.laws_words.proofs.NumberLemmas.{split}
 
--- ---- one place
+-- ---- the rules of the first points
 
--- none of the first n nodes is at the place and relies on a rule
-abbrev pub NoneAt : List Node → ℕ → Instr → ℕ → Type 0
-NoneAt nodes pc i count = (n : Node) (j : ℕ) → j < count → slice_index_or nodes j n ≡ n → n.pc ≡ pc → relied_on i n.state n.mark ≡ None
+module _ (p : Program) (f : ℕ) (t : Typing) (points : List Point) where
+  -- a rule that is noted for a place is relied on there; each of the first points that relies on one
+  -- has one at its place
+  pub record NotedTo (count : ℕ) (rules : List (Option Reliance)) : Type 0 where
+    pub long : length rules ≡ size p f
+    pub some : (pc : ℕ) (r : Reliance) → slice_index_or rules pc None ≡ Some r → Relies p f pc r
+    pub held : (k : ℕ) (d : Point) → k < count → is_some (relied_on_at p f (node_at t (slice_index_or points k d))) ≡ true → is_some (slice_index_or rules (slice_index_or points k d).pc None) ≡ true
 
-pub none_more : (nodes : List Node) (pc : ℕ) (i : Instr) (k : ℕ) (x : Node) → k < length nodes → x ≡ slice_index_or nodes k x → (x.pc ≡ pc → relied_on i x.state x.mark ≡ None) → NoneAt nodes pc i k → NoneAt nodes pc i (k + 1)
-none_more nodes pc i k x less read here before n j lj at is = by (split j k lj)
-  where
-    by : (j < k) ⊎ (j ≡ k) → relied_on i n.state n.mark ≡ None
-    by (inl l) = before n j l at is
-    by (inr e) =
-        let same : x ≡ n = read ∙ get_or_default nodes k x n less ∙ ap (λ (m : ℕ). slice_index_or nodes m n) (sym e) ∙ at in
-        subst (λ (m : Node). relied_on i m.state m.mark ≡ None) same (here (ap (λ (m : Node). m.pc) same ∙ is))
+  no_rule : (n pc : ℕ) → slice_index_or (replicate {A = Option Reliance} n None) pc None ≡ None
+  no_rule zero pc = refl
+  no_rule (suc n) zero = refl
+  no_rule (suc n) (suc pc) = no_rule n pc
 
-pub all_plain : (p : Program) (f pc : ℕ) (i : Instr) (nodes : List Node) (k : ℕ) → i ≡ instr_at (routine p f).code pc → AreAll p f nodes → length nodes ≡ k → NoneAt nodes pc i k → IsPlain p f pc
-all_plain p f pc i nodes k is all long none' r (relies n comes at rule) =
-    let held = all.all n comes in
-    let no : relied_on i n.state n.mark ≡ None = none' n held.0 (omega (arith, held.1)) held.2 at in
-    let both : None ≡ Some r = sym no ∙ ap (λ (j : Instr). relied_on j n.state n.mark) is ∙ rule in
-    absurd (cc)
+  pub noted_first : (rules : List (Option Reliance)) → rules ≡ replicate (size p f) None → NotedTo 0 rules
+  noted_first rules is = record {
+    long = ap length is ∙ length-replicate (size p f) None;
+    some = λ pc r e. (let none' : None ≡ Some r = sym (no_rule (size p f) pc) ∙ ap (λ (xs : List (Option Reliance)). slice_index_or xs pc None) (sym is) ∙ e in absurd (cc));
+    held = λ k d less. absurd (omega (arith, less));
+  }
 
--- ---- the rules of the first nodes
+  module _ (k : ℕ) (d : Point) (less : k < length points) (rules : List (Option Reliance)) (h : NotedTo k rules) where
+    abbrev x : Point
+    x = slice_index_or points k d
 
--- a rule that is noted for a place is relied on there; if none is noted, no node so far relies on one
-pub record NotedTo (p : Program) (f : ℕ) (nodes : List Node) (count : ℕ) (rules : List (Option Reliance)) : Type 0 where
-  pub long : length rules ≡ size p f
-  pub some : (pc : ℕ) (r : Reliance) → slice_index_or rules pc None ≡ Some r → Relies p f pc r
-  pub none : (pc : ℕ) → slice_index_or rules pc None ≡ None → pc < size p f → NoneAt nodes pc (instr_at (routine p f).code pc) count
+    -- a point that relies on no rule
+    pub noted_none : relied_on_at p f (node_at t x) ≡ None → NotedTo (k + 1) rules
+    noted_none no = record { long = h.long; some = h.some; held = λ j e lj. by j e (split j k lj) }
+      where
+        by : (j : ℕ) (e : Point) → (j < k) ⊎ (j ≡ k) → is_some (relied_on_at p f (node_at t (slice_index_or points j e))) ≡ true → is_some (slice_index_or rules (slice_index_or points j e).pc None) ≡ true
+        by j e (inl l) is = h.held j e l is
+        by j e (inr same) is =
+            let here : slice_index_or points j e ≡ x = ap (λ (n : ℕ). slice_index_or points n e) same ∙ get_or_default points k e d less in
+            let none' = ap (λ (y : Point). is_some (relied_on_at p f (node_at t y))) here ∙ ap is_some no in
+            absurd (cc)
 
-no_rule : (n pc : ℕ) → slice_index_or (replicate {A = Option Reliance} n None) pc None ≡ None
-no_rule zero pc = refl
-no_rule (suc n) zero = refl
-no_rule (suc n) (suc pc) = no_rule n pc
+    -- a point that relies on a rule
+    pub noted_some : (r : Reliance) → Comes p f (node_at t x) → x.pc < size p f → relied_on_at p f (node_at t x) ≡ Some r → NotedTo (k + 1) (slice_set rules x.pc (Some r))
+    noted_some r comes inside rule = record {
+      long = length-set rules x.pc (Some r) ∙ h.long;
+      some = λ pc q e. some pc q e (cases_eq pc x.pc);
+      held = λ j e lj is. held j e (split j k lj) is (cases_eq (slice_index_or points j e).pc x.pc);
+    }
+      where
+        here : slice_index_or (slice_set rules x.pc (Some r)) x.pc None ≡ Some r
+        here = get_or-set_same rules x.pc (Some r) None (omega (arith, h.long))
 
-pub noted_first : (p : Program) (f : ℕ) (nodes : List Node) (rules : List (Option Reliance)) → rules ≡ replicate (size p f) None → NotedTo p f nodes 0 rules
-noted_first p f nodes rules is = record {
-  long = ap length is ∙ length-replicate (size p f) None;
-  some = λ pc r e. let none' : None ≡ Some r = sym (no_rule (size p f) pc) ∙ ap (λ (xs : List (Option Reliance)). slice_index_or xs pc None) (sym is) ∙ e in absurd (cc);
-  none = λ pc e less n j never. absurd (omega (arith, never));
-}
+        some : (pc : ℕ) (q : Reliance) → slice_index_or (slice_set rules x.pc (Some r)) pc None ≡ Some q → (pc ≡ x.pc) ⊎ (pc ≡ x.pc → ⊥) → Relies p f pc q
+        some pc q e (inl same) =
+            let both : Some r ≡ Some q = sym here ∙ ap (λ (n : ℕ). slice_index_or (slice_set rules x.pc (Some r)) n None) (sym same) ∙ e in
+            relies (node_at t x) comes (sym same) (ap (λ (n : ℕ). relied_on (instr_at (routine p f).code n) (node_at t x).state x.mark) same ∙ rule ∙ both)
+        some pc q e (inr other) = h.some pc q (sym (get_or-set_other rules x.pc pc (Some r) None other) ∙ e)
 
--- a place that has a rule keeps it
-noted_before : (p : Program) (f : ℕ) (nodes : List Node) (k : ℕ) (x : Node) (rules : List (Option Reliance)) → k < length nodes → x ≡ slice_index_or nodes k x → NotedTo p f nodes k rules → is_some (slice_index_or rules x.pc None) ≡ true → NotedTo p f nodes (k + 1) rules
-noted_before p f nodes k x rules less read h has = record {
-  long = h.long;
-  some = h.some;
-  none = λ pc e inside. none_more nodes pc (instr_at (routine p f).code pc) k x less read (λ at. let clash : is_some (slice_index_or rules x.pc None) ≡ false = ap (λ (n : ℕ). is_some (slice_index_or rules n None)) at ∙ ap is_some e in absurd (cc)) (h.none pc e inside);
-}
+        held : (j : ℕ) (e : Point) → (j < k) ⊎ (j ≡ k) → is_some (relied_on_at p f (node_at t (slice_index_or points j e))) ≡ true → ((slice_index_or points j e).pc ≡ x.pc) ⊎ ((slice_index_or points j e).pc ≡ x.pc → ⊥) → is_some (slice_index_or (slice_set rules x.pc (Some r)) (slice_index_or points j e).pc None) ≡ true
+        held j e l is (inl same) = ap (λ (n : ℕ). is_some (slice_index_or (slice_set rules x.pc (Some r)) n None)) same ∙ ap is_some here
+        held j e (inl l) is (inr other) = ap is_some (get_or-set_other rules x.pc (slice_index_or points j e).pc (Some r) None other) ∙ h.held j e l is
+        held j e (inr same) is (inr other) =
+            let here : slice_index_or points j e ≡ x = ap (λ (n : ℕ). slice_index_or points n e) same ∙ get_or_default points k e d less in
+            absurd (other (ap (λ (y : Point). y.pc) here))
 
-is_same_or_not : (a b : ℕ) → (a ≡ b) ⊎ (a ≡ b → ⊥)
-is_same_or_not a b = by (a == b) refl
-  where
-    by : (t : Bool) → (a == b) ≡ t → (a ≡ b) ⊎ (a ≡ b → ⊥)
-    by true e = inl (grind (arith, nat_tests))
-    by false e = inr (λ same. grind (arith, nat_tests))
+  -- all points
+  pub all_noted : (k : ℕ) (rules : List (Option Reliance)) → AreAll p f t points → length points ≤ k → NotedTo k rules → AreRules p f rules
+  all_noted k rules all long h = record { long = h.long; each = λ pc inside. by pc (slice_index_or rules pc None) refl }
+    where
+      none' : (pc : ℕ) → slice_index_or rules pc None ≡ None → IsPlain p f pc
+      none' pc e r (relies n comes at rule) =
+          let a = all.all n comes in
+          let c = a.1.0 in
+          let point : node_at t (slice_index_or points c.0 a.0) ≡ n = ap (node_at t) c.2 ∙ a.1.1 in
+          let place : (slice_index_or points c.0 a.0).pc ≡ pc = ap (λ (m : Node). m.pc) point ∙ at in
+          let relied : is_some (relied_on_at p f (node_at t (slice_index_or points c.0 a.0))) ≡ true =
+              ap (λ (m : Node). is_some (relied_on_at p f m)) point ∙ ap (λ (q : ℕ). is_some (relied_on (instr_at (routine p f).code q) n.state n.mark)) at ∙ ap is_some rule in
+          let has = ap (λ (q : ℕ). is_some (slice_index_or rules q None)) (sym place) ∙ h.held c.0 a.0 (omega (arith, c.1)) relied in
+          let hasn't = ap is_some e in
+          absurd (cc)
 
--- a place that has none gets that of the node
-noted_here : (p : Program) (f : ℕ) (nodes : List Node) (k : ℕ) (x : Node) (rules : List (Option Reliance)) → k < length nodes → x ≡ slice_index_or nodes k x → Comes p f x → slice_index_or rules x.pc None ≡ None → NotedTo p f nodes k rules → NotedTo p f nodes (k + 1) (slice_set rules x.pc (relied_on_at p f x))
-noted_here p f nodes k x rules less read comes free h = record {
-  long = length-set rules x.pc (relied_on_at p f x) ∙ h.long;
-  some = λ pc r e. some pc r e (is_same_or_not pc x.pc) (cases_lt x.pc (length rules));
-  none = λ pc e inside. none pc e inside (is_same_or_not pc x.pc);
-}
-  where
-    some : (pc : ℕ) (r : Reliance) → slice_index_or (slice_set rules x.pc (relied_on_at p f x)) pc None ≡ Some r → (pc ≡ x.pc) ⊎ (pc ≡ x.pc → ⊥) → (x.pc < length rules) ⊎ (length rules ≤ x.pc) → Relies p f pc r
-    some pc r e (inl same) (inl within) =
-        let rule : relied_on_at p f x ≡ Some r = sym (get_or-set_same rules x.pc (relied_on_at p f x) None within) ∙ ap (λ (n : ℕ). slice_index_or (slice_set rules x.pc (relied_on_at p f x)) n None) (sym same) ∙ e in
-        relies x comes (sym same) (ap (λ (n : ℕ). relied_on (instr_at (routine p f).code n) x.state x.mark) same ∙ rule)
-    some pc r e (inl same) (inr past') =
-        let n = length-set rules x.pc (relied_on_at p f x) in
-        let none' : slice_index_or (slice_set rules x.pc (relied_on_at p f x)) pc None ≡ None = get_or_past (slice_set rules x.pc (relied_on_at p f x)) pc None (omega (arith, n, same, past')) in
-        let clash : None ≡ Some r = sym none' ∙ e in
-        absurd (cc)
-    some pc r e (inr other) w = h.some pc r (sym (get_or-set_other rules x.pc pc (relied_on_at p f x) None other) ∙ e)
-
-    none : (pc : ℕ) → slice_index_or (slice_set rules x.pc (relied_on_at p f x)) pc None ≡ None → pc < size p f → (pc ≡ x.pc) ⊎ (pc ≡ x.pc → ⊥) → NoneAt nodes pc (instr_at (routine p f).code pc) (k + 1)
-    none pc e inside (inl same) =
-        let long = h.long in
-        let rule : relied_on_at p f x ≡ None = sym (get_or-set_same rules x.pc (relied_on_at p f x) None (omega (arith, long, same, inside))) ∙ ap (λ (n : ℕ). slice_index_or (slice_set rules x.pc (relied_on_at p f x)) n None) (sym same) ∙ e in
-        none_more nodes pc (instr_at (routine p f).code pc) k x less read (λ at. ap (λ (n : ℕ). relied_on (instr_at (routine p f).code n) x.state x.mark) same ∙ rule)
-        (h.none pc (ap (λ (n : ℕ). slice_index_or rules n None) same ∙ free) inside)
-    none pc e inside (inr other) = none_more nodes pc (instr_at (routine p f).code pc) k x less read (λ at. absurd (other (sym at))) (h.none pc (sym (get_or-set_other rules x.pc pc (relied_on_at p f x) None other) ∙ e) inside)
-
--- one node more
-pub noted_next : (p : Program) (f : ℕ) (nodes : List Node) (k : ℕ) (x : Node) (old new : List (Option Reliance)) → AreAll p f nodes → k < length nodes → x ≡ slice_index_or nodes k x → new ≡ cond (is_some (slice_index_or old x.pc None)) old (slice_set old x.pc (relied_on_at p f x)) → NotedTo p f nodes k old → NotedTo p f nodes (k + 1) new
-noted_next p f nodes k x old new all less read made h =
-    subst (NotedTo p f nodes (k + 1)) (sym made)
-    (cond_both (is_some (slice_index_or old x.pc None)) _ _ (NotedTo p f nodes (k + 1))
-    (λ has. noted_before p f nodes k x old less read h has)
-    (λ hasn't. noted_here p f nodes k x old less read (all.found x (k, less, sym read)) (none_of (slice_index_or old x.pc None) hasn't) h))
-
--- all nodes
-pub all_noted : (p : Program) (f : ℕ) (nodes : List Node) (k : ℕ) (rules : List (Option Reliance)) → AreAll p f nodes → length nodes ≡ k → NotedTo p f nodes k rules → AreRules p f rules
-all_noted p f nodes k rules all long h = record { long = h.long; each = λ pc inside. by pc inside (slice_index_or rules pc None) refl }
-  where
-    by : (pc : ℕ) → pc < size p f → (o : Option Reliance) → slice_index_or rules pc None ≡ o → MatchOption o (IsPlain p f pc) (Relies p f pc)
-    by pc inside None e = all_plain p f pc (instr_at (routine p f).code pc) nodes k refl all long (h.none pc e inside)
-    by pc inside (Some r) e = h.some pc r e
+      by : (pc : ℕ) (o : Option Reliance) → slice_index_or rules pc None ≡ o → MatchOption o (IsPlain p f pc) (Relies p f pc)
+      by pc None e = none' pc e
+      by pc (Some r) e = h.some pc r e
 
 -- what the table of rules says of a place
 pub rule_at : (p : Program) (f : ℕ) (rules : List (Option Reliance)) (pc : ℕ) (rule : Option Reliance) → AreRules p f rules → pc < size p f → rule ≡ slice_index_or rules pc rule → MatchOption rule (IsPlain p f pc) (Relies p f pc)

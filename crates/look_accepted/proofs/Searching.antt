@@ -1,115 +1,111 @@
--- How a search grows, and that it finds all nodes.
-use Rattle.std.proofs.Common.{◌≡◌, ℕ, ◌+◌, ◌<◌, ◌≤◌, ◌⊎◌, List, [], ◌∷◌, ◌++◌, length, ap, sym, ◌∙◌, arith, inl, inr, subst, length-append, append_assoc}
-use Rattle.std.proofs.lemmas.List.{get_or_default}
+-- How a search grows, and that it finds all points.
+use Rattle.std.proofs.Common.{◌≡◌, ℕ, ◌+◌, ◌<◌, ◌≤◌, ◌⊎◌, inl, inr, List, [], ◌∷◌, ◌++◌, length, Option, Some, None, refl, ap, sym, ◌∙◌, subst, arith, append_assoc}
 use Rattle.std.specs.Prelude.{slice_index_or}
 use Rattle.std.specs.List.{Contains}
 use Rattle.std.proofs.Math.ListN.{get_or-append}
-use Rattle.std.proofs.lemmas.List.Elements.{Contains-append_left, Contains-push}
-use Rattle.sts_code.specs.Program.{Program}
-use Rattle.look_accepted.specs.declared.node.Node.{Node}
-use Rattle.look_accepted.specs.Nodes.{Comes, first, then, first_node, followers}
-use Rattle.look_accepted.specs.Found.{AreFound, Grows, Adds, IsSpread, AreAll}
+use Rattle.std.proofs.lemmas.List.{append-nil, get_or_default}
+use Rattle.std.proofs.lemmas.List.Elements.{Contains-append_left, Contains-get_or, Contains-push, Contains-push_cases}
 use Rattle.laws_words.proofs.NumberLemmas.{split}
+use Rattle.sts_code.specs.Program.{Program, routine}
+use Rattle.sts_code.specs.declared.instr.Instr.{Instr}
+use Rattle.sts_rules.specs.ControlPaths.{Among}
+use Rattle.sts_types.specs.Typing.{Typing}
+use Rattle.sts_budget.proofs.LeadLemmas.{among_of}
+use Rattle.sts_types.proofs.AmongLemmas.{among_left, among_right}
+use Rattle.look_accepted.specs.declared.point.Point.{Point}
+use Rattle.look_accepted.specs.Nodes.{Node, Comes, first, then, followers}
+use Rattle.look_accepted.specs.Points.{node_at, first_point, along, IsAlong, Follows}
+use Rattle.look_accepted.specs.Found.{IsTyped, AreFound, Grows, Adds, AreAll}
+use Rattle.look_accepted.proofs.Following.{first_is, comes_on, point_of}
 
--- ---- lists that grow
+-- ---- points that were added
 
-pub grows_on : (a b c : List Node) → Grows a b → Grows b c → Grows a c
-grows_on a b c h i = record { more = h.more ++ i.more; same = i.same ∙ ap (λ xs. xs ++ i.more) h.same ∙ append_assoc a h.more i.more }
+still : (old new : List Point) (x : Point) → Grows old new → Contains old x → Contains new x
+still old new x g c = subst (λ (xs : List Point). Contains xs x) (sym g.same) (Contains-append_left old g.more x c)
 
-pub longer : (old new : List Node) → Grows old new → length old ≤ length new
-longer old new h = rw h.same (omega (arith, length-append old h.more))
+pub adds_none : (old : List Point) (P : Point → Type 0) → ((x : Point) → P x → Contains old x) → Adds old P old
+adds_none old P has = record { grows = record { more = []; same = sym (append-nil old) }; there = has; only = λ x c. inl c }
 
-pub still : (old new : List Node) (n : Node) → Grows old new → Contains old n → Contains new n
-still old new n h c = subst (λ xs. Contains xs n) (sym h.same) (Contains-append_left old h.more n c)
+pub adds_one : (old new : List Point) (x : Point) → new ≡ old ++ x ∷ [] → Adds old (λ y. x ≡ y) new
+adds_one old new x is = record {
+  grows = record { more = x ∷ []; same = is };
+  there = λ y same. subst (λ (xs : List Point). Contains xs y) (sym is) (subst (Contains (old ++ x ∷ [])) same (Contains-push old x));
+  only = λ y c. Contains-push_cases old x y (subst (λ (xs : List Point). Contains xs y) is c);
+}
 
-pub same_older : (old new : List Node) → Grows old new → (k : ℕ) → k < length old → (d : Node) → slice_index_or new k d ≡ slice_index_or old k d
-same_older old new h k less d = ap (λ xs. slice_index_or xs k d) h.same ∙ get_or-append old h.more d k less
+-- one kind after another
+pub adds_both : (a b c : List Point) (P Q R : Point → Type 0) → Adds a P b → Adds b Q c → ((x : Point) → R x → P x ⊎ Q x) → ((x : Point) → P x ⊎ Q x → R x) → Adds a R c
+adds_both a b c P Q R g h from into = record {
+  grows = record { more = g.grows.more ++ h.grows.more; same = h.grows.same ∙ ap (λ (xs : List Point). xs ++ h.grows.more) g.grows.same ∙ append_assoc a g.grows.more h.grows.more };
+  there = λ x is. elim (from x is) [ inl p ↦ still b c x h.grows (g.there x p) | inr q ↦ h.there x q ];
+  only = λ x has. elim (h.only x has) [
+    | inl old ↦ elim (g.only x old) [ inl older ↦ inl older | inr p ↦ inr (into x (inl p)) ]
+    | inr q ↦ inr (into x (inr q))
+  ];
+}
 
-single : (x m : Node) → Contains (x ∷ []) m → m ≡ x
-single x m c = let zero' : c.0 ≡ 0 = omega (arith, c.1) in sym c.2 ∙ ap (λ (k : ℕ). slice_index_or (x ∷ []) k m) zero'
+pub adds_same : (a b : List Point) (P Q : Point → Type 0) → Adds a P b → ((x : Point) → Q x → P x) → ((x : Point) → P x → Q x) → Adds a Q b
+adds_same a b P Q g from into = record {
+  grows = g.grows;
+  there = λ x is. g.there x (from x is);
+  only = λ x has. elim (g.only x has) [ inl old ↦ inl old | inr p ↦ inr (into x p) ];
+}
 
--- ---- one node more
-
--- what comes is still all that was found
-pub found_more : (p : Program) (f : ℕ) (old new : List Node) (n : Node) → AreFound p f old → Adds old n new → Comes p f n → AreFound p f new
-found_more p f old new n h a comes m c = by (a.only m c)
+-- one place more
+pub adds_along : (t : Typing) (i : Instr) (x : Point) (before : List ℕ) (to : ℕ) (a b c : List Point) → Adds a (IsAlong t i x before) b → Adds b (λ y. along t i x to ≡ y) c → Adds a (IsAlong t i x (before ++ to ∷ [])) c
+adds_along t i x before to a b c g h = adds_both a b c (IsAlong t i x before) (λ y. along t i x to ≡ y) (IsAlong t i x (before ++ to ∷ [])) g h from into
   where
-    by : Contains old m ⊎ (m ≡ n) → Comes p f m
-    by (inl o) = h m o
-    by (inr e) = subst (Comes p f) (sym e) comes
+    from : (y : Point) → IsAlong t i x (before ++ to ∷ []) y → IsAlong t i x before y ⊎ (along t i x to ≡ y)
+    from y k = elim (among_of before (to ∷ []) k.0 k.1.0) [
+      | inl m ↦ inl (k.0, (m, k.1.1))
+      | inr m ↦ elim m [ inl e ↦ inr (ap (along t i x) e ∙ sym k.1.1) | inr m ↦ absurd m ]
+    ]
 
--- a control path reaches each node that follows a found one
-pub follower_comes : (p : Program) (f : ℕ) (nodes next : List Node) (at : ℕ) (x : Node) (j : ℕ) (y : Node) → AreFound p f nodes → at < length nodes → x ≡ slice_index_or nodes at x → next ≡ followers p f x → j < length next → y ≡ slice_index_or next j y → Comes p f y
-follower_comes p f nodes next at x j y found within is made less read =
-    then x y (found x (at, within, sym is)) (subst (λ ys. Contains ys y) made (j, less, sym read))
-
--- the first n of these are there
-abbrev pub AreThere : List Node → ℕ → List Node → Type 0
-AreThere next n nodes = (j : ℕ) (d : Node) → j < n → Contains nodes (slice_index_or next j d)
-
-pub there_more : (next old new : List Node) (n : ℕ) (y : Node) → n < length next → y ≡ slice_index_or next n y → AreThere next n old → Adds old y new → AreThere next (n + 1) new
-there_more next old new n y less read h a j d lj = by (split j n lj)
-  where
-    by : (j < n) ⊎ (j ≡ n) → Contains new (slice_index_or next j d)
-    by (inl l) = still old new (slice_index_or next j d) a.grows (h j d l)
-    by (inr e) =
-        let is : slice_index_or next j d ≡ y = ap (λ (k : ℕ). slice_index_or next k d) e ∙ get_or_default next n d y less ∙ sym read in
-        subst (Contains new) (sym is) a.there
-
--- a follower more was added, if it wasn't there
-pub spread_more : (p : Program) (f : ℕ) (nodes next old new : List Node) (at : ℕ) (x : Node) (n : ℕ) (y : Node) → AreFound p f nodes → at < length nodes → x ≡ slice_index_or nodes at x → next ≡ followers p f x → n < length next → y ≡ slice_index_or next n y → Adds old y new → AreFound p f old × Grows nodes old × AreThere next n old → AreFound p f new × Grows nodes new × AreThere next (n + 1) new
-spread_more p f nodes next old new at x n y found within is made less read added h = (
-  found_more p f old new y h.0 added (follower_comes p f nodes next at x n y found within is made less read),
-  grows_on nodes old new h.1 added.grows,
-  there_more next old new n y less read h.2 added,
-)
-
--- all nodes after the node are there
-pub all_there : (p : Program) (f : ℕ) (old new next : List Node) (at : ℕ) (x : Node) (n : ℕ) → at < length old → x ≡ slice_index_or old at x → next ≡ followers p f x → length next ≤ n → AreThere next n new → IsSpread p f old at new
-all_there p f old new next at x n within is made long h d m c =
-    let same : slice_index_or old at d ≡ x = get_or_default old at d x within ∙ sym is in
-    let listed : Contains next m = subst (λ ys. Contains ys m) (ap (followers p f) same ∙ sym made) c in
-    subst (Contains new) listed.2 (h listed.0 m (omega (arith, listed.1)))
+    into : (y : Point) → IsAlong t i x before y ⊎ (along t i x to ≡ y) → IsAlong t i x (before ++ to ∷ []) y
+    into y (inl k) = (k.0, (among_left before (to ∷ []) k.0 k.1.0, k.1.1))
+    into y (inr e) = (to, (among_right before (to ∷ []) to (inl refl), sym e))
 
 -- ---- a search that goes on
 
-pub record IsSearched (p : Program) (f at : ℕ) (nodes : List Node) : Type 0 where
-  pub found : AreFound p f nodes
-  pub begins : Contains nodes (first_node p f)
-  pub within : at ≤ length nodes
-  pub closed : (k : ℕ) → k < at → IsSpread p f nodes k nodes
+module _ (p : Program) (f : ℕ) (t : Typing) (typed : IsTyped p f t) where
+  pub record IsSearched (at : ℕ) (points : List Point) : Type 0 where
+    pub found : AreFound p f t points
+    pub begins : Contains points (first_point p f)
+    pub closed : (k : ℕ) → k < at → (d y : Point) → Follows (routine p f).code t (slice_index_or points k d) y → Contains points y
 
-pub searched_first : (p : Program) (f : ℕ) (nodes : List Node) (n : Node) → nodes ≡ [] ++ n ∷ [] → n ≡ first_node p f → IsSearched p f 0 nodes
-searched_first p f nodes n is same =
-    let only : nodes ≡ first_node p f ∷ [] = is ∙ ap (λ (x : Node). x ∷ []) same in
-    record {
-      found = λ m c. subst (Comes p f) (sym (single (first_node p f) m (subst (λ xs. Contains xs m) only c))) first;
-      begins = subst (λ xs. Contains xs (first_node p f)) (sym only) (Contains-push [] (first_node p f));
-      within = omega arith;
-      closed = λ k l. absurd (omega arith);
-    }
+  pub searched_first : (points : List Point) → Adds [] (λ y. first_point p f ≡ y) points → IsSearched 0 points
+  searched_first points a = record {
+    found = λ x c. elim (a.only x c) [
+      | inl none ↦ absurd (omega (arith, none.1))
+      | inr e ↦ subst (λ (y : Point). Comes p f (node_at t y)) e (subst (Comes p f) (sym (first_is p f t typed)) first)
+    ];
+    begins = a.there (first_point p f) refl;
+    closed = λ k less. absurd (omega (arith, less));
+  }
 
-pub searched_more : (p : Program) (f at : ℕ) (old new : List Node) → IsSearched p f at old → at < length old → AreFound p f new → Grows old new → IsSpread p f old at new → IsSearched p f (at + 1) new
-searched_more p f at old new h less found grows spread =
-    record {
-      found = found;
-      begins = still old new (first_node p f) grows h.begins;
-      within = omega (arith, longer old new grows);
-      closed = λ k l. by k (split k at l);
-    }
-  where
-    by : (k : ℕ) → (k < at) ⊎ (k ≡ at) → IsSpread p f new k new
-    by k (inl l) d m c = still old new m grows (h.closed k l d m (subst (λ n. Contains (followers p f n) m) (same_older old new grows k (omega arith) d) c))
-    by k (inr e) d m c =
-        let same : slice_index_or new k d ≡ slice_index_or old at d = ap (λ (j : ℕ). slice_index_or new j d) e ∙ same_older old new grows at less d in
-        spread d m (subst (λ n. Contains (followers p f n) m) same c)
+  pub searched_more : (at : ℕ) (old new : List Point) (d : Point) → IsSearched at old → at < length old → Adds old (Follows (routine p f).code t (slice_index_or old at d)) new → IsSearched (at + 1) new
+  searched_more at old new d h less a = record {
+    found = λ y c. elim (a.only y c) [ inl o ↦ h.found y o | inr g ↦ comes_on p f t typed (slice_index_or old at d) (h.found (slice_index_or old at d) (Contains-get_or old at d less)) y g ];
+    begins = still old new (first_point p f) a.grows h.begins;
+    closed = λ k lk e y g. by k e y (split k at lk) g;
+  }
+    where
+      older : (k : ℕ) (e : Point) → k < length old → slice_index_or new k e ≡ slice_index_or old k e
+      older k e lk = ap (λ (xs : List Point). slice_index_or xs k e) a.grows.same ∙ get_or-append old a.grows.more e k lk
 
--- if the nodes after each node are there, all nodes are
-stays : (p : Program) (f at : ℕ) (nodes : List Node) → IsSearched p f at nodes → length nodes ≤ at → (n : Node) → Comes p f n → Contains nodes n
-stays p f at nodes h long n first = h.begins
-stays p f at nodes h long n (then from to comes c) =
-    let before = stays p f at nodes h long from comes in
-    h.closed before.0 (omega (arith, before.1)) from n (subst (λ x. Contains (followers p f x) n) (sym before.2) c)
+      by : (k : ℕ) (e y : Point) → (k < at) ⊎ (k ≡ at) → Follows (routine p f).code t (slice_index_or new k e) y → Contains new y
+      by k e y (inl l) g = still old new y a.grows (h.closed k l e y (subst (λ (x : Point). Follows (routine p f).code t x y) (older k e (omega arith)) g))
+      by k e y (inr l) g =
+          let same : slice_index_or new k e ≡ slice_index_or old at d = ap (λ (j : ℕ). slice_index_or new j e) l ∙ older at e less ∙ get_or_default old at e d less in
+          a.there y (subst (λ (x : Point). Follows (routine p f).code t x y) same g)
 
-pub all_found : (p : Program) (f at : ℕ) (nodes : List Node) → IsSearched p f at nodes → length nodes ≤ at → AreAll p f nodes
-all_found p f at nodes h long = record { found = h.found; all = stays p f at nodes h long }
+  -- if the points after each point are there, all points are
+  pub all_found : (at : ℕ) (points : List Point) → IsSearched at points → length points ≤ at → AreAll p f t points
+  all_found at points h long = record { found = h.found; all = all }
+    where
+      all : (n : Node) → Comes p f n → (x : Point) × (Contains points x × (node_at t x ≡ n))
+      all n first = (first_point p f, (h.begins, first_is p f t typed))
+      all n (then from to comes c) =
+          let b = all from comes in
+          let g = point_of p f t typed b.0 (h.found b.0 b.1.0) n (subst (λ (m : Node). Contains (followers p f m) n) (sym b.1.1) c) in
+          (g.0, (h.closed b.1.0.0 (omega (arith, b.1.0.1)) b.0 g.0 (subst (λ (x : Point). Follows (routine p f).code t x g.0) (sym b.1.0.2) g.1.0), g.1.1))

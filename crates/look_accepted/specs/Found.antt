@@ -1,31 +1,37 @@
--- A search that finds all nodes of a function (this project's own).
-use Rattle.std.specs.Prelude.{◌≡◌, ◌⊎◌, ℕ, List, ◌++◌, slice_index_or}
+-- A search that finds all points of a function (this project's own).
+use Rattle.std.specs.Prelude.{◌≡◌, ◌<◌, ◌⊎◌, ℕ, List, ◌++◌, length, None}
 use Rattle.std.specs.List.{Contains}
+use Rattle.sts_code.specs.Checks.{program_fault}
 use Rattle.sts_code.specs.Program.{Program}
-use Rattle.look_accepted.specs.declared.node.Node.{Node}
-use Rattle.look_accepted.specs.Nodes.{Comes, followers}
+use Rattle.sts_rules.specs.Refusal.{IsAccepted}
+use Rattle.sts_types.specs.Typing.{Typing, IsTyping}
+use Rattle.look_accepted.specs.declared.point.Point.{Point}
+use Rattle.look_accepted.specs.Nodes.{Node, Comes}
+use Rattle.look_accepted.specs.Points.{node_at}
 
--- a control path reaches each of these nodes
-abbrev pub AreFound : Program → ℕ → List Node → Type 0
-AreFound p f nodes = (n : Node) → Contains nodes n → Comes p f n
+-- a function of an accepted program, with its typing
+pub record IsTyped (p : Program) (f : ℕ) (t : Typing) : Type 0 where
+  pub checked : program_fault p.routines ≡ None
+  pub accepted : IsAccepted p
+  pub in_program : f < length p.routines
+  pub typing : IsTyping p f t
+
+-- a control path reaches each of these points
+abbrev pub AreFound : Program → ℕ → Typing → List Point → Type 0
+AreFound p f t points = (x : Point) → Contains points x → Comes p f (node_at t x)
 
 -- the older ones are the first ones
-pub record Grows (old new : List Node) : Type 0 where
-  pub more : List Node
+pub record Grows (old new : List Point) : Type 0 where
+  pub more : List Point
   pub same : new ≡ old ++ more
 
--- the node is there, and nothing else is new
-pub record Adds (old : List Node) (n : Node) (new : List Node) : Type 0 where
+-- all points of this kind are there, and nothing else is new
+pub record Adds (old : List Point) (IsNew : Point → Type 0) (new : List Point) : Type 0 where
   pub grows : Grows old new
-  pub there : Contains new n
-  pub only : (m : Node) → Contains new m → Contains old m ⊎ (m ≡ n)
+  pub there : (x : Point) → IsNew x → Contains new x
+  pub only : (x : Point) → Contains new x → Contains old x ⊎ IsNew x
 
--- the nodes after the node at a place of the old list are in the new list
-abbrev pub IsSpread : Program → ℕ → List Node → ℕ → List Node → Type 0
-IsSpread p f old at new =
-    (d m : Node) → Contains (followers p f (slice_index_or old at d)) m → Contains new m
-
--- these are the nodes that control paths reach, and no others
-pub record AreAll (p : Program) (f : ℕ) (nodes : List Node) : Type 0 where
-  pub found : AreFound p f nodes
-  pub all : (n : Node) → Comes p f n → Contains nodes n
+-- these are the points of the nodes that control paths reach, and no others
+pub record AreAll (p : Program) (f : ℕ) (t : Typing) (points : List Point) : Type 0 where
+  pub found : AreFound p f t points
+  pub all : (n : Node) → Comes p f n → (x : Point) × (Contains points x × (node_at t x ≡ n))

@@ -2,4 +2,5 @@ pub mod Found
 pub mod Lines
 pub mod Nodes
 pub mod Notes
+pub mod Points
 pub mod Relying

@@ -14,7 +14,6 @@ use Rattle.sts_rules.specs.declared.typing.Cause.{Cause}
 use Rattle.sts_rules.specs.Edges.{edges, back_of}
 use Rattle.sts_rules.specs.Refusal.{size}
 use Rattle.sts_rules.specs.TypeState.{TypeState, entry}
-use Rattle.look_accepted.specs.declared.node.Node.{Node}
 
 -- ---- the first binding of a thread
 
@@ -40,6 +39,12 @@ next_mark i before after (Some outer) =
     if nat_le outer (length after.entries) then Some outer else Some (length after.entries)
 
 -- ---- nodes
+
+-- a place, with the typestate of a control path there, and with the mark
+pub record Node : Type 0 where
+  pub pc : ℕ
+  pub state : TypeState
+  pub mark : Option ℕ
 
 -- the first node of a function
 abbrev pub first_node : Program → ℕ → Node

@@ -1,6 +1,7 @@
 //! The rules that JDK 25 doesn't share.
 
-ghost use Rattle.std.specs.Prelude.{◌≡◌};
+ghost use Rattle.std.specs.Prelude.{◌≡◌, ℕ, false, Option, None};
+ghost use Rattle.sts_rules.specs.TypeState.{TypeState};
 ghost use Rattle.look_accepted.specs.Relying as def;
 
 use sts_code::Instr;
@@ -70,6 +71,21 @@ fn first_binding(state: &TypeState, slot: u8, mark: Option<usize>) -> Option<Rel
     } else {
         None
     }
+}
+
+/// Can the instruction rely on such a rule?
+pub fn may_rely(instr: Instr) -> bool
+    ensures { result ≡ false → (s : TypeState) (mark : Option ℕ) →
+        def.relied_on instr s mark ≡ None }
+{
+    matches!(
+        instr,
+        Instr::Join { .. }
+            | Instr::Fork { .. }
+            | Instr::Total(_)
+            | Instr::Get(_)
+            | Instr::Except(_)
+    )
 }
 
 /// The rule that an instruction relies on.

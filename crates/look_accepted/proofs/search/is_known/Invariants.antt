@@ -1,9 +1,0 @@
-use Rattle.std.proofs.Common.{◌≤◌, length}
-use Rattle.look_accepted.proofs.search.is_known.Given as goal
-
-abbrev pub invariant-loop-at : goal.invariant-loop-at
-invariant-loop-at l = l.younger ≤ length l.nodes
-
--- the next one is older
-abbrev pub decreases-loop-at : goal.decreases-loop-at
-decreases-loop-at l = l.younger
