@@ -5,7 +5,6 @@ use lib.Pointwise.{pointwise}
 use Rattle.sts_code.specs.declared.instr.Joiner.{Joiner}
 use Rattle.std.specs.contracts.prelude.BoolPartialEq.TheImpl as bool_eq
 use Rattle.std.proofs.lemmas.Bool.{and_parts}
-use Rattle.sts_code.specs.contracts.instr.PredPartialEq.TheImpl as pred_eq
 use Rattle.sts_code.specs.contracts.instr.JoinerPartialEq.TheImpl as joiner_eq
 use Rattle.sts_rules.specs.declared.typing.SlotKind.{SlotKind}
 use Rattle.sts_rules.specs.declared.typing.TypedPhase.{TypedPhase}

@@ -107,9 +107,9 @@ module _ {S C : Type 0} (f : Flow S C) (n : ℕ) (laws : IsForward f n) where
       to (One s) w = (reaches k pc s w.0, λ x r. w.1 x (below k pc x le r))
       to Several w = (w.0, (w.1.0, (reaches k pc _ w.1.1.0, reaches k pc _ w.1.1.1, w.1.1.2)))
 
-  -- after the last place, the table has the only state of each place
-  pub all_alone : (table : List (Arrival S)) → Passed f n table n → (pc : ℕ) → pc < n → (s : S) × ((get_or table pc Nothing ≡ One s) × IsAlone f pc s)
-  all_alone table at pc lt = by (get_or table pc Nothing) refl (known table n pc (omega arith) (at.holds.1 pc lt))
+  -- the table has the only state of each place that was visited
+  pub all_alone : (table : List (Arrival S)) (k : ℕ) → k ≤ n → Passed f n table k → (pc : ℕ) → pc < k → (s : S) × ((get_or table pc Nothing ≡ One s) × IsAlone f pc s)
+  all_alone table k le at pc lt = by (get_or table pc Nothing) refl (known table k pc (omega arith) (at.holds.1 pc (omega arith)))
     where
       c : IsClear f pc
       c = at.clear pc lt

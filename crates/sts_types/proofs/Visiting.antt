@@ -1,5 +1,6 @@
 -- One place of the pass over a function: each exit of the body, and how the pass goes on.
-use Rattle.std.proofs.Common.{◌≡◌, ◌≢◌, ℕ, ◌+◌, ◌<◌, ◌≤◌, ◌↔◌, IsTrue, IfSome, Bool, true, false, List, [], ◌∷◌, length, Option, Some, None, Ok, get_or, set}
+use Rattle.std.proofs.Common.{◌≡◌, ◌≢◌, ℕ, ◌+◌, ◌<◌, ◌≤◌, ◌↔◌, IsTrue, IfSome, Bool, true, false, List, [], ◌∷◌, length, Option, Some, None, Ok, Err, get_or, set}
+use Rattle.std.specs.Prelude.{Result, IsErrAnd, MatchResult}
 use Rattle.std.proofs.Common.{replicate, refl, sym, ap, ◌∙◌, subst, arith, get_or-set_same, get_or-set_other, length-set}
 use Rattle.std.specs.List.{All}
 use Rattle.std.proofs.lemmas.List.{length-replicate, get_or-replicate}
@@ -11,8 +12,8 @@ use Rattle.sts_rules.specs.declared.typing.Cause.TheVariants.{StatesDiffer, Dead
 use Rattle.sts_rules.specs.TypeState.{TypeState, entry}
 use Rattle.sts_rules.specs.Causes.{least_cause}
 use Rattle.sts_rules.specs.Edges.{edges, follows, back_of, typing}
-use Rattle.sts_rules.specs.Flow.{IsAlone, TurnKeeps}
-use Rattle.sts_rules.specs.Refusal.{size, IsTypeRefusal, IsWellTyped}
+use Rattle.sts_rules.specs.Flow.{IsAlone, TurnKeeps, IsAccepted, IsRefusal}
+use Rattle.sts_rules.specs.Refusal.{size}
 use Rattle.sts_types.specs.declared.arrival.Arrival.{Arrival}
 use Rattle.sts_types.specs.declared.arrival.Arrival.TheVariants.{Nothing, One, Several}
 use Rattle.sts_types.specs.Arrivals.{Arrive, at_height, filled, none}
@@ -25,15 +26,12 @@ use Rattle.sts_types.proofs.Laws.{laws, back_down}
 use Rattle.sts_types.specs.Passing.{Passed}
 use Rattle.sts_types.specs.Tables.{AreTablesOf}
 use Rattle.sts_types.specs.declared.pass.TypeError.{TypeError}
-use Rattle.sts_types.specs.declared.pass.TypeError.TheVariants.{Refused}
-use Rattle.sts_types.specs.Typing.{Typing, IsTyping, Tells}
+use Rattle.sts_types.specs.declared.pass.TypeError.TheVariants.{Memory, Refused}
+use Rattle.sts_types.specs.Typing.{Typing, IsTypingTo, TellsTo}
 use Rattle.sts_types.proofs.Passing.{all_alone, begin, is_dead, has_two, has_edge_cause, has_turn_cause, turn_differs, turn_same, no_turn, goes_on}
 use Rattle.sts_types.proofs.RoomLemmas.{has_room}
 use Rattle.sts_types.proofs.SimpleLemmas.{short_arrives, short_back, short_place}
 use Rattle.sts_rules.proofs.VerdictLemmas.{clear_excludes}
-
-pub within_code : (loops code : List Instr) (count pc : ℕ) → count ≡ length loops → loops ≡ code → pc < count → pc < length code
-within_code loops code count pc e same h = omega (arith, e, ap length same)
 
 -- the state of a place in a table that didn't change
 pub loaded_is : {X : Type 0} (table new : List (Arrival TypeState)) (k : ℕ) (s : TypeState) (r a : Arrival X) → new ≡ table → get_or table k Nothing ≡ filled s r → r ≡ a → get_or new k Nothing ≡ filled s a
@@ -69,33 +67,39 @@ begins p f code table s is some empty first =
 pub starts : (p : Program) (f : ℕ) (code : List Instr) (table : List (Arrival TypeState)) (s : TypeState) → code ≡ (routine p f).code → 0 < length code → table ≡ set (replicate (length code) Nothing) 0 (One s) → s ≡ entry p f → Passed (typing p f) (size p f) table 0
 starts p f code table s is some begun first = subst (λ t. Passed (typing p f) (size p f) t 0) (sym begun) (begins p f code (replicate (length code) Nothing) s is some refl first)
 
--- a function that is well typed is not refused
-pub never_refused : (p : Program) (f : ℕ) (e : TypeError) (pc : ℕ) (c : Cause) → IsWellTyped p f → Tells p f e → e ≡ Refused pc c → ⊥
-never_refused p f e pc c typed tells is =
-    let refusal : IsTypeRefusal p f pc c = subst (Tells p f) is tells in
-    clear_excludes (typing p f) pc c (typed pc refusal.0) refusal.1
+-- if no place has a cause, none is refused
+pub never_refused : (p : Program) (f k : ℕ) (e : TypeError) (pc : ℕ) (c : Cause) → TellsTo p f k e → e ≡ Refused pc c → IsAccepted (typing p f) k → ⊥
+never_refused p f k e pc c tells is clear =
+    let refusal : IsRefusal (typing p f) k pc c = subst (TellsTo p f k) is tells in
+    clear_excludes (typing p f) pc c (clear pc refusal.0) refusal.1
 
--- the typestates of a pass over the whole function are its typing
-pub is_typing : (p : Program) (f : ℕ) (code : List Instr) (table : List (Arrival TypeState)) (t : Typing) → code ≡ (routine p f).code → Passed (typing p f) (size p f) table (length code) → length t.states ≡ length table → ((pc : ℕ) (s : TypeState) → get_or table pc Nothing ≡ One s → get_or t.states pc none ≡ s) → AreTablesOf code t.loops → IsTyping p f t
-is_typing p f code table t is passed long each loops = record {
-  clear = whole.clear;
+-- the first place with a cause is the same among more places
+pub tells_more : {A : Type 0} (p : Program) (f k n : ℕ) (e : TypeError) (r : Result A TypeError) (P : A → Type 0) → k ≤ n → TellsTo p f k e → IsErrAnd r (λ x. x ≡ e) → MatchResult r P (TellsTo p f n)
+tells_more p f k n e (Ok x) P le tells is = absurd is
+tells_more p f k n e (Err x) P le tells is = subst (TellsTo p f n) (sym is) (more e tells)
+  where
+    more : (y : TypeError) → TellsTo p f k y → TellsTo p f n y
+    more Memory t = tt
+    more (Refused pc c) t = (omega (arith, t.0), t.1, t.2)
+
+-- the typestates of a pass over the first places are their typing
+pub is_typing : (p : Program) (f k : ℕ) (code : List Instr) (table : List (Arrival TypeState)) (t : Typing) → code ≡ (routine p f).code → k ≤ size p f → Passed (typing p f) (size p f) table k → length t.states ≡ length table → ((pc : ℕ) (s : TypeState) → get_or table pc Nothing ≡ One s → get_or t.states pc none ≡ s) → AreTablesOf code t.loops → IsTypingTo p f k t
+is_typing p f k code table t is le passed long each loops = record {
+  clear = passed.clear;
   long = long ∙ passed.holds.0;
-  alone = λ pc lt. (let a = all_alone (typing p f) (size p f) (laws p f) table whole pc lt in subst (IsAlone (typing p f) pc) (sym (each pc a.0 a.1.0)) a.1.1);
+  alone = λ pc lt. (let a = all_alone (typing p f) (size p f) (laws p f) table k le passed pc lt in subst (IsAlone (typing p f) pc) (sym (each pc a.0 a.1.0)) a.1.1);
   loops = subst (λ xs. AreTablesOf xs t.loops) is loops;
 }
-  where
-    whole : Passed (typing p f) (size p f) table (size p f)
-    whole = subst (Passed (typing p f) (size p f) table) (ap length is) passed
 
 module _ (p : Program) (f : ℕ) (code : List Instr) (is : code ≡ (routine p f).code) (table : List (Arrival TypeState)) (k : ℕ) (within : k < length code) (at : Passed (typing p f) (size p f) table k) where
   inside : k < size p f
   inside = omega (arith, ap length is)
 
-  pub dead_here : get_or table k Nothing ≡ Nothing → IsTypeRefusal p f k DeadCode
-  dead_here e = (inside, is_dead (typing p f) (size p f) (laws p f) table k inside at e, at.clear)
+  pub dead_here : get_or table k Nothing ≡ Nothing → IsRefusal (typing p f) (k + 1) k DeadCode
+  dead_here e = (omega arith, is_dead (typing p f) (size p f) (laws p f) table k inside at e, at.clear)
 
-  pub several_here : get_or table k Nothing ≡ Several → IsTypeRefusal p f k StatesDiffer
-  several_here e = (inside, has_two (typing p f) (size p f) (laws p f) table k inside at e, at.clear)
+  pub several_here : get_or table k Nothing ≡ Several → IsRefusal (typing p f) (k + 1) k StatesDiffer
+  several_here e = (omega arith, has_two (typing p f) (size p f) (laws p f) table k inside at e, at.clear)
 
 -- the pass has come to the place k, where s is the only typestate that has arrived and i the instruction
 pub record IsHere (p : Program) (f : ℕ) (code : List Instr) (table : List (Arrival TypeState)) (k : ℕ) (s : TypeState) (i : Instr) : Type 0 where
@@ -109,10 +113,10 @@ module _ {p : Program} {f : ℕ} {code : List Instr} {table : List (Arrival Type
   here : k < size p f
   here = omega (arith, h.within, ap length h.is)
 
-  pub cause_here : (c : Cause) → least_cause p f k i s ≡ Some c → IsTypeRefusal p f k c
+  pub cause_here : (c : Cause) → least_cause p f k i s ≡ Some c → IsRefusal (typing p f) (k + 1) k c
   cause_here c e =
       let refuses = refused_there p f code h.is k h.within s i Ret h.instr c e in
-      (here, has_edge_cause (typing p f) (size p f) (laws p f) table k here h.at s h.one c refuses, h.at.clear)
+      (omega arith, has_edge_cause (typing p f) (size p f) (laws p f) table k here h.at s h.one c refuses, h.at.clear)
 
   module _ (none : least_cause p f k i s ≡ None) where
     fine : edges p f k s ≡ Ok (follows p (routine p f).code k i s)
@@ -146,15 +150,15 @@ module _ {p : Program} {f : ℕ} {code : List Instr} {table : List (Arrival Type
     no_turn_here e = no_turn (typing p f) (size p f) (laws p f) table k here h.at s h.one (back_there None e)
 
     module _ (b : Bool) (tests : IsTrue b ↔ IfSome (back_of i s) (λ q. get_or table q Nothing ≡ One s)) where
-      pub turn_here : b ≡ false → IsTypeRefusal p f k StatesDiffer
+      pub turn_here : b ≡ false → IsRefusal (typing p f) (k + 1) k StatesDiffer
       turn_here differs = by (back_of i s) refl tests
         where
-          by : (o : Option ℕ) → back_of i s ≡ o → (IsTrue b ↔ IfSome o (λ q. get_or table q Nothing ≡ One s)) → IsTypeRefusal p f k StatesDiffer
+          by : (o : Option ℕ) → back_of i s ≡ o → (IsTrue b ↔ IfSome o (λ q. get_or table q Nothing ≡ One s)) → IsRefusal (typing p f) (k + 1) k StatesDiffer
           by None e t = let u = t.1 tt in cc
           by (Some q) e t =
               let other : get_or table q Nothing ≢ One s = λ same. (let yes : b ≡ true = t.1 same in cc) in
               let d' = turn_differs (typing p f) (size p f) (laws p f) table k here h.at s h.one _ q fine (back_there (Some q) e) other in
-              (here, has_turn_cause (typing p f) (size p f) (laws p f) table k here h.at s h.one _ fine d', h.at.clear)
+              (omega arith, has_turn_cause (typing p f) (size p f) (laws p f) table k here h.at s h.one _ fine d', h.at.clear)
 
       pub keeps_here : b ≡ true → TurnKeeps (typing p f) k s
       keeps_here kept = by (back_of i s) refl tests

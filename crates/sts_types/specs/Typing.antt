@@ -2,8 +2,8 @@
 use Rattle.std.specs.Prelude.{◌≡◌, ℕ, ◌<◌, List, length, slice_index_or}
 use Rattle.sts_code.specs.Program.{Program, routine}
 use Rattle.sts_rules.specs.Edges.{typing}
-use Rattle.sts_rules.specs.Flow.{IsAlone, IsClear}
-use Rattle.sts_rules.specs.Refusal.{IsTypeRefusal, size}
+use Rattle.sts_rules.specs.Flow.{IsAlone, IsAccepted, IsRefusal}
+use Rattle.sts_rules.specs.Refusal.{size}
 use Rattle.sts_rules.specs.TypeState.{TypeState}
 use Rattle.sts_types.specs.Arrivals.{none}
 use Rattle.sts_types.specs.Tables.{Tables, AreTablesOf}
@@ -18,7 +18,7 @@ pub record Typing : Type 0 where
 -- the first k places of the function have no cause: each is reached by its typestate and by no other.
 -- The tables are those of its code
 pub record IsTypingTo (p : Program) (f k : ℕ) (t : Typing) : Type 0 where
-  pub clear : (pc : ℕ) → pc < k → IsClear (typing p f) pc
+  pub clear : IsAccepted (typing p f) k
   pub long : length t.states ≡ size p f
   pub alone : (pc : ℕ) → pc < k → IsAlone (typing p f) pc (slice_index_or t.states pc none)
   pub loops : AreTablesOf (routine p f).code t.loops
@@ -27,8 +27,11 @@ pub record IsTypingTo (p : Program) (f k : ℕ) (t : Typing) : Type 0 where
 abbrev pub IsTyping : Program → ℕ → Typing → Type 0
 IsTyping p f t = IsTypingTo p f (size p f) t
 
--- a refusal names the first place of the function with a cause, and one cause there; running out of
+-- a refusal names the first of the first k places with a cause, and one cause there; running out of
 -- memory promises nothing
+abbrev pub TellsTo : Program → ℕ → ℕ → TypeError → Type 0
+TellsTo p f k Memory = Unit {0}
+TellsTo p f k (Refused pc cause) = IsRefusal (typing p f) k pc cause
+
 abbrev pub Tells : Program → ℕ → TypeError → Type 0
-Tells p f Memory = Unit {0}
-Tells p f (Refused pc cause) = IsTypeRefusal p f pc cause
+Tells p f error = TellsTo p f (size p f) error

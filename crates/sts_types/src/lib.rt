@@ -25,7 +25,7 @@ mod tables;
 mod typing;
 
 pub use edge::{edges, edges_with_loops};
-pub use pass::{TypeError, type_function, typed_function, typing_of};
+pub use pass::{TypeError, back_to, type_function, typed_before, typed_function, typing_of};
 pub use state::{TypeState, entry};
 pub use sts_rules::Cause;
 pub use typing::Typing;

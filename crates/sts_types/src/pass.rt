@@ -1,14 +1,15 @@
 //! One forward pass over a function, which finds its least place with a cause.
 
 ghost use Rattle.std.specs.Prelude.{◌≡◌, ◌≤◌, ◌<◌, ◌^◌, ◌↔◌, length, slice_index_or, IsTrue, OnOk};
-ghost use Rattle.std.specs.Prelude.{IfOk, IfSome, MatchResult, Some, ◌+◌, ◌∷◌, []};
+ghost use Rattle.std.specs.Prelude.{IfOk, IfSome, MatchOption, MatchResult, Some, ◌+◌, ◌∷◌, []};
 ghost use Rattle.sts_rules.specs.Edges as def;
-ghost use Rattle.sts_rules.specs.Refusal.{IsWellTyped};
+ghost use Rattle.sts_rules.specs.Flow.{IsAccepted};
+ghost use Rattle.sts_rules.specs.Refusal.{IsWellTyped, size};
 ghost use Rattle.sts_code.specs.Program.{routine, instr_at};
 ghost use Rattle.sts_types.specs.Arrivals.{Arrive, at_height};
 ghost use Rattle.sts_types.specs.Passing.{PassedTo};
 ghost use Rattle.sts_types.specs.Site.{IsSite, HasRoomAt, LeadInside, Followed, follows_at};
-ghost use Rattle.sts_types.specs.Typing.{IsTyping, Tells};
+ghost use Rattle.sts_types.specs.Typing.{IsTyping, IsTypingTo, Tells, TellsTo};
 
 use crate::arrival::Arrival;
 use crate::arrivals::Arrivals;
@@ -42,7 +43,7 @@ impl From<AllocError> for TypeError {
 }
 
 /// The place after the `times` of the loop whose turn a `next` ends.
-fn back_to(instr: Instr, state: &TypeState) -> Option<u32>
+pub fn back_to(instr: Instr, state: &TypeState) -> Option<u32>
     requires { IfSome (def.back_of instr state.now) (λ q. q < 2 ^ 32) }
     ensures { result ≡ def.back_of instr state.now }
 {
@@ -149,7 +150,7 @@ fn visit_in_full(
     requires start { arrivals.old.start ≡ arrivals.old.state }
     ensures { MatchResult result
         (λ _. PassedTo program.now function arrivals.new.table (pc + 1))
-        (Tells program.now function) }
+        (TellsTo program.now function (pc + 1)) }
 {
     let site = match tested(program, function, loops, pc, instr, arrivals.state()) {
         Ok(site) => site,
@@ -179,7 +180,7 @@ fn visit(
     requires passed { PassedTo program.now function arrivals.old.table pc }
     ensures { MatchResult result
         (λ _. PassedTo program.now function arrivals.new.table (pc + 1))
-        (Tells program.now function) }
+        (TellsTo program.now function (pc + 1)) }
 {
     match arrivals.load(pc) {
         Arrival::Nothing => return Err(refused(pc, Cause::DeadCode)),
@@ -203,25 +204,48 @@ fn visit(
     }
 }
 
-/// Visits the places of a function in order, up to the first with a cause.
+/// Visits the first places of a function in order, up to the first with a cause.
 fn visit_all(
     program: &Program,
     function: u32,
     code: &[Instr],
     loops: &CodeLoops<'_>,
+    count: u32,
     arrivals: &mut Arrivals,
 ) -> Result<(), TypeError>
     requires code { code.now ≡ (routine program.now function).code }
     requires loops { loops.now ≡ code.now }
+    requires count { count ≤ length code.now }
+    requires small { count ≤ MAX_INSTRUCTIONS }
     requires begun { PassedTo program.now function arrivals.old.table 0 }
     ensures { MatchResult result
-        (λ _. PassedTo program.now function arrivals.new.table (length code.now))
-        (Tells program.now function) }
+        (λ _. PassedTo program.now function arrivals.new.table count)
+        (TellsTo program.now function count) }
 {
-    for pc in 0..loops.len() {
+    for pc in 0..count {
         visit(program, function, code, loops, pc, arrivals)?;
     }
     Ok(())
+}
+
+/// The typing of the first places of a function.
+fn typed_to(
+    alloc: Global,
+    program: &Program,
+    function: u32,
+    count: u32,
+) -> Result<Typing, TypeError>
+    requires function { function < length program.now.routines }
+    requires count { count ≤ size program.now function }
+    ensures { MatchResult result (IsTypingTo program.now function count)
+        (TellsTo program.now function count) }
+{
+    let code = code_of(program, function as usize);
+    let tables = Tables::new(alloc, code)?;
+    let loops = CodeLoops::with_tables(code, &tables);
+    let mut arrivals = Arrivals::new(alloc, code.len(), entry(program, function))?;
+    visit_all(program, function, code, &loops, count, &mut arrivals)?;
+    Ok(arrivals.into_typing(tables))
 }
 
 /// Finds the typestate at each place of the function and its loops. If a place has a cause from V1
@@ -234,12 +258,32 @@ pub fn typed_function(alloc: Global, program: &Program, function: u32) -> Result
     requires { function < length program.now.routines }
     ensures { MatchResult result (IsTyping program.now function) (Tells program.now function) }
 {
-    let code = code_of(program, function as usize);
-    let tables = Tables::new(alloc, code)?;
-    let loops = CodeLoops::with_tables(code, &tables);
-    let mut arrivals = Arrivals::new(alloc, code.len(), entry(program, function))?;
-    visit_all(program, function, code, &loops, &mut arrivals)?;
-    Ok(arrivals.into_typing(tables))
+    let count = code_of(program, function as usize).len();
+    typed_to(alloc, program, function, count as u32)
+}
+
+/// The typing of the places before a place; none if one of these has a cause.
+///
+/// # Errors
+///
+/// Memory ran out.
+pub fn typed_before(
+    alloc: Global,
+    program: &Program,
+    function: u32,
+    pc: u32,
+) -> Result<Option<Typing>, AllocError>
+    requires function { function < length program.now.routines }
+    requires pc { pc ≤ size program.now function }
+    ensures { IfOk result (λ found. MatchOption found
+        (¬ IsAccepted (def.typing program.now function) pc)
+        (IsTypingTo program.now function pc)) }
+{
+    match typed_to(alloc, program, function, pc) {
+        Ok(typing) => Ok(Some(typing)),
+        Err(TypeError::Memory) => Err(AllocError),
+        Err(TypeError::Refused { .. }) => Ok(None),
+    }
 }
 
 /// The typing of a function that is known to be well typed.

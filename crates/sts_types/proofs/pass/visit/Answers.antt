@@ -1,10 +1,10 @@
-use Rattle.std.proofs.Common.{◌∙◌, length, get_or, pos, sym, ap, subst, arith}
+use Rattle.std.proofs.Common.{◌∙◌, ◌+◌, length, get_or, pos, sym, ap, subst, arith}
 use Rattle.std.proofs.lemmas.List.{get_or_default}
 use Rattle.sts_code.specs.Program.{instr_at}
 use Rattle.sts_code.specs.declared.instr.Instr.TheVariants.{Push, Ret}
 use Rattle.sts_types.specs.Passing.{PassedTo}
 use Rattle.sts_types.specs.Simple.{IsShort}
-use Rattle.sts_types.specs.Typing.{Tells}
+use Rattle.sts_types.specs.Typing.{TellsTo}
 use Rattle.sts_types.proofs.SimpleLemmas.{short_is}
 use Rattle.sts_types.proofs.Visiting.{IsHere, loaded_is, dead_here, several_here, short_leads, goes_on_short}
 use Rattle.sts_types.proofs.pass.visit.Goals.{After-load, In-One, In-Some}
@@ -35,14 +35,14 @@ load-requires c = omega (arith, c.requires.inside, ap length c.requires.code, c.
 
 pub returns-in-Nothing : goal.returns-in-Nothing
 returns-in-Nothing c =
-    subst (Tells c.args.program.now c.args.function) (sym c.refused.ensures) (dead_here c.args.program.now c.args.function c.args.code.now
+    subst (TellsTo c.args.program.now c.args.function (c.args.pc + 1)) (sym c.refused.ensures) (dead_here c.args.program.now c.args.function c.args.code.now
     c.requires.code c.load.new.self.table c.args.pc c.requires.inside (passed (goal.at.returns-in-Nothing c).After-load) (loaded_is
     c.args.arrivals.now.table c.load.new.self.table
     c.args.pc c.load.new.self.state _ _ c.load.ensures.table c.load.ensures.loaded c.in-Nothing.is))
 
 pub returns-in-Several : goal.returns-in-Several
 returns-in-Several c =
-    subst (Tells c.args.program.now c.args.function) (sym c.refused-in-Several.ensures) (several_here c.args.program.now c.args.function
+    subst (TellsTo c.args.program.now c.args.function (c.args.pc + 1)) (sym c.refused-in-Several.ensures) (several_here c.args.program.now c.args.function
     c.args.code.now c.requires.code c.load.new.self.table c.args.pc c.requires.inside (passed (goal.at.returns-in-Several c).After-load) (loaded_is
     c.args.arrivals.now.table
     c.load.new.self.table c.args.pc c.load.new.self.state _ _ c.load.ensures.table c.load.ensures.loaded c.in-Several.is))

@@ -1,10 +1,10 @@
-use Rattle.std.proofs.Common.{◌≡◌, ◌<◌, None, length, refl, sym, subst}
+use Rattle.std.proofs.Common.{◌≡◌, ◌+◌, ◌<◌, None, length, refl, sym, subst}
 use Rattle.std.specs.List.{All}
 use Rattle.sts_rules.specs.Causes.{least_cause}
 use Rattle.sts_rules.specs.Edges.{follows}
 use Rattle.sts_types.specs.Arrivals.{Arrive}
 use Rattle.sts_types.specs.Room.{HasRoom}
-use Rattle.sts_types.specs.Typing.{Tells}
+use Rattle.sts_types.specs.Typing.{TellsTo}
 use Rattle.sts_types.proofs.Sites.{is_site, of_site, to_site}
 use Rattle.sts_types.proofs.Visiting.{IsHere, least_is, cause_here, room, places, back_fits, turn_here, keeps_here, goes_on_here}
 use Rattle.sts_types.proofs.pass.visit_in_full.Goals.{After-state, In-Ok}
@@ -22,7 +22,7 @@ none c =
 
 pub returns-in-Err : goal.returns-in-Err
 returns-in-Err c =
-    subst (Tells c.args.program.now c.args.function) (sym c.refused.ensures) (cause_here (here (goal.at.returns-in-Err c).After-state) c.in-Err.cause
+    subst (TellsTo c.args.program.now c.args.function (c.args.pc + 1)) (sym c.refused.ensures) (cause_here (here (goal.at.returns-in-Err c).After-state) c.in-Err.cause
     (least_is c.args.program.now c.args.function c.args.pc c.args.instr c.args.arrivals.now.state c.state.result.now _ _ c.state.ensures refl
     c.in-Err.ensures))
 
@@ -34,7 +34,7 @@ keeps_turn-requires c =
 pub returns-then-not-keeps_turn : goal.returns-then-not-keeps_turn
 returns-then-not-keeps_turn c =
     let h = goal.at.returns-then-not-keeps_turn c in
-    subst (Tells c.args.program.now c.args.function) (sym c.refused-then-not-keeps_turn.ensures)
+    subst (TellsTo c.args.program.now c.args.function (c.args.pc + 1)) (sym c.refused-then-not-keeps_turn.ensures)
     (turn_here (here h.After-state) (none h.In-Ok) c.keeps_turn.result c.keeps_turn.ensures c.if-not-keeps_turn.true)
 
 pub follow-requires-clause-site : goal.follow-requires-clause-site
