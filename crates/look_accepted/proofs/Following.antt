@@ -1,6 +1,6 @@
 -- What follows a node is what follows its point, with the typestates of the typing.
-use Rattle.std.proofs.Common.{◌≡◌, ℕ, ◌+◌, ◌⊎◌, inl, inr, Bool, true, cond, List, [], ◌∷◌, ◌++◌, length, map, Option, Some, None, Result, option_map, option_to_list, slice_get, refl, sym, ap, ◌∙◌, subst, arith}
-use Rattle.std.specs.Prelude.{slice_index_or, nat_lt}
+use Rattle.std.proofs.Common.{◌≡◌, ℕ, ◌+◌, ◌<◌, ◌⊎◌, inl, inr, Bool, cond, List, [], ◌∷◌, ◌++◌, map, Option, Some, None, Result, option_map, option_to_list, slice_get, refl, sym, ap, ◌∙◌, subst, arith}
+use Rattle.std.specs.Prelude.{slice_index_or}
 use Rattle.std.specs.List.{Contains}
 use Rattle.std.proofs.lemmas.Bool.{lt-ltb}
 use Rattle.std.proofs.lemmas.List.Elements.{Contains-append_left, Contains-append_right, Contains-append_cases, Contains-push}
@@ -39,11 +39,10 @@ turn_in n m (Some q) c = (q, (refl, single (record n { pc = q }) m c))
 module _ (g : ℕ × TypeState → Node) where
   edge_in : (es : List (ℕ × TypeState)) (m : Node) → Contains (map g es) m → (to : ℕ) × ((s : TypeState) × (Leads es to s × (m ≡ g (to, s))))
   edge_in [] m c = absurd (omega (arith, c.1))
-  edge_in (e ∷ es) m c = by (Contains-append_cases (g e ∷ []) (map g es) m c)
-    where
-      by : Contains (g e ∷ []) m ⊎ Contains (map g es) m → (to : ℕ) × ((s : TypeState) × (Leads (e ∷ es) to s × (m ≡ g (to, s))))
-      by (inl d) = (e.0, (e.1, (inl (refl, refl), single (g e) m d)))
-      by (inr d) = let r = edge_in es m d in (r.0, (r.1.0, (inr r.1.1.0, r.1.1.1)))
+  edge_in (e ∷ es) m c = elim (Contains-append_cases (g e ∷ []) (map g es) m c) [
+    | inl d ↦ (e.0, (e.1, (inl (refl, refl), single (g e) m d)))
+    | inr d ↦ (let r = edge_in es m d in (r.0, (r.1.0, (inr r.1.1.0, r.1.1.1))))
+  ]
 
   in_edges : (es : List (ℕ × TypeState)) (to : ℕ) (s : TypeState) → Leads es to s → Contains (map g es) (g (to, s))
   in_edges [] to s l = elim l [ ]
@@ -103,11 +102,12 @@ module _ (p : Program) (f : ℕ) (t : Typing) (h : IsTyped p f t) where
 
   reaches : (n : Node) → Comes p f n → Reaches (typing p f) n.pc n.state
   reaches n first = reach_first
-  reaches n (then from to comes c) = by (next_of from (reaches from comes) n c)
-    where
-      by : IsNext from n → Reaches (typing p f) n.pc n.state
-      by (inl e) = subst (λ (m : Node). Reaches (typing p f) m.pc m.state) (sym e.1.1.1) ((promised from.pc from.state (reaches from comes)).leads e.0 e.1.0 e.1.1.0)
-      by (inr b) = subst (λ (m : Node). Reaches (typing p f) m.pc m.state) (sym b.1.1) (turns from.pc from.state b.0 (reaches from comes) b.1.0)
+  reaches n (then from to comes c) =
+      let r = reaches from comes in
+      elim (next_of from r n c) [
+        | inl e ↦ subst (λ (m : Node). Reaches (typing p f) m.pc m.state) (sym e.1.1.1) ((promised from.pc from.state r).leads e.0 e.1.0 e.1.1.0)
+        | inr b ↦ subst (λ (m : Node). Reaches (typing p f) m.pc m.state) (sym b.1.1) (turns from.pc from.state b.0 r b.1.0)
+      ]
 
   -- ---- what follows a point
 
@@ -201,12 +201,14 @@ module _ (p : Program) (f : ℕ) (t : Typing) (h : IsTyped p f t) where
             (record x { pc = b.0 }, (inr (round (at x.pc) b.0 b.1.0), ap (λ (z : TypeState). record { pc = b.0; state = z; mark = x.mark }) (sym is) ∙ sym b.1.1))
 
     -- the point and those that follow it are inside the function
+    pub within : x.pc < size p f
+    within = (promised x.pc s r).within
+
     pub inside : IsInside t (at x.pc) x
     inside =
-        let within = (promised x.pc s r).within in
         record {
-          here = omega (arith, h.typing.long);
-          ends = omega (arith, h.typing.loops.ends_long);
-          heads = omega (arith, h.typing.loops.heads_long);
+          here = omega (arith, within, h.typing.long);
+          ends = omega (arith, within, h.typing.loops.ends_long);
+          heads = omega (arith, within, h.typing.loops.heads_long);
           next = λ y next. (let w = (promised y.pc (state_at t y.pc) (reaches (node_at t y) (comes_on y next))).within in omega (arith, w, h.typing.long));
         }

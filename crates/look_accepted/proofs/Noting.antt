@@ -45,13 +45,13 @@ module _ (p : Program) (f : ℕ) (t : Typing) (points : List Point) where
 
     -- a point that relies on no rule
     pub noted_none : relied_on_at p f (node_at t x) ≡ None → NotedTo (k + 1) rules
-    noted_none no = record { long = h.long; some = h.some; held = λ j e lj. by j e (split j k lj) }
+    noted_none nothing = record { long = h.long; some = h.some; held = λ j e lj. by j e (split j k lj) }
       where
         by : (j : ℕ) (e : Point) → (j < k) ⊎ (j ≡ k) → is_some (relied_on_at p f (node_at t (slice_index_or points j e))) ≡ true → is_some (slice_index_or rules (slice_index_or points j e).pc None) ≡ true
         by j e (inl l) is = h.held j e l is
         by j e (inr same) is =
             let here : slice_index_or points j e ≡ x = ap (λ (n : ℕ). slice_index_or points n e) same ∙ get_or_default points k e d less in
-            let none' = ap (λ (y : Point). is_some (relied_on_at p f (node_at t y))) here ∙ ap is_some no in
+            let none' = ap (λ (y : Point). is_some (relied_on_at p f (node_at t y))) here ∙ ap is_some nothing in
             absurd (cc)
 
     -- a point that relies on a rule
@@ -89,7 +89,7 @@ module _ (p : Program) (f : ℕ) (t : Typing) (points : List Point) where
           let point : node_at t (slice_index_or points c.0 a.0) ≡ n = ap (node_at t) c.2 ∙ a.1.1 in
           let place : (slice_index_or points c.0 a.0).pc ≡ pc = ap (λ (m : Node). m.pc) point ∙ at in
           let relied : is_some (relied_on_at p f (node_at t (slice_index_or points c.0 a.0))) ≡ true =
-              ap (λ (m : Node). is_some (relied_on_at p f m)) point ∙ ap (λ (q : ℕ). is_some (relied_on (instr_at (routine p f).code q) n.state n.mark)) at ∙ ap is_some rule in
+          ap (λ (m : Node). is_some (relied_on_at p f m)) point ∙ ap (λ (q : ℕ). is_some (relied_on (instr_at (routine p f).code q) n.state n.mark)) at ∙ ap is_some rule in
           let has = ap (λ (q : ℕ). is_some (slice_index_or rules q None)) (sym place) ∙ h.held c.0 a.0 (omega (arith, c.1)) relied in
           let hasn't = ap is_some e in
           absurd (cc)

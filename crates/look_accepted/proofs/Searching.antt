@@ -1,5 +1,5 @@
 -- How a search grows, and that it finds all points.
-use Rattle.std.proofs.Common.{◌≡◌, ℕ, ◌+◌, ◌<◌, ◌≤◌, ◌⊎◌, inl, inr, List, [], ◌∷◌, ◌++◌, length, Option, Some, None, refl, ap, sym, ◌∙◌, subst, arith, append_assoc}
+use Rattle.std.proofs.Common.{◌≡◌, ℕ, ◌+◌, ◌<◌, ◌≤◌, ◌⊎◌, inl, inr, List, [], ◌∷◌, ◌++◌, length, refl, ap, sym, ◌∙◌, subst, arith, append_assoc}
 use Rattle.std.specs.Prelude.{slice_index_or}
 use Rattle.std.specs.List.{Contains}
 use Rattle.std.proofs.Math.ListN.{get_or-append}
@@ -8,7 +8,6 @@ use Rattle.std.proofs.lemmas.List.Elements.{Contains-append_left, Contains-get_o
 use Rattle.laws_words.proofs.NumberLemmas.{split}
 use Rattle.sts_code.specs.Program.{Program, routine}
 use Rattle.sts_code.specs.declared.instr.Instr.{Instr}
-use Rattle.sts_rules.specs.ControlPaths.{Among}
 use Rattle.sts_types.specs.Typing.{Typing}
 use Rattle.sts_budget.proofs.LeadLemmas.{among_of}
 use Rattle.sts_types.proofs.AmongLemmas.{among_left, among_right}
@@ -67,25 +66,29 @@ adds_along t i x before to a b c g h = adds_both a b c (IsAlong t i x before) (�
 
 -- ---- a search that goes on
 
-module _ (p : Program) (f : ℕ) (t : Typing) (typed : IsTyped p f t) where
-  pub record IsSearched (at : ℕ) (points : List Point) : Type 0 where
-    pub found : AreFound p f t points
-    pub begins : Contains points (first_point p f)
-    pub closed : (k : ℕ) → k < at → (d y : Point) → Follows (routine p f).code t (slice_index_or points k d) y → Contains points y
+-- the points after the first ones are there, too
+pub record IsSearched (p : Program) (f : ℕ) (t : Typing) (at : ℕ) (points : List Point) : Type 0 where
+  pub found : AreFound p f t points
+  pub begins : Contains points (first_point p f)
+  pub closed : (k : ℕ) → k < at → (d y : Point) → Follows (routine p f).code t (slice_index_or points k d) y → Contains points y
 
-  pub searched_first : (points : List Point) → Adds [] (λ y. first_point p f ≡ y) points → IsSearched 0 points
-  searched_first points a = record {
-    found = λ x c. elim (a.only x c) [
-      | inl none ↦ absurd (omega (arith, none.1))
-      | inr e ↦ subst (λ (y : Point). Comes p f (node_at t y)) e (subst (Comes p f) (sym (first_is p f t typed)) first)
+module _ (p : Program) (f : ℕ) (t : Typing) (typed : IsTyped p f t) where
+  pub searched_first : (none points : List Point) (x : Point) → none ≡ [] → x ≡ first_point p f → Adds none (λ y. x ≡ y) points → IsSearched p f t 0 points
+  searched_first none points x nothing is a = record {
+    found = λ y c. elim (a.only y c) [
+      | inl old ↦ absurd (omega (arith, old.1, ap (length {A = Point}) nothing))
+      | inr e ↦ subst (λ (z : Point). Comes p f (node_at t z)) (sym is ∙ e) (subst (Comes p f) (sym (first_is p f t typed)) first)
     ];
-    begins = a.there (first_point p f) refl;
+    begins = a.there (first_point p f) is;
     closed = λ k less. absurd (omega (arith, less));
   }
 
-  pub searched_more : (at : ℕ) (old new : List Point) (d : Point) → IsSearched at old → at < length old → Adds old (Follows (routine p f).code t (slice_index_or old at d)) new → IsSearched (at + 1) new
-  searched_more at old new d h less a = record {
-    found = λ y c. elim (a.only y c) [ inl o ↦ h.found y o | inr g ↦ comes_on p f t typed (slice_index_or old at d) (h.found (slice_index_or old at d) (Contains-get_or old at d less)) y g ];
+  pub comes_here : (at : ℕ) (points : List Point) (x : Point) → IsSearched p f t at points → at < length points → x ≡ slice_index_or points at x → Comes p f (node_at t x)
+  comes_here at points x h less read = subst (λ (y : Point). Comes p f (node_at t y)) (sym read) (h.found (slice_index_or points at x) (Contains-get_or points at x less))
+
+  pub searched_more : (at : ℕ) (old new : List Point) (x : Point) → IsSearched p f t at old → at < length old → x ≡ slice_index_or old at x → Adds old (Follows (routine p f).code t x) new → IsSearched p f t (at + 1) new
+  searched_more at old new x h less read a = record {
+    found = λ y c. elim (a.only y c) [ inl o ↦ h.found y o | inr g ↦ comes_on p f t typed x (comes_here at old x h less read) y g ];
     begins = still old new (first_point p f) a.grows h.begins;
     closed = λ k lk e y g. by k e y (split k at lk) g;
   }
@@ -94,13 +97,13 @@ module _ (p : Program) (f : ℕ) (t : Typing) (typed : IsTyped p f t) where
       older k e lk = ap (λ (xs : List Point). slice_index_or xs k e) a.grows.same ∙ get_or-append old a.grows.more e k lk
 
       by : (k : ℕ) (e y : Point) → (k < at) ⊎ (k ≡ at) → Follows (routine p f).code t (slice_index_or new k e) y → Contains new y
-      by k e y (inl l) g = still old new y a.grows (h.closed k l e y (subst (λ (x : Point). Follows (routine p f).code t x y) (older k e (omega arith)) g))
+      by k e y (inl l) g = still old new y a.grows (h.closed k l e y (subst (λ (z : Point). Follows (routine p f).code t z y) (older k e (omega arith)) g))
       by k e y (inr l) g =
-          let same : slice_index_or new k e ≡ slice_index_or old at d = ap (λ (j : ℕ). slice_index_or new j e) l ∙ older at e less ∙ get_or_default old at e d less in
-          a.there y (subst (λ (x : Point). Follows (routine p f).code t x y) same g)
+          let same : slice_index_or new k e ≡ x = ap (λ (j : ℕ). slice_index_or new j e) l ∙ older at e less ∙ get_or_default old at e x less ∙ sym read in
+          a.there y (subst (λ (z : Point). Follows (routine p f).code t z y) same g)
 
   -- if the points after each point are there, all points are
-  pub all_found : (at : ℕ) (points : List Point) → IsSearched at points → length points ≤ at → AreAll p f t points
+  pub all_found : (at : ℕ) (points : List Point) → IsSearched p f t at points → length points ≤ at → AreAll p f t points
   all_found at points h long = record { found = h.found; all = all }
     where
       all : (n : Node) → Comes p f n → (x : Point) × (Contains points x × (node_at t x ≡ n))

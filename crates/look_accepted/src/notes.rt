@@ -77,7 +77,7 @@ fn add_notes(
     let count = code_of(program, function as usize).len();
     let typing = typing_of(alloc, program, function)?;
     let points = search(alloc, program, function, &typing)?;
-    let rules = all_rules(alloc, program, function, &typing, points.as_slice())?;
+    let rules = all_rules(alloc, program, function, &typing, points.found.as_slice())?;
     for place in 0..count {
         if let Some(reliance) = rules[place] {
             notes.push(Note {

@@ -80,11 +80,7 @@ pub fn may_rely(instr: Instr) -> bool
 {
     matches!(
         instr,
-        Instr::Join { .. }
-            | Instr::Fork { .. }
-            | Instr::Total(_)
-            | Instr::Get(_)
-            | Instr::Except(_)
+        Instr::Join { .. } | Instr::Fork { .. } | Instr::Total(_) | Instr::Get(_) | Instr::Except(_)
     )
 }
 

@@ -1,15 +1,12 @@
 //! All points that the control paths of a function reach.
 
-ghost use Rattle.std.specs.Prelude.{◌≡◌, ℕ, ◌<◌, ◌≤◌, length, true, [], IfOk, OnOk, Some};
-ghost use Rattle.std.specs.List.{Contains};
-ghost use Rattle.sts_code.specs.Program.{instr_at};
-ghost use Rattle.sts_rules.specs.ControlPaths.{Among};
+ghost use Rattle.std.specs.Prelude.{◌≡◌, ◌<◌, length, true, [], IfOk, OnOk, Some};
+ghost use Rattle.std.specs.List.{All, Contains};
 ghost use Rattle.look_accepted.specs.Found as def;
-ghost use Rattle.look_accepted.specs.Points.{IsAlong, IsInside, Follows};
+ghost use Rattle.look_accepted.specs.Points.{IsAlong, IsInside, FollowsBy};
 
 use crate::point::{Point, along, by_loop, first};
 use std::alloc::{AllocError, Global};
-use std::marker::Model;
 use sts_budget::next_places;
 use sts_code::{Instr, MAX_INSTRUCTIONS, Program, code_of};
 use sts_rules::filled;
@@ -17,35 +14,35 @@ use sts_types::Typing;
 
 /// The points that were found, in order, also as lists of their numbers by place. `last` has the
 /// point that was found last at each place, and `earlier` has, for each point, the one before it at
-/// its place. A place has few points. Contracts see the points.
+/// its place. A place has few points.
 #[derive(Drop)]
 pub struct Points {
-    found: Vec<Point>,
+    pub found: Vec<Point>,
     last: Vec<Option<usize>>,
     earlier: Vec<Option<usize>>,
 }
 
-impl Model for Points {
-    ghost use Rattle.std.specs.Prelude.{List};
-    ghost use Rattle.look_accepted.specs.declared.point.Point.{Point};
-
-    ghost Value = { List Point };
-
-    ghost view = { λ s. s.found.items };
-}
-
 /// The number that is linked to this one.
-fn linked(links: &Vec<Option<usize>>, number: usize) -> Option<usize> {
-    match links.get(number) {
+fn linked(links: &Vec<Option<usize>>, at: usize) -> Option<usize> {
+    match links.get(at) {
         Some(link) => *link,
         None => None,
     }
 }
 
+/// Links a number to this one, and returns the one that was linked to it before.
+fn relink(links: &mut Vec<Option<usize>>, at: usize, number: usize) -> Option<usize> {
+    let before = linked(links, at);
+    if at < links.len() {
+        links[at] = Some(number);
+    }
+    before
+}
+
 impl Points {
     /// No points yet, at this number of places.
     fn new(alloc: Global, count: usize) -> Result<Points, AllocError>
-        ensures { IfOk result (λ points. points ≡ []) }
+        ensures { IfOk result (λ points. points.found.items ≡ []) }
     {
         Ok(Points {
             found: Vec::new(alloc),
@@ -54,16 +51,9 @@ impl Points {
         })
     }
 
-    /// The points, in the order in which they were found.
-    pub fn as_slice(&self) -> &[Point]
-        ensures { result.now ≡ self.now }
-    {
-        self.found.as_slice()
-    }
-
     /// Was the point found?
     fn has(&self, point: Point) -> bool
-        ensures { result ≡ true → Contains self.now point }
+        ensures { result ≡ true → Contains self.now.found.items point }
     {
         let mut at = linked(&self.last, point.pc);
         let mut younger = self.found.len();
@@ -82,22 +72,22 @@ impl Points {
 
     /// Adds a point, unless it is there.
     fn add(&mut self, point: Point) -> Result<(), AllocError>
-        ensures { OnOk result (def.Adds self.old (λ y. point ≡ y) self.new) }
+        ensures { OnOk result (def.Adds self.old.found.items (λ y. point ≡ y)
+            self.new.found.items) }
     {
         if self.has(point) {
             return Ok(());
         }
-        let before = linked(&self.last, point.pc);
+        let before = relink(&mut self.last, point.pc, self.found.len());
         self.earlier.push(before)?;
-        if point.pc < self.last.len() {
-            self.last[point.pc] = Some(self.found.len());
-        }
-        self.found.push(point)
+        self.found.push(point)?;
+        Ok(())
     }
 
     /// Adds a point, if there is one.
     fn add_some(&mut self, point: Option<Point>) -> Result<(), AllocError>
-        ensures { OnOk result (def.Adds self.old (λ y. point ≡ Some y) self.new) }
+        ensures { OnOk result (def.Adds self.old.found.items (λ y. point ≡ Some y)
+            self.new.found.items) }
     {
         match point {
             Some(point) => self.add(point),
@@ -114,9 +104,9 @@ impl Points {
         places: &[u32],
     ) -> Result<(), AllocError>
         requires here { point.pc < length typing.now.states }
-        requires next { (to : ℕ) → Among places.now to → to < length typing.now.states }
-        ensures { OnOk result (def.Adds self.old (IsAlong typing.now instr point places.now)
-            self.new) }
+        requires next { All (λ to. to < length typing.now.states) places.now }
+        ensures { OnOk result (def.Adds self.old.found.items
+            (IsAlong typing.now instr point places.now) self.new.found.items) }
     {
         for to in places {
             self.add(along(typing, instr, point, *to as usize))?;
@@ -124,14 +114,13 @@ impl Points {
         Ok(())
     }
 
-    /// Adds the points that follow this one.
-    fn add_next(&mut self, code: &[Instr], typing: &Typing, point: Point) -> Result<(), AllocError>
-        requires short { length code.now ≤ MAX_INSTRUCTIONS }
-        requires code { point.pc < length code.now }
-        requires inside { IsInside typing.now (instr_at code.now point.pc) point }
-        ensures { OnOk result (def.Adds self.old (Follows code.now typing.now point) self.new) }
+    /// Adds the points that follow the one at this instruction.
+    fn add_next(&mut self, typing: &Typing, instr: Instr, point: Point) -> Result<(), AllocError>
+        requires short { point.pc < MAX_INSTRUCTIONS }
+        requires inside { IsInside typing.now instr point }
+        ensures { OnOk result (def.Adds self.old.found.items (FollowsBy typing.now instr point)
+            self.new.found.items) }
     {
-        let instr = code[point.pc];
         let places = next_places(instr, point.pc as u32);
         self.add_along(typing, instr, point, places.as_slice())?;
         self.add_some(by_loop(typing, instr, point))
@@ -150,7 +139,8 @@ pub fn search(
     typing: &Typing,
 ) -> Result<Points, AllocError>
     requires { def.IsTyped program.now function typing.now }
-    ensures { IfOk result (λ points. def.AreAll program.now function typing.now points) }
+    ensures { IfOk result (λ points. def.AreAll program.now function typing.now
+        points.found.items) }
 {
     let code = code_of(program, function as usize);
     let mut points = Points::new(alloc, code.len())?;
@@ -160,7 +150,7 @@ pub fn search(
             break;
         }
         let point = points.found[at];
-        points.add_next(code, typing, point)?;
+        points.add_next(typing, code[point.pc], point)?;
     }
     Ok(points)
 }

@@ -9,6 +9,7 @@ use Rattle.sts_rules.specs.ControlPaths.{Among}
 use Rattle.sts_rules.specs.Edges.{follows, moved}
 use Rattle.sts_rules.specs.Flow.{Leads}
 use Rattle.sts_rules.specs.TypeState.{TypeState}
+pub use Rattle.sts_budget.proofs.Sorts.{among_of, among_at}
 use Rattle.sts_budget.proofs.Sorts.{Sort, is_times, is_next, is_end, goes_on, sort}
 
 leads_among : (s : TypeState) (xs : List ℕ) (to : ℕ) (x : TypeState) → Leads (map (λ q. (q, s)) xs) to x → Among xs to

@@ -5,6 +5,9 @@ use Rattle.look_accepted.proofs.Noting.{rule_at, nothing_noted, plain_more, note
 use Rattle.look_accepted.proofs.notes.add_notes.Goals.{in-Some+in_ok-push, in_default}
 use Rattle.look_accepted.proofs.notes.add_notes.Goals as goal
 
+pub typing_of-requires-clause-typed : goal.typing_of-requires-clause-typed
+typing_of-requires-clause-typed c = (c.requires.accepted.sound c.args.function c.requires.in_program).typed
+
 pub loop-place-init : goal.loop-place-init
 loop-place-init c = nothing_noted c.args.program.now c.args.function c.args.notes.now.items
 

@@ -4,7 +4,7 @@ use Rattle.sts_output.specs.Output.{Output}
 use Rattle.look_accepted.specs.Lines.{note_lines}
 use Rattle.look_accepted.specs.declared.notes.Note.{Note}
 use Rattle.look_refusal.specs.Output.{accepted}
-use Rattle.look_refusal.proofs.explaining.Told.accepted.Goals as goal
+use Rattle.look_refusal.proofs.explaining.accepted.Goals as goal
 
 pub returns : goal.returns
 returns c =
