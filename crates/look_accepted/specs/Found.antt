@@ -1,13 +1,12 @@
--- A search that finds all points of a function (this project's own).
-use Rattle.std.specs.Prelude.{◌≡◌, ◌<◌, ◌⊎◌, ℕ, List, ◌++◌, length, None}
+-- A search that finds all points of a function, and the rules that they rely on (this project's own).
+use Rattle.std.specs.Prelude.{◌≡◌, ◌<◌, ◌⊎◌, ℕ, List, ◌++◌, length, Option, Some, None, slice_set}
 use Rattle.std.specs.List.{Contains}
 use Rattle.sts_code.specs.Checks.{program_fault}
 use Rattle.sts_code.specs.Program.{Program}
 use Rattle.sts_rules.specs.Refusal.{IsAccepted}
 use Rattle.sts_types.specs.Typing.{Typing, IsTyping}
 use Rattle.look_accepted.specs.declared.point.Point.{Point}
-use Rattle.look_accepted.specs.Nodes.{Node, Comes}
-use Rattle.look_accepted.specs.Points.{node_at}
+use Rattle.look_accepted.specs.declared.reliance.Reliance.{Reliance}
 
 -- a function of an accepted program, with its typing
 pub record IsTyped (p : Program) (f : ℕ) (t : Typing) : Type 0 where
@@ -15,10 +14,6 @@ pub record IsTyped (p : Program) (f : ℕ) (t : Typing) : Type 0 where
   pub accepted : IsAccepted p
   pub in_program : f < length p.routines
   pub typing : IsTyping p f t
-
--- a control path reaches each of these points
-abbrev pub AreFound : Program → ℕ → Typing → List Point → Type 0
-AreFound p f t points = (x : Point) → Contains points x → Comes p f (node_at t x)
 
 -- the older ones are the first ones
 pub record Grows (old new : List Point) : Type 0 where
@@ -31,7 +26,7 @@ pub record Adds (old : List Point) (IsNew : Point → Type 0) (new : List Point)
   pub there : (x : Point) → IsNew x → Contains new x
   pub only : (x : Point) → Contains new x → Contains old x ⊎ IsNew x
 
--- these are the points of the nodes that control paths reach, and no others
-pub record AreAll (p : Program) (f : ℕ) (t : Typing) (points : List Point) : Type 0 where
-  pub found : AreFound p f t points
-  pub all : (n : Node) → Comes p f n → (x : Point) × (Contains points x × (node_at t x ≡ n))
+-- the rules by place, after this one was noted for a place, if it is one
+abbrev pub noted : List (Option Reliance) → ℕ → Option Reliance → List (Option Reliance)
+noted rules pc None = rules
+noted rules pc (Some r) = slice_set rules pc (Some r)

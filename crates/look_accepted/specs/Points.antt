@@ -3,9 +3,10 @@
 use Rattle.std.specs.Prelude.{◌≡◌, ℕ, ◌+◌, ◌<◌, ◌⊎◌, List, ◌++◌, length, Option, Some, None}
 use Rattle.std.specs.Prelude.{option_map, slice_index_or}
 use Rattle.sts_code.specs.Facts.{targets}
-use Rattle.sts_code.specs.Program.{Program, instr_at}
+use Rattle.sts_code.specs.Program.{Program}
 use Rattle.sts_code.specs.declared.instr.Instr.{Instr}
 use Rattle.sts_code.specs.declared.instr.Instr.TheVariants.{Times, Next}
+use Rattle.sts_code.specs.declared.limits.TheConstants.{MAX_INSTRUCTIONS}
 use Rattle.sts_rules.specs.Around.{next_place}
 use Rattle.sts_rules.specs.ControlPaths.{Among}
 use Rattle.sts_rules.specs.TypeState.{TypeState}
@@ -43,18 +44,15 @@ loop_point t x Next =
     option_map (λ (at : ℕ). record x { pc = at + 1 }) (slice_index_or t.loops.heads x.pc None)
 loop_point t x _ = None
 
--- y follows x, where x is at this instruction
-abbrev pub FollowsBy : Typing → Instr → Point → Point → Type 0
-FollowsBy t i x y =
+-- y follows x, which is at this instruction
+abbrev pub Follows : Typing → Instr → Point → Point → Type 0
+Follows t i x y =
     IsAlong t i x (targets i ++ next_place x.pc i) y ⊎ (loop_point t x i ≡ Some y)
 
--- y follows x in this code
-abbrev pub Follows : List Instr → Typing → Point → Point → Type 0
-Follows code t x y = FollowsBy t (instr_at code x.pc) x y
-
--- the point at this instruction is inside the function, and so is each that follows it
+-- the point, which is at this instruction, is inside the function, and so is each that follows it
 pub record IsInside (t : Typing) (i : Instr) (x : Point) : Type 0 where
+  pub short : x.pc < MAX_INSTRUCTIONS
   pub here : x.pc < length t.states
   pub ends : x.pc < length t.loops.ends
   pub heads : x.pc < length t.loops.heads
-  pub next : (y : Point) → FollowsBy t i x y → y.pc < length t.states
+  pub next : (y : Point) → Follows t i x y → y.pc < length t.states

@@ -1,14 +1,18 @@
-//! All points that the control paths of a function reach.
+//! All points that the control paths of a function reach, and the rules that they rely on.
 
 ghost use Rattle.std.specs.Prelude.{◌≡◌, ◌<◌, length, true, [], IfOk, OnOk, Some};
 ghost use Rattle.std.specs.List.{All, Contains};
+ghost use Rattle.sts_code.specs.Program.{instr_at};
 ghost use Rattle.look_accepted.specs.Found as def;
-ghost use Rattle.look_accepted.specs.Points.{IsAlong, IsInside, FollowsBy};
+ghost use Rattle.look_accepted.specs.Notes.{AreRules};
+ghost use Rattle.look_accepted.specs.Points.{state_at, IsAlong, IsInside, Follows};
+ghost use Rattle.look_accepted.specs.Relying as relying;
 
 use crate::point::{Point, along, by_loop, first};
+use crate::reliance::{Reliance, may_rely, relied_on};
 use std::alloc::{AllocError, Global};
 use sts_budget::next_places;
-use sts_code::{Instr, MAX_INSTRUCTIONS, Program, code_of};
+use sts_code::{Instr, Program, code_of};
 use sts_rules::filled;
 use sts_types::Typing;
 
@@ -16,8 +20,8 @@ use sts_types::Typing;
 /// point that was found last at each place, and `earlier` has, for each point, the one before it at
 /// its place. A place has few points.
 #[derive(Drop)]
-pub struct Points {
-    pub found: Vec<Point>,
+struct Points {
+    found: Vec<Point>,
     last: Vec<Option<usize>>,
     earlier: Vec<Option<usize>>,
 }
@@ -116,9 +120,8 @@ impl Points {
 
     /// Adds the points that follow the one at this instruction.
     fn add_next(&mut self, typing: &Typing, instr: Instr, point: Point) -> Result<(), AllocError>
-        requires short { point.pc < MAX_INSTRUCTIONS }
-        requires inside { IsInside typing.now instr point }
-        ensures { OnOk result (def.Adds self.old.found.items (FollowsBy typing.now instr point)
+        requires { IsInside typing.now instr point }
+        ensures { OnOk result (def.Adds self.old.found.items (Follows typing.now instr point)
             self.new.found.items) }
     {
         let places = next_places(instr, point.pc as u32);
@@ -127,22 +130,51 @@ impl Points {
     }
 }
 
-/// All points that the control paths of a function reach.
+/// The rule that the instruction of a point relies on.
+fn rule_at(typing: &Typing, instr: Instr, point: Point) -> Option<Reliance>
+    requires { point.pc < length typing.now.states }
+    ensures { result ≡ relying.relied_on instr (state_at typing.now point.pc) point.mark }
+{
+    if may_rely(instr) {
+        relied_on(instr, &typing.state(point.pc), point.mark)
+    } else {
+        None
+    }
+}
+
+/// Notes a rule for a place, if it is one.
+fn note(rules: &mut Vec<Option<Reliance>>, pc: usize, rule: Option<Reliance>)
+    requires { pc < length rules.old.items }
+    ensures { rules.new.items ≡ def.noted rules.old.items pc rule }
+{
+    if rule.is_some() {
+        rules[pc] = rule;
+    }
+}
+
+fn instr_here(code: &[Instr], pc: usize) -> Instr
+    requires { pc < length code.now }
+    ensures { result ≡ instr_at code.now pc }
+{
+    code[pc]
+}
+
+/// The rule that the instruction at each place relies on, in some point that a control path reaches.
 ///
 /// # Errors
 ///
 /// Memory ran out.
-pub fn search(
+pub fn all_rules(
     alloc: Global,
     program: &Program,
     function: u32,
     typing: &Typing,
-) -> Result<Points, AllocError>
+) -> Result<Vec<Option<Reliance>>, AllocError>
     requires { def.IsTyped program.now function typing.now }
-    ensures { IfOk result (λ points. def.AreAll program.now function typing.now
-        points.found.items) }
+    ensures { IfOk result (λ rules. AreRules program.now function rules.items) }
 {
     let code = code_of(program, function as usize);
+    let mut rules = filled(alloc, code.len(), None)?;
     let mut points = Points::new(alloc, code.len())?;
     points.add(first(program, function))?;
     for at in 0..usize::MAX {
@@ -150,7 +182,9 @@ pub fn search(
             break;
         }
         let point = points.found[at];
-        points.add_next(typing, code[point.pc], point)?;
+        let instr = instr_here(code, point.pc);
+        note(&mut rules, point.pc, rule_at(typing, instr, point));
+        points.add_next(typing, instr, point)?;
     }
-    Ok(points)
+    Ok(rules)
 }
