@@ -1,13 +1,14 @@
 -- What follows a node is what follows its point, with the typestates of the typing.
-use Rattle.std.proofs.Common.{◌≡◌, ℕ, ◌+◌, ◌<◌, ◌≤◌, ◌⊎◌, inl, inr, List, length, Option, Some, None, Ok, option_map, option_to_list, slice_get, refl, sym, ap, ◌∙◌, subst, arith}
+use Rattle.std.proofs.Common.{◌≡◌, ℕ, ◌+◌, ◌<◌, ◌≤◌, ◌⊎◌, inl, inr, List, ◌++◌, length, get_or, Option, Some, None, Ok, option_map, option_to_list, slice_get, refl, sym, ap, ◌∙◌, subst, arith}
 use Rattle.std.specs.Prelude.{slice_index_or}
 use Rattle.std.proofs.lemmas.Option.{slice_get-map}
+use Rattle.sts_code.specs.Facts.{targets}
 use Rattle.sts_code.specs.Loops.{match_of, is_times}
 use Rattle.sts_code.specs.Program.{Program, routine, instr_at}
 use Rattle.sts_code.specs.declared.instr.Instr.{Instr}
 use Rattle.sts_code.specs.declared.instr.Instr.TheVariants.{Times, Next}
 use Rattle.sts_code.specs.declared.limits.TheConstants.{MAX_INSTRUCTIONS}
-use Rattle.sts_rules.specs.Around.{skipped_to}
+use Rattle.sts_rules.specs.Around.{next_place, skipped_to}
 use Rattle.sts_rules.specs.ControlPaths.{Among}
 use Rattle.sts_rules.specs.Edges.{edges, follows, typing, back_of}
 use Rattle.sts_rules.specs.Flow.{Leads, Reaches, first as reach_first, then}
@@ -18,11 +19,10 @@ use Rattle.sts_rules.specs.declared.typing.TypedLoop.{TypedLoop}
 use Rattle.sts_types.specs.Typing.{Typing}
 use Rattle.sts_types.proofs.FlowLemmas.{edges_reached, turn_reached}
 use Rattle.sts_types.proofs.PromisingLemmas.{promises}
-use Rattle.sts_budget.proofs.LeadLemmas.{place_of, edge_to, edge_past}
+use Rattle.sts_budget.proofs.LeadLemmas.{among_at, place_of, edge_to, edge_past}
 use Rattle.look_accepted.specs.declared.point.Point.{Point}
 use Rattle.look_accepted.specs.Nodes.{Node, Comes, first, along, turn, first_node, start_mark, node_along}
-use Rattle.look_accepted.specs.Points.{state_at, node_at, first_point, along as point_along, IsAlong, loop_point, Follows, IsInside}
-use Rattle.look_accepted.specs.Found.{IsTyped}
+use Rattle.look_accepted.specs.Points.{state_at, node_at, first_point, along as point_along, IsAlong, loop_point, Follows, IsInside, IsTyped}
 
 module _ {p : Program} {f : ℕ} {t : Typing} (h : IsTyped p f t) where
   abbrev code : List Instr
@@ -140,6 +140,9 @@ module _ {p : Program} {f : ℕ} {t : Typing} (h : IsTyped p f t) where
         let is = state_is q s (turns x.pc s q r back) in
         (record x { pc = q }, (inr (round (at x.pc) q back), ap (λ (z : TypeState). record { pc = q; state = z; mark = x.mark }) (sym is)))
 
+    next_within : (y : Point) → Follows t (at x.pc) x y → y.pc < length t.states
+    next_within y next = omega (arith, (promised y.pc (state_at t y.pc) (reaches (node_at t y) (comes_on y next))).within, h.typing.long)
+
     -- the point and those that follow it are inside the function
     pub inside : length (routine p f).code ≤ MAX_INSTRUCTIONS → IsInside t (at x.pc) x
     inside short = record {
@@ -147,5 +150,8 @@ module _ {p : Program} {f : ℕ} {t : Typing} (h : IsTyped p f t) where
       here = omega (arith, within, h.typing.long);
       ends = omega (arith, within, h.typing.loops.ends_long);
       heads = omega (arith, within, h.typing.loops.heads_long);
-      next = λ y next. (let w = (promised y.pc (state_at t y.pc) (reaches (node_at t y) (comes_on y next))).within in omega (arith, w, h.typing.long));
+      places = λ k d less. (let to = get_or (targets (at x.pc) ++ next_place x.pc (at x.pc)) k d in
+          next_within (point_along t (at x.pc) x to) (inl (to, (among_at (targets (at x.pc) ++ next_place x.pc (at x.pc)) k d less, refl))));
+      past = λ n end is e. next_within (point_along t (at x.pc) x (end + 1)) (inr (subst (λ (i : Instr). loop_point t x i ≡ Some (point_along t i x (end + 1))) (sym is)
+          (ap (option_map (λ (k : ℕ). point_along t (Times n) x (k + 1))) (sym e))));
     }

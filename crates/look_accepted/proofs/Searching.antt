@@ -19,9 +19,8 @@ use Rattle.look_accepted.specs.declared.point.Point.{Point}
 use Rattle.look_accepted.specs.declared.reliance.Reliance.{Reliance}
 use Rattle.look_accepted.specs.Nodes.{Node, Comes, first, along, turn, node_along}
 use Rattle.look_accepted.specs.Notes.{AreRules, IsPlain}
-use Rattle.look_accepted.specs.Points.{node_at, first_point, along as point_along, IsAlong, Follows}
+use Rattle.look_accepted.specs.Points.{node_at, first_point, along as point_along, IsAlong, Follows, IsTyped, Grows, Adds, noted}
 use Rattle.look_accepted.specs.Relying.{Relies, relies, relied_on, relied_on_at}
-use Rattle.look_accepted.specs.Found.{IsTyped, Grows, Adds, noted}
 use Rattle.look_accepted.proofs.Following.{first_is, within, comes_on, along_edge, by_turn}
 
 -- ---- points that were added
@@ -40,8 +39,8 @@ adds_one old new x is = record {
 }
 
 -- one kind after another
-pub adds_both : (a b c : List Point) (P Q R : Point → Type 0) → Adds a P b → Adds b Q c → ((x : Point) → R x → P x ⊎ Q x) → ((x : Point) → P x ⊎ Q x → R x) → Adds a R c
-adds_both a b c P Q R g h from into = record {
+pub adds_both : {a b c : List Point} {P Q R : Point → Type 0} → Adds a P b → Adds b Q c → ((x : Point) → R x → P x ⊎ Q x) → ((x : Point) → P x ⊎ Q x → R x) → Adds a R c
+adds_both {a} {b} {c} g h from into = record {
   grows = record { more = g.grows.more ++ h.grows.more; same = h.grows.same ∙ ap (λ (xs : List Point). xs ++ h.grows.more) g.grows.same ∙ append_assoc a g.grows.more h.grows.more };
   there = λ x is. elim (from x is) [ inl p ↦ still b c x h.grows (g.there x p) | inr q ↦ h.there x q ];
   only = λ x has. elim (h.only x has) [
@@ -50,16 +49,9 @@ adds_both a b c P Q R g h from into = record {
   ];
 }
 
-pub adds_same : (a b : List Point) (P Q : Point → Type 0) → Adds a P b → ((x : Point) → Q x → P x) → ((x : Point) → P x → Q x) → Adds a Q b
-adds_same a b P Q g from into = record {
-  grows = g.grows;
-  there = λ x is. g.there x (from x is);
-  only = λ x has. elim (g.only x has) [ inl old ↦ inl old | inr p ↦ inr (into x p) ];
-}
-
 -- one place more
-pub adds_along : (t : Typing) (i : Instr) (x : Point) (before : List ℕ) (to : ℕ) (a b c : List Point) → Adds a (IsAlong t i x before) b → Adds b (λ y. point_along t i x to ≡ y) c → Adds a (IsAlong t i x (before ++ to ∷ [])) c
-adds_along t i x before to a b c g h = adds_both a b c (IsAlong t i x before) (λ y. point_along t i x to ≡ y) (IsAlong t i x (before ++ to ∷ [])) g h from into
+pub adds_along : (t : Typing) (i : Instr) (x : Point) (before : List ℕ) (to : ℕ) {a b c : List Point} → Adds a (IsAlong t i x before) b → Adds b (λ y. point_along t i x to ≡ y) c → Adds a (IsAlong t i x (before ++ to ∷ [])) c
+adds_along t i x before to g h = adds_both g h from into
   where
     from : (y : Point) → IsAlong t i x (before ++ to ∷ []) y → IsAlong t i x before y ⊎ (point_along t i x to ≡ y)
     from y k = elim (among_of before (to ∷ []) k.0 k.1.0) [

@@ -1,4 +1,3 @@
-pub mod Found
 pub mod Lines
 pub mod Nodes
 pub mod Notes

@@ -1,7 +1,9 @@
--- The points of a function: its nodes without the typestates, since its typing has one at each place
--- (this project's own).
+-- The points of a function: its nodes without the typestates, since its typing has one at each place.
+-- A search finds them all, and the rules that they rely on (this project's own).
 use Rattle.std.specs.Prelude.{◌≡◌, ℕ, ◌+◌, ◌<◌, ◌⊎◌, List, ◌++◌, length, Option, Some, None}
-use Rattle.std.specs.Prelude.{option_map, slice_index_or}
+use Rattle.std.specs.Prelude.{option_map, slice_index_or, slice_set}
+use Rattle.std.specs.List.{All, Contains}
+use Rattle.sts_code.specs.Checks.{program_fault}
 use Rattle.sts_code.specs.Facts.{targets}
 use Rattle.sts_code.specs.Program.{Program}
 use Rattle.sts_code.specs.declared.instr.Instr.{Instr}
@@ -9,10 +11,12 @@ use Rattle.sts_code.specs.declared.instr.Instr.TheVariants.{Times, Next}
 use Rattle.sts_code.specs.declared.limits.TheConstants.{MAX_INSTRUCTIONS}
 use Rattle.sts_rules.specs.Around.{next_place}
 use Rattle.sts_rules.specs.ControlPaths.{Among}
+use Rattle.sts_rules.specs.Refusal.{IsAccepted}
 use Rattle.sts_rules.specs.TypeState.{TypeState}
 use Rattle.sts_types.specs.Arrivals.{none}
-use Rattle.sts_types.specs.Typing.{Typing}
+use Rattle.sts_types.specs.Typing.{Typing, IsTyping}
 use Rattle.look_accepted.specs.declared.point.Point.{Point}
+use Rattle.look_accepted.specs.declared.reliance.Reliance.{Reliance}
 use Rattle.look_accepted.specs.Nodes.{Node, start_mark, next_mark}
 
 -- the typestate at a place
@@ -49,10 +53,37 @@ abbrev pub Follows : Typing → Instr → Point → Point → Type 0
 Follows t i x y =
     IsAlong t i x (targets i ++ next_place x.pc i) y ⊎ (loop_point t x i ≡ Some y)
 
--- the point, which is at this instruction, is inside the function, and so is each that follows it
+-- the point, which is at this instruction, is inside the function, and so are those that follow it
 pub record IsInside (t : Typing) (i : Instr) (x : Point) : Type 0 where
   pub short : x.pc < MAX_INSTRUCTIONS
   pub here : x.pc < length t.states
   pub ends : x.pc < length t.loops.ends
   pub heads : x.pc < length t.loops.heads
-  pub next : (y : Point) → Follows t i x y → y.pc < length t.states
+  pub places : All (λ to. to < length t.states) (targets i ++ next_place x.pc i)
+  pub past : (n end : ℕ) → i ≡ Times n → Some end ≡ slice_index_or t.loops.ends x.pc None
+      → end + 1 < length t.states
+
+-- ---- a search
+
+-- a function of an accepted program, with its typing
+pub record IsTyped (p : Program) (f : ℕ) (t : Typing) : Type 0 where
+  pub checked : program_fault p.routines ≡ None
+  pub accepted : IsAccepted p
+  pub in_program : f < length p.routines
+  pub typing : IsTyping p f t
+
+-- the older ones are the first ones
+pub record Grows (old new : List Point) : Type 0 where
+  pub more : List Point
+  pub same : new ≡ old ++ more
+
+-- all points of this kind are there, and nothing else is new
+pub record Adds (old : List Point) (IsNew : Point → Type 0) (new : List Point) : Type 0 where
+  pub grows : Grows old new
+  pub there : (x : Point) → IsNew x → Contains new x
+  pub only : (x : Point) → Contains new x → Contains old x ⊎ IsNew x
+
+-- the rules by place, after this one was noted for a place, if it is one
+abbrev pub noted : List (Option Reliance) → ℕ → Option Reliance → List (Option Reliance)
+noted rules pc None = rules
+noted rules pc (Some r) = slice_set rules pc (Some r)

@@ -3,13 +3,11 @@
 ghost use Rattle.std.specs.Prelude.{◌≡◌, ◌<◌, length, true, [], IfOk, OnOk, Some};
 ghost use Rattle.std.specs.List.{All, Contains};
 ghost use Rattle.sts_code.specs.Program.{instr_at};
-ghost use Rattle.look_accepted.specs.Found as def;
 ghost use Rattle.look_accepted.specs.Notes.{AreRules};
-ghost use Rattle.look_accepted.specs.Points.{state_at, IsAlong, IsInside, Follows};
-ghost use Rattle.look_accepted.specs.Relying as relying;
+ghost use Rattle.look_accepted.specs.Points as def;
 
 use crate::point::{Point, along, by_loop, first};
-use crate::reliance::{Reliance, may_rely, relied_on};
+use crate::reliance::{Reliance, relied_on};
 use std::alloc::{AllocError, Global};
 use sts_budget::next_places;
 use sts_code::{Instr, Program, code_of};
@@ -88,17 +86,6 @@ impl Points {
         Ok(())
     }
 
-    /// Adds a point, if there is one.
-    fn add_some(&mut self, point: Option<Point>) -> Result<(), AllocError>
-        ensures { OnOk result (def.Adds self.old.found.items (λ y. point ≡ Some y)
-            self.new.found.items) }
-    {
-        match point {
-            Some(point) => self.add(point),
-            None => Ok(()),
-        }
-    }
-
     /// Adds the points at the places that the instruction of a point leads to.
     fn add_along(
         &mut self,
@@ -110,7 +97,7 @@ impl Points {
         requires here { point.pc < length typing.now.states }
         requires next { All (λ to. to < length typing.now.states) places.now }
         ensures { OnOk result (def.Adds self.old.found.items
-            (IsAlong typing.now instr point places.now) self.new.found.items) }
+            (def.IsAlong typing.now instr point places.now) self.new.found.items) }
     {
         for to in places {
             self.add(along(typing, instr, point, *to as usize))?;
@@ -120,25 +107,16 @@ impl Points {
 
     /// Adds the points that follow the one at this instruction.
     fn add_next(&mut self, typing: &Typing, instr: Instr, point: Point) -> Result<(), AllocError>
-        requires { IsInside typing.now instr point }
-        ensures { OnOk result (def.Adds self.old.found.items (Follows typing.now instr point)
+        requires { def.IsInside typing.now instr point }
+        ensures { OnOk result (def.Adds self.old.found.items (def.Follows typing.now instr point)
             self.new.found.items) }
     {
         let places = next_places(instr, point.pc as u32);
         self.add_along(typing, instr, point, places.as_slice())?;
-        self.add_some(by_loop(typing, instr, point))
-    }
-}
-
-/// The rule that the instruction of a point relies on.
-fn rule_at(typing: &Typing, instr: Instr, point: Point) -> Option<Reliance>
-    requires { point.pc < length typing.now.states }
-    ensures { result ≡ relying.relied_on instr (state_at typing.now point.pc) point.mark }
-{
-    if may_rely(instr) {
-        relied_on(instr, &typing.state(point.pc), point.mark)
-    } else {
-        None
+        match by_loop(typing, instr, point) {
+            Some(point) => self.add(point),
+            None => Ok(()),
+        }
     }
 }
 
@@ -183,7 +161,7 @@ pub fn all_rules(
         }
         let point = points.found[at];
         let instr = instr_here(code, point.pc);
-        note(&mut rules, point.pc, rule_at(typing, instr, point));
+        note(&mut rules, point.pc, relied_on(typing, instr, point));
         points.add_next(typing, instr, point)?;
     }
     Ok(rules)

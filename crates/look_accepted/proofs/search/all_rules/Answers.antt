@@ -3,9 +3,8 @@ use Rattle.sts_code.specs.Program.{routine, instr_at}
 use Rattle.sts_code.specs.declared.instr.Instr.{Instr}
 use Rattle.sts_code.specs.declared.limits.TheConstants.{MAX_INSTRUCTIONS}
 use Rattle.sts_rules.specs.Refusal.{size}
-use Rattle.look_accepted.specs.Found.{Adds, noted}
 use Rattle.look_accepted.specs.Nodes.{Comes}
-use Rattle.look_accepted.specs.Points.{state_at, node_at, Follows, IsInside}
+use Rattle.look_accepted.specs.Points.{state_at, node_at, Follows, IsInside, Adds, noted}
 use Rattle.look_accepted.specs.Relying.{relied_on}
 use Rattle.look_accepted.proofs.Following.{within, inside}
 use Rattle.look_accepted.proofs.Searching.{searched_first, searched_more, comes_here, all_found}
@@ -27,8 +26,8 @@ here c = within c.requires c.index-point.result.now (comes c)
 pub instr_here-instr-requires : goal.instr_here-instr-requires
 instr_here-instr-requires c = omega (arith, here (goal.at.instr_here-instr-requires c).After-index-point, ap (length {A = Instr}) c.code_of-code.ensures.value)
 
-pub rule_at-requires : goal.rule_at-requires
-rule_at-requires c = omega (arith, here (goal.at.rule_at-requires c).After-index-point)
+pub relied_on-requires : goal.relied_on-requires
+relied_on-requires c = omega (arith, here (goal.at.relied_on-requires c).After-index-point)
 
 pub note-requires : goal.note-requires
 note-requires c = omega (arith, here (goal.at.note-requires c).After-index-point, c.loop-at.invariant.long)
@@ -52,7 +51,7 @@ loop-at-preserved c =
     let same = instr (goal.at.loop-at-preserved c).After-instr_here-instr in
     searched_more c.requires l.at l.points.found.items l.rules.items l.invariant x c.add_next.new.self.found.items c.note.new.rules.items
     (omega arith) c.index-point.ensures (subst (λ (i : Instr). Adds l.points.found.items (Follows t i x) c.add_next.new.self.found.items) same c.in_ok-add_next.ensures)
-    (c.note.ensures ∙ ap (noted l.rules.items x.pc) (c.rule_at.ensures ∙ ap (λ (i : Instr). relied_on i (state_at t x.pc) x.mark) same))
+    (c.note.ensures ∙ ap (noted l.rules.items x.pc) (c.relied_on.ensures ∙ ap (λ (i : Instr). relied_on i (state_at t x.pc) x.mark) same))
 
 pub returns : goal.returns
 returns c = all_found c.requires c.loop-at.at c.loop-at.points.found.items c.loop-at.rules.items c.loop-at.invariant (elim c.loop-at-test.branch [

@@ -1,6 +1,5 @@
 use Rattle.std.proofs.Common.{take}
-use Rattle.look_accepted.specs.Found.{Adds}
-use Rattle.look_accepted.specs.Points.{IsAlong}
+use Rattle.look_accepted.specs.Points.{IsAlong, Adds}
 use Rattle.look_accepted.proofs.search.Points.add_along.Given as goal
 
 -- the points at the places so far were added
