@@ -1,115 +1,190 @@
--- How a search grows, and that it finds all nodes.
-use Rattle.std.proofs.Common.{◌≡◌, ℕ, ◌+◌, ◌<◌, ◌≤◌, ◌⊎◌, List, [], ◌∷◌, ◌++◌, length, ap, sym, ◌∙◌, arith, inl, inr, subst, length-append, append_assoc}
-use Rattle.std.proofs.lemmas.List.{get_or_default}
-use Rattle.std.specs.Prelude.{slice_index_or}
+-- How a search grows, and that it finds all points and their rules.
+use Rattle.std.proofs.Common.{◌≡◌, ℕ, ◌+◌, ◌<◌, ◌≤◌, ◌⊎◌, inl, inr, zero, suc, true, List, [], ◌∷◌, ◌++◌, length, Option, Some, None, Ok, refl, ap, sym, ◌∙◌, subst, arith, append_assoc}
+use Rattle.std.proofs.Common.{get_or-set_same, get_or-set_other, length-set}
+use Rattle.std.specs.Prelude.{slice_index_or, slice_set, replicate, MatchOption, is_some}
 use Rattle.std.specs.List.{Contains}
 use Rattle.std.proofs.Math.ListN.{get_or-append}
-use Rattle.std.proofs.lemmas.List.Elements.{Contains-append_left, Contains-push}
-use Rattle.sts_code.specs.Program.{Program}
-use Rattle.look_accepted.specs.declared.node.Node.{Node}
-use Rattle.look_accepted.specs.Nodes.{Comes, first, then, first_node, followers}
-use Rattle.look_accepted.specs.Found.{AreFound, Grows, Adds, IsSpread, AreAll}
+use Rattle.std.proofs.lemmas.Bool.{cases_eq}
+use Rattle.std.proofs.lemmas.List.{append-nil, get_or_default, length-replicate}
+use Rattle.std.proofs.lemmas.List.Elements.{Contains-append_left, Contains-get_or, Contains-push, Contains-push_cases}
 use Rattle.laws_words.proofs.NumberLemmas.{split}
+use Rattle.sts_code.specs.Program.{Program, routine, instr_at}
+use Rattle.sts_code.specs.declared.instr.Instr.{Instr}
+use Rattle.sts_rules.specs.Edges.{edges, back_of}
+use Rattle.sts_rules.specs.Refusal.{size}
+use Rattle.sts_types.specs.Typing.{Typing}
+use Rattle.sts_types.proofs.AmongLemmas.{among_left, among_right}
+use Rattle.sts_budget.proofs.LeadLemmas.{among_of}
+use Rattle.look_accepted.specs.declared.point.Point.{Point}
+use Rattle.look_accepted.specs.declared.reliance.Reliance.{Reliance}
+use Rattle.look_accepted.specs.Nodes.{Node, Comes, first, along, turn, node_along}
+use Rattle.look_accepted.specs.Notes.{AreRules, IsPlain}
+use Rattle.look_accepted.specs.Points.{node_at, first_point, along as point_along, IsAlong, Follows, IsTyped, Grows, Adds, noted}
+use Rattle.look_accepted.specs.Relying.{Relies, relies, relied_on, relied_on_at}
+use Rattle.look_accepted.proofs.Following.{first_is, within, comes_on, along_edge, by_turn}
 
--- ---- lists that grow
+-- ---- points that were added
 
-pub grows_on : (a b c : List Node) → Grows a b → Grows b c → Grows a c
-grows_on a b c h i = record { more = h.more ++ i.more; same = i.same ∙ ap (λ xs. xs ++ i.more) h.same ∙ append_assoc a h.more i.more }
+still : (old new : List Point) (x : Point) → Grows old new → Contains old x → Contains new x
+still old new x g c = subst (λ (xs : List Point). Contains xs x) (sym g.same) (Contains-append_left old g.more x c)
 
-pub longer : (old new : List Node) → Grows old new → length old ≤ length new
-longer old new h = rw h.same (omega (arith, length-append old h.more))
+pub adds_none : (old : List Point) (P : Point → Type 0) → ((x : Point) → P x → Contains old x) → Adds old P old
+adds_none old P has = record { grows = record { more = []; same = sym (append-nil old) }; there = has; only = λ x c. inl c }
 
-pub still : (old new : List Node) (n : Node) → Grows old new → Contains old n → Contains new n
-still old new n h c = subst (λ xs. Contains xs n) (sym h.same) (Contains-append_left old h.more n c)
+pub adds_one : (old new : List Point) (x : Point) → new ≡ old ++ x ∷ [] → Adds old (λ y. x ≡ y) new
+adds_one old new x is = record {
+  grows = record { more = x ∷ []; same = is };
+  there = λ y same. subst (λ (xs : List Point). Contains xs y) (sym is) (subst (Contains (old ++ x ∷ [])) same (Contains-push old x));
+  only = λ y c. Contains-push_cases old x y (subst (λ (xs : List Point). Contains xs y) is c);
+}
 
-pub same_older : (old new : List Node) → Grows old new → (k : ℕ) → k < length old → (d : Node) → slice_index_or new k d ≡ slice_index_or old k d
-same_older old new h k less d = ap (λ xs. slice_index_or xs k d) h.same ∙ get_or-append old h.more d k less
+-- one kind after another
+pub adds_both : {a b c : List Point} {P Q R : Point → Type 0} → Adds a P b → Adds b Q c → ((x : Point) → R x → P x ⊎ Q x) → ((x : Point) → P x ⊎ Q x → R x) → Adds a R c
+adds_both {a} {b} {c} g h from into = record {
+  grows = record { more = g.grows.more ++ h.grows.more; same = h.grows.same ∙ ap (λ (xs : List Point). xs ++ h.grows.more) g.grows.same ∙ append_assoc a g.grows.more h.grows.more };
+  there = λ x is. elim (from x is) [ inl p ↦ still b c x h.grows (g.there x p) | inr q ↦ h.there x q ];
+  only = λ x has. elim (h.only x has) [
+    | inl old ↦ elim (g.only x old) [ inl older ↦ inl older | inr p ↦ inr (into x (inl p)) ]
+    | inr q ↦ inr (into x (inr q))
+  ];
+}
 
-single : (x m : Node) → Contains (x ∷ []) m → m ≡ x
-single x m c = let zero' : c.0 ≡ 0 = omega (arith, c.1) in sym c.2 ∙ ap (λ (k : ℕ). slice_index_or (x ∷ []) k m) zero'
-
--- ---- one node more
-
--- what comes is still all that was found
-pub found_more : (p : Program) (f : ℕ) (old new : List Node) (n : Node) → AreFound p f old → Adds old n new → Comes p f n → AreFound p f new
-found_more p f old new n h a comes m c = by (a.only m c)
+-- one place more
+pub adds_along : (t : Typing) (i : Instr) (x : Point) (before : List ℕ) (to : ℕ) {a b c : List Point} → Adds a (IsAlong t i x before) b → Adds b (λ y. point_along t i x to ≡ y) c → Adds a (IsAlong t i x (before ++ to ∷ [])) c
+adds_along t i x before to g h = adds_both g h from into
   where
-    by : Contains old m ⊎ (m ≡ n) → Comes p f m
-    by (inl o) = h m o
-    by (inr e) = subst (Comes p f) (sym e) comes
+    from : (y : Point) → IsAlong t i x (before ++ to ∷ []) y → IsAlong t i x before y ⊎ (point_along t i x to ≡ y)
+    from y k = elim (among_of before (to ∷ []) k.0 k.1.0) [
+      | inl m ↦ inl (k.0, (m, k.1.1))
+      | inr m ↦ elim m [ inl e ↦ inr (ap (point_along t i x) e ∙ sym k.1.1) | inr m ↦ absurd m ]
+    ]
 
--- a control path reaches each node that follows a found one
-pub follower_comes : (p : Program) (f : ℕ) (nodes next : List Node) (at : ℕ) (x : Node) (j : ℕ) (y : Node) → AreFound p f nodes → at < length nodes → x ≡ slice_index_or nodes at x → next ≡ followers p f x → j < length next → y ≡ slice_index_or next j y → Comes p f y
-follower_comes p f nodes next at x j y found within is made less read =
-    then x y (found x (at, within, sym is)) (subst (λ ys. Contains ys y) made (j, less, sym read))
+    into : (y : Point) → IsAlong t i x before y ⊎ (point_along t i x to ≡ y) → IsAlong t i x (before ++ to ∷ []) y
+    into y (inl k) = (k.0, (among_left before (to ∷ []) k.0 k.1.0, k.1.1))
+    into y (inr e) = (to, (among_right before (to ∷ []) to (inl refl), sym e))
 
--- the first n of these are there
-abbrev pub AreThere : List Node → ℕ → List Node → Type 0
-AreThere next n nodes = (j : ℕ) (d : Node) → j < n → Contains nodes (slice_index_or next j d)
+-- ---- rules that were noted
 
-pub there_more : (next old new : List Node) (n : ℕ) (y : Node) → n < length next → y ≡ slice_index_or next n y → AreThere next n old → Adds old y new → AreThere next (n + 1) new
-there_more next old new n y less read h a j d lj = by (split j n lj)
+-- the rules by place, with one more
+record Notes (before : List (Option Reliance)) (pc : ℕ) (rule : Option Reliance) (after : List (Option Reliance)) : Type 0 where
+  long : length after ≡ length before
+  kept : (q : ℕ) → is_some (slice_index_or before q None) ≡ true → is_some (slice_index_or after q None) ≡ true
+  here : is_some rule ≡ true → is_some (slice_index_or after pc None) ≡ true
+  only : (q : ℕ) (r : Reliance) → slice_index_or after q None ≡ Some r → (slice_index_or before q None ≡ Some r) ⊎ ((q ≡ pc) × (rule ≡ Some r))
+
+notes : (before : List (Option Reliance)) (pc : ℕ) (rule : Option Reliance) → pc < length before → Notes before pc rule (noted before pc rule)
+notes before pc None less = record { long = refl; kept = λ q is. is; here = λ e. cc; only = λ q r e. inl e }
+notes before pc (Some r) less = record { long = length-set before pc (Some r); kept = λ q is. kept q is (cases_eq q pc); here = λ e. ap is_some there; only = λ q s e. only q s e (cases_eq q pc) }
   where
-    by : (j < n) ⊎ (j ≡ n) → Contains new (slice_index_or next j d)
-    by (inl l) = still old new (slice_index_or next j d) a.grows (h j d l)
-    by (inr e) =
-        let is : slice_index_or next j d ≡ y = ap (λ (k : ℕ). slice_index_or next k d) e ∙ get_or_default next n d y less ∙ sym read in
-        subst (Contains new) (sym is) a.there
+    there : slice_index_or (slice_set before pc (Some r)) pc None ≡ Some r
+    there = get_or-set_same before pc (Some r) None less
 
--- a follower more was added, if it wasn't there
-pub spread_more : (p : Program) (f : ℕ) (nodes next old new : List Node) (at : ℕ) (x : Node) (n : ℕ) (y : Node) → AreFound p f nodes → at < length nodes → x ≡ slice_index_or nodes at x → next ≡ followers p f x → n < length next → y ≡ slice_index_or next n y → Adds old y new → AreFound p f old × Grows nodes old × AreThere next n old → AreFound p f new × Grows nodes new × AreThere next (n + 1) new
-spread_more p f nodes next old new at x n y found within is made less read added h = (
-  found_more p f old new y h.0 added (follower_comes p f nodes next at x n y found within is made less read),
-  grows_on nodes old new h.1 added.grows,
-  there_more next old new n y less read h.2 added,
-)
+    kept : (q : ℕ) → is_some (slice_index_or before q None) ≡ true → (q ≡ pc) ⊎ (q ≡ pc → ⊥) → is_some (slice_index_or (slice_set before pc (Some r)) q None) ≡ true
+    kept q is (inl same) = ap (λ (n : ℕ). is_some (slice_index_or (slice_set before pc (Some r)) n None)) same ∙ ap is_some there
+    kept q is (inr other) = ap is_some (get_or-set_other before pc q (Some r) None other) ∙ is
 
--- all nodes after the node are there
-pub all_there : (p : Program) (f : ℕ) (old new next : List Node) (at : ℕ) (x : Node) (n : ℕ) → at < length old → x ≡ slice_index_or old at x → next ≡ followers p f x → length next ≤ n → AreThere next n new → IsSpread p f old at new
-all_there p f old new next at x n within is made long h d m c =
-    let same : slice_index_or old at d ≡ x = get_or_default old at d x within ∙ sym is in
-    let listed : Contains next m = subst (λ ys. Contains ys m) (ap (followers p f) same ∙ sym made) c in
-    subst (Contains new) listed.2 (h listed.0 m (omega (arith, listed.1)))
+    only : (q : ℕ) (s : Reliance) → slice_index_or (slice_set before pc (Some r)) q None ≡ Some s → (q ≡ pc) ⊎ (q ≡ pc → ⊥) → (slice_index_or before q None ≡ Some s) ⊎ ((q ≡ pc) × (Some r ≡ Some s))
+    only q s e (inl same) = inr (same, sym there ∙ ap (λ (n : ℕ). slice_index_or (slice_set before pc (Some r)) n None) (sym same) ∙ e)
+    only q s e (inr other) = inl (sym (get_or-set_other before pc q (Some r) None other) ∙ e)
+
+no_rule : (n pc : ℕ) → slice_index_or (replicate {A = Option Reliance} n None) pc None ≡ None
+no_rule zero pc = refl
+no_rule (suc n) zero = refl
+no_rule (suc n) (suc pc) = no_rule n pc
 
 -- ---- a search that goes on
 
-pub record IsSearched (p : Program) (f at : ℕ) (nodes : List Node) : Type 0 where
-  pub found : AreFound p f nodes
-  pub begins : Contains nodes (first_node p f)
-  pub within : at ≤ length nodes
-  pub closed : (k : ℕ) → k < at → IsSpread p f nodes k nodes
+module _ (p : Program) (f : ℕ) (t : Typing) where
+  -- the points after this one are there, and so is its rule
+  pub record IsDone (points : List Point) (rules : List (Option Reliance)) (x : Point) : Type 0 where
+    pub next : (y : Point) → Follows t (instr_at (routine p f).code x.pc) x y → Contains points y
+    pub rule : is_some (relied_on_at p f (node_at t x)) ≡ true → is_some (slice_index_or rules x.pc None) ≡ true
 
-pub searched_first : (p : Program) (f : ℕ) (nodes : List Node) (n : Node) → nodes ≡ [] ++ n ∷ [] → n ≡ first_node p f → IsSearched p f 0 nodes
-searched_first p f nodes n is same =
-    let only : nodes ≡ first_node p f ∷ [] = is ∙ ap (λ (x : Node). x ∷ []) same in
-    record {
-      found = λ m c. subst (Comes p f) (sym (single (first_node p f) m (subst (λ xs. Contains xs m) only c))) first;
-      begins = subst (λ xs. Contains xs (first_node p f)) (sym only) (Contains-push [] (first_node p f));
-      within = omega arith;
-      closed = λ k l. absurd (omega arith);
-    }
+  -- the first ones are done
+  pub record IsSearched (count : ℕ) (points : List Point) (rules : List (Option Reliance)) : Type 0 where
+    pub found : (x : Point) → Contains points x → Comes p f (node_at t x)
+    pub begins : Contains points (first_point p f)
+    pub long : length rules ≡ size p f
+    pub some : (pc : ℕ) (r : Reliance) → slice_index_or rules pc None ≡ Some r → Relies p f pc r
+    pub done : (k : ℕ) (d : Point) → k < count → IsDone points rules (slice_index_or points k d)
 
-pub searched_more : (p : Program) (f at : ℕ) (old new : List Node) → IsSearched p f at old → at < length old → AreFound p f new → Grows old new → IsSpread p f old at new → IsSearched p f (at + 1) new
-searched_more p f at old new h less found grows spread =
-    record {
-      found = found;
-      begins = still old new (first_node p f) grows h.begins;
-      within = omega (arith, longer old new grows);
-      closed = λ k l. by k (split k at l);
-    }
-  where
-    by : (k : ℕ) → (k < at) ⊎ (k ≡ at) → IsSpread p f new k new
-    by k (inl l) d m c = still old new m grows (h.closed k l d m (subst (λ n. Contains (followers p f n) m) (same_older old new grows k (omega arith) d) c))
-    by k (inr e) d m c =
-        let same : slice_index_or new k d ≡ slice_index_or old at d = ap (λ (j : ℕ). slice_index_or new j d) e ∙ same_older old new grows at less d in
-        spread d m (subst (λ n. Contains (followers p f n) m) same c)
+module _ {p : Program} {f : ℕ} {t : Typing} (typed : IsTyped p f t) where
+  pub searched_first : (none points : List Point) (x : Point) (rules : List (Option Reliance)) → none ≡ [] → x ≡ first_point p f → Adds none (λ y. x ≡ y) points → rules ≡ replicate (size p f) None → IsSearched p f t 0 points rules
+  searched_first none points x rules nothing is a empty = record {
+    found = λ y c. elim (a.only y c) [
+      | inl old ↦ absurd (omega (arith, old.1, ap (length {A = Point}) nothing))
+      | inr e ↦ subst (λ (z : Point). Comes p f (node_at t z)) (sym is ∙ e) (subst (Comes p f) (sym (first_is typed)) first)
+    ];
+    begins = a.there (first_point p f) is;
+    long = ap length empty ∙ length-replicate (size p f) None;
+    some = λ pc r e. (let none' : None ≡ Some r = sym (no_rule (size p f) pc) ∙ ap (λ (xs : List (Option Reliance)). slice_index_or xs pc None) (sym empty) ∙ e in absurd (cc));
+    done = λ k d less. absurd (omega (arith, less));
+  }
 
--- if the nodes after each node are there, all nodes are
-stays : (p : Program) (f at : ℕ) (nodes : List Node) → IsSearched p f at nodes → length nodes ≤ at → (n : Node) → Comes p f n → Contains nodes n
-stays p f at nodes h long n first = h.begins
-stays p f at nodes h long n (then from to comes c) =
-    let before = stays p f at nodes h long from comes in
-    h.closed before.0 (omega (arith, before.1)) from n (subst (λ x. Contains (followers p f x) n) (sym before.2) c)
+  module _ (at : ℕ) (points : List Point) (rules : List (Option Reliance)) (h : IsSearched p f t at points rules) where
+    pub comes_here : (x : Point) → at < length points → x ≡ slice_index_or points at x → Comes p f (node_at t x)
+    comes_here x less read = subst (λ (y : Point). Comes p f (node_at t y)) (sym read) (h.found (slice_index_or points at x) (Contains-get_or points at x less))
 
-pub all_found : (p : Program) (f at : ℕ) (nodes : List Node) → IsSearched p f at nodes → length nodes ≤ at → AreAll p f nodes
-all_found p f at nodes h long = record { found = h.found; all = stays p f at nodes h long }
+    -- one point more
+    pub searched_more : (x : Point) (new : List Point) (after : List (Option Reliance)) → at < length points → x ≡ slice_index_or points at x → Adds points (Follows t (instr_at (routine p f).code x.pc) x) new → after ≡ noted rules x.pc (relied_on_at p f (node_at t x)) → IsSearched p f t (at + 1) new after
+    searched_more x new after less read a is = subst (IsSearched p f t (at + 1) new) (sym is) (record {
+      found = λ y c. elim (a.only y c) [ inl o ↦ h.found y o | inr g ↦ comes_on typed x comes y g ];
+      begins = still points new (first_point p f) a.grows h.begins;
+      long = n.long ∙ h.long;
+      some = λ pc r e. elim (n.only pc r e) [
+        | inl old ↦ h.some pc r old
+        | inr k ↦ relies (node_at t x) comes (sym k.0) (ap (λ (q : ℕ). relied_on (instr_at (routine p f).code q) (node_at t x).state x.mark) k.0 ∙ k.1)
+      ];
+      done = λ k d lk. done k d (split k at lk);
+    })
+      where
+        comes : Comes p f (node_at t x)
+        comes = comes_here x less read
+
+        n : Notes rules x.pc (relied_on_at p f (node_at t x)) (noted rules x.pc (relied_on_at p f (node_at t x)))
+        n = notes rules x.pc (relied_on_at p f (node_at t x)) (omega (arith, within typed x comes, h.long))
+
+        older : (k : ℕ) (d : Point) → k < length points → slice_index_or new k d ≡ slice_index_or points k d
+        older k d lk = ap (λ (xs : List Point). slice_index_or xs k d) a.grows.same ∙ get_or-append points a.grows.more d k lk
+
+        done : (k : ℕ) (d : Point) → (k < at) ⊎ (k ≡ at) → IsDone p f t new (noted rules x.pc (relied_on_at p f (node_at t x))) (slice_index_or new k d)
+        done k d (inl l) =
+            let was = h.done k d l in
+            subst (IsDone p f t new (noted rules x.pc (relied_on_at p f (node_at t x)))) (sym (older k d (omega (arith, l, less))))
+            (record { next = λ y g. still points new y a.grows (was.next y g); rule = λ some. n.kept (slice_index_or points k d).pc (was.rule some) })
+        done k d (inr l) =
+            let same : x ≡ slice_index_or new k d = read ∙ get_or_default points at x d less ∙ sym (older at d less) ∙ ap (λ (j : ℕ). slice_index_or new j d) (sym l) in
+            subst (IsDone p f t new (noted rules x.pc (relied_on_at p f (node_at t x)))) same (record { next = a.there; rule = n.here })
+
+    -- if all points are done, all rules are there
+    pub all_found : length points ≤ at → AreRules p f rules
+    all_found past = record { long = h.long; each = λ pc less. each pc (slice_index_or rules pc None) refl }
+      where
+        done : (x : Point) → Contains points x → IsDone p f t points rules x
+        done x c = subst (IsDone p f t points rules) c.2 (h.done c.0 x (omega (arith, past, c.1)))
+
+        all : (n : Node) → Comes p f n → (x : Point) × (Contains points x × (node_at t x ≡ n))
+        all n first = (first_point p f, (h.begins, first_is typed))
+        all n (along m out to s comes e l) =
+            let b = all m comes in
+            let x = b.0 in
+            let g = along_edge typed x (h.found x b.1.0) out to s (subst (λ (k : Node). edges p f k.pc k.state ≡ Ok out) (sym b.1.1) e) l in
+            (g.0, ((done x b.1.0).next g.0 g.1.0, g.1.1 ∙ ap (λ (k : Node). node_along (instr_at (routine p f).code k.pc) k to s) b.1.1))
+        all n (turn m q comes back) =
+            let b = all m comes in
+            let x = b.0 in
+            let g = by_turn typed x (h.found x b.1.0) q (subst (λ (k : Node). back_of (instr_at (routine p f).code k.pc) k.state ≡ Some q) (sym b.1.1) back) in
+            (g.0, ((done x b.1.0).next g.0 g.1.0, g.1.1 ∙ ap (λ (k : Node). record k { pc = q }) b.1.1))
+
+        is_plain : (pc : ℕ) → slice_index_or rules pc None ≡ None → IsPlain p f pc
+        is_plain pc e r (relies n comes at rule) =
+            let a = all n comes in
+            let relied : is_some (relied_on_at p f (node_at t a.0)) ≡ true =
+            ap (λ (m : Node). is_some (relied_on_at p f m)) a.1.1 ∙ ap (λ (q : ℕ). is_some (relied_on (instr_at (routine p f).code q) n.state n.mark)) at ∙ ap is_some rule in
+            let has = ap (λ (q : ℕ). is_some (slice_index_or rules q None)) (sym (ap (λ (m : Node). m.pc) a.1.1 ∙ at)) ∙ (done a.0 a.1.0).rule relied in
+            let hasn't = ap is_some e in
+            absurd (cc)
+
+        each : (pc : ℕ) (o : Option Reliance) → slice_index_or rules pc None ≡ o → MatchOption o (IsPlain p f pc) (Relies p f pc)
+        each pc None e = is_plain pc e
+        each pc (Some r) e = h.some pc r e

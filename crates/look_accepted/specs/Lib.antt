@@ -1,5 +1,5 @@
-pub mod Found
 pub mod Lines
 pub mod Nodes
 pub mod Notes
+pub mod Points
 pub mod Relying

@@ -4,17 +4,15 @@
 -- JDK 25 keeps with a scope the bindings of the thread that opened it. Before its first binding a
 -- thread has none; after that binding has ended, it has an empty list. The JDK can't see that the
 -- two are the same. So it matters which scopes were open when the thread made its first binding.
-use Rattle.std.specs.Prelude.{ℕ, List, [], ◌∷◌, ◌++◌, map, length, Bool, Option, Some, None}
-use Rattle.std.specs.Prelude.{Result, Ok, Err, nat_lt, nat_le, if◌then◌else◌}
-use Rattle.std.specs.List.{Contains, list_any}
+use Rattle.std.specs.Prelude.{◌≡◌, ℕ, List, length, Bool, Option, Some, None, Ok, nat_le}
+use Rattle.std.specs.Prelude.{if◌then◌else◌}
+use Rattle.std.specs.List.{list_any}
 use Rattle.sts_code.specs.Program.{Program, routine, instr_at}
 use Rattle.sts_code.specs.declared.instr.Instr.{Instr}
 use Rattle.sts_code.specs.declared.instr.Instr.TheVariants.{Bind}
-use Rattle.sts_rules.specs.declared.typing.Cause.{Cause}
 use Rattle.sts_rules.specs.Edges.{edges, back_of}
-use Rattle.sts_rules.specs.Refusal.{size}
+use Rattle.sts_rules.specs.Flow.{Leads}
 use Rattle.sts_rules.specs.TypeState.{TypeState, entry}
-use Rattle.look_accepted.specs.declared.node.Node.{Node}
 
 -- ---- the first binding of a thread
 
@@ -41,37 +39,27 @@ next_mark i before after (Some outer) =
 
 -- ---- nodes
 
+-- a place, with the typestate of a control path there, and with the mark
+pub record Node : Type 0 where
+  pub pc : ℕ
+  pub state : TypeState
+  pub mark : Option ℕ
+
 -- the first node of a function
 abbrev pub first_node : Program → ℕ → Node
 first_node p f = record { pc = 0; state = entry p f; mark = start_mark p f }
 
--- along an edge
-abbrev pub along : Instr → Node → ℕ × TypeState → Node
-along i n e = record { pc = e.0; state = e.1; mark = next_mark i n.state e.1 n.mark }
-
--- the edges; if a cause holds, there is none
-abbrev pub edge_list : Result (List (ℕ × TypeState)) Cause → List (ℕ × TypeState)
-edge_list (Ok out) = out
-edge_list (Err c) = []
-
--- along the edges of the instruction
-abbrev pub edge_nodes : Program → ℕ → Node → List Node
-edge_nodes p f n =
-    map (along (instr_at (routine p f).code n.pc) n) (edge_list (edges p f n.pc n.state))
-
--- at the end of a loop the next turn begins in the same typestate
-abbrev pub turn_nodes : Node → Option ℕ → List Node
-turn_nodes n None = []
-turn_nodes n (Some to) = record n { pc = to } ∷ []
-
--- what follows a node, along the edges and by a turn
-abbrev pub followers : Program → ℕ → Node → List Node
-followers p f n =
-    if nat_lt n.pc (size p f)
-    then edge_nodes p f n ++ turn_nodes n (back_of (instr_at (routine p f).code n.pc) n.state)
-    else []
+-- along an edge of the instruction
+abbrev pub node_along : Instr → Node → ℕ → TypeState → Node
+node_along i n to s = record { pc = to; state = s; mark = next_mark i n.state s n.mark }
 
 -- a control path of the function reaches the node
 pub data Comes (p : Program) (f : ℕ) : Node → Type 0 where
   first : Comes p f (first_node p f)
-  then : (from to : Node) → Comes p f from → Contains (followers p f from) to → Comes p f to
+  along : (n : Node) (out : List (ℕ × TypeState)) (to : ℕ) (s : TypeState) → Comes p f n
+      → edges p f n.pc n.state ≡ Ok out → Leads out to s
+      → Comes p f (node_along (instr_at (routine p f).code n.pc) n to s)
+  -- at the end of a loop the next turn begins in the same typestate
+  turn : (n : Node) (to : ℕ) → Comes p f n
+      → back_of (instr_at (routine p f).code n.pc) n.state ≡ Some to
+      → Comes p f (record n { pc = to })

@@ -13,11 +13,10 @@ use Rattle.sts_rules.specs.declared.typing.TypedPhase.TheVariants.{Attempted, La
 use Rattle.sts_rules.specs.declared.typing.TypedScope.{TypedScope}
 use Rattle.sts_rules.specs.declared.typing.TypedEntry.{TypedEntry}
 use Rattle.sts_rules.specs.declared.typing.TypedEntry.TheVariants.{Scope, Binding}
-use Rattle.look_accepted.specs.declared.node.Node.{Node}
 use Rattle.look_accepted.specs.declared.reliance.Reliance.{Reliance}
 use Rattle.look_accepted.specs.declared.reliance.Reliance.TheVariants.{SecondJoin, FirstBinding}
 use Rattle.look_accepted.specs.declared.reliance.Reliance.TheVariants.{LateRead}
-use Rattle.look_accepted.specs.Nodes.{Comes}
+use Rattle.look_accepted.specs.Nodes.{Node, Comes}
 
 -- ---- a `join` after an interrupted one
 

@@ -1,13 +1,13 @@
 //! The places where an accepted program relies on a rule that JDK 25 doesn't share, with the line
 //! numbers of its text.
 //!
-//! `node` says where a control path can be, `search` finds all such nodes of a function, and `notes`
-//! lists the instructions that rely on such a rule.
+//! `point` says where a control path can be, `search` finds all such points of a function, and
+//! `notes` lists the instructions that rely on such a rule.
 #![tactic(auto)]
 
 mod lines;
-pub mod node;
 pub mod notes;
+pub mod point;
 pub mod reliance;
 pub mod search;
 

@@ -1,12 +1,14 @@
 //! The rules that JDK 25 doesn't share.
 
-ghost use Rattle.std.specs.Prelude.{◌≡◌};
+ghost use Rattle.std.specs.Prelude.{◌≡◌, ◌<◌, length};
+ghost use Rattle.look_accepted.specs.Points.{state_at};
 ghost use Rattle.look_accepted.specs.Relying as def;
 
+use crate::point::Point;
 use sts_code::Instr;
 use sts_model::Stack;
 use sts_rules::{SlotKind, TypedEntry, TypedPhase, TypedScope};
-use sts_types::TypeState;
+use sts_types::{TypeState, Typing};
 
 /// A rule that an instruction relies on, and that JDK 25 doesn't share.
 #[derive(Clone, Copy, PartialEq, Eq)]
@@ -72,15 +74,20 @@ fn first_binding(state: &TypeState, slot: u8, mark: Option<usize>) -> Option<Rel
     }
 }
 
-/// The rule that an instruction relies on.
-pub fn relied_on(instr: Instr, state: &TypeState, mark: Option<usize>) -> Option<Reliance>
-    ensures { result ≡ def.relied_on instr state.now mark }
+/// The rule that the instruction of a point relies on. Only an instruction that can rely on one reads
+/// the typestate.
+pub fn relied_on(typing: &Typing, instr: Instr, point: Point) -> Option<Reliance>
+    requires { point.pc < length typing.now.states }
+    ensures { result ≡ def.relied_on instr (state_at typing.now point.pc) point.mark }
 {
     match instr {
-        Instr::Join { slot, .. } => second_join(state.scope_in(slot)),
-        Instr::Fork { slot, .. } => first_binding(state, slot, mark),
-        Instr::Total(slot) => late_read(state.scope_in(slot)),
-        Instr::Get(handle) | Instr::Except(handle) => late_subtask(state, state.kind(handle)),
+        Instr::Join { slot, .. } => second_join(typing.state(point.pc).scope_in(slot)),
+        Instr::Fork { slot, .. } => first_binding(&typing.state(point.pc), slot, point.mark),
+        Instr::Total(slot) => late_read(typing.state(point.pc).scope_in(slot)),
+        Instr::Get(handle) | Instr::Except(handle) => {
+            let state = typing.state(point.pc);
+            late_subtask(&state, state.kind(handle))
+        }
         _ => None,
     }
 }

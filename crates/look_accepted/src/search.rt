@@ -1,146 +1,168 @@
-//! All nodes that the control paths of a function reach.
+//! All points that the control paths of a function reach, and the rules that they rely on.
 
-ghost use Rattle.std.specs.Prelude.{◌≡◌, ◌<◌, true, length, IfOk};
-ghost use Rattle.std.specs.List.{Contains};
-ghost use Rattle.sts_code.specs.Program.{routine};
-ghost use Rattle.look_accepted.specs.Found as def;
+ghost use Rattle.std.specs.Prelude.{◌≡◌, ◌<◌, length, true, [], IfOk, OnOk, Some};
+ghost use Rattle.std.specs.List.{All, Contains};
+ghost use Rattle.sts_code.specs.Program.{instr_at};
+ghost use Rattle.look_accepted.specs.Notes.{AreRules};
+ghost use Rattle.look_accepted.specs.Points as def;
 
-use crate::node::{Node, copy, first, followers, is_same};
+use crate::point::{Point, along, by_loop, first};
+use crate::reliance::{Reliance, relied_on};
 use std::alloc::{AllocError, Global};
-use sts_code::{Program, code_of};
+use sts_budget::next_places;
+use sts_code::{Instr, Program, code_of};
 use sts_rules::filled;
-use sts_types::loops::{CodeLoops, Tables};
+use sts_types::Typing;
 
-/// The nodes by place, as lists of their numbers. `last` has the node that was found last at each
-/// place, and `earlier` has, for each node, the one before it at its place. A place has few nodes.
+/// The points that were found, in order, also as lists of their numbers by place. `last` has the
+/// point that was found last at each place, and `earlier` has, for each point, the one before it at
+/// its place. A place has few points.
 #[derive(Drop)]
-struct Places {
+struct Points {
+    found: Vec<Point>,
     last: Vec<Option<usize>>,
     earlier: Vec<Option<usize>>,
 }
 
-impl Places {
-    /// No nodes yet, at this number of places.
-    fn new(alloc: Global, count: usize) -> Result<Places, AllocError> {
-        Ok(Places {
+/// The number that is linked to this one.
+fn linked(links: &Vec<Option<usize>>, at: usize) -> Option<usize> {
+    match links.get(at) {
+        Some(link) => *link,
+        None => None,
+    }
+}
+
+/// Links a number to this one, and returns the one that was linked to it before.
+fn relink(links: &mut Vec<Option<usize>>, at: usize, number: usize) -> Option<usize> {
+    let before = linked(links, at);
+    if at < links.len() {
+        links[at] = Some(number);
+    }
+    before
+}
+
+impl Points {
+    /// No points yet, at this number of places.
+    fn new(alloc: Global, count: usize) -> Result<Points, AllocError>
+        ensures { IfOk result (λ points. points.found.items ≡ []) }
+    {
+        Ok(Points {
+            found: Vec::new(alloc),
             last: filled(alloc, count, None)?,
             earlier: Vec::new(alloc),
         })
     }
 
-    /// The last node that was found at a place.
-    fn last_at(&self, pc: usize) -> Option<usize> {
-        match self.last.get(pc) {
-            Some(number) => *number,
-            None => None,
+    /// Was the point found?
+    fn has(&self, point: Point) -> bool
+        ensures { result ≡ true → Contains self.now.found.items point }
+    {
+        let mut at = linked(&self.last, point.pc);
+        let mut younger = self.found.len();
+        while let Some(number) = at {
+            if number >= younger {
+                return false;
+            }
+            if self.found[number] == point {
+                return true;
+            }
+            at = linked(&self.earlier, number);
+            younger = number;
         }
+        false
     }
 
-    /// The node that was found before this one at its place.
-    fn earlier(&self, number: usize) -> Option<usize> {
-        match self.earlier.get(number) {
-            Some(number) => *number,
-            None => None,
+    /// Adds a point, unless it is there.
+    fn add(&mut self, point: Point) -> Result<(), AllocError>
+        ensures { OnOk result (def.Adds self.old.found.items (λ y. point ≡ y)
+            self.new.found.items) }
+    {
+        if self.has(point) {
+            return Ok(());
         }
+        let before = relink(&mut self.last, point.pc, self.found.len());
+        self.earlier.push(before)?;
+        self.found.push(point)?;
+        Ok(())
     }
 
-    /// Adds the next node, which is at this place.
-    fn add(&mut self, pc: usize) -> Result<(), AllocError> {
-        let number = self.earlier.len();
-        let last = self.last_at(pc);
-        self.earlier.push(last)?;
-        if pc < self.last.len() {
-            self.last[pc] = Some(number);
+    /// Adds the points at the places that the instruction of a point leads to.
+    fn add_along(
+        &mut self,
+        typing: &Typing,
+        instr: Instr,
+        point: Point,
+        places: &[u32],
+    ) -> Result<(), AllocError>
+        requires here { point.pc < length typing.now.states }
+        requires next { All (λ to. to < length typing.now.states) places.now }
+        ensures { OnOk result (def.Adds self.old.found.items
+            (def.IsAlong typing.now instr point places.now) self.new.found.items) }
+    {
+        for to in places {
+            self.add(along(typing, instr, point, *to as usize))?;
         }
         Ok(())
     }
-}
 
-fn is_known(nodes: &[Node], places: &Places, node: &Node) -> bool
-    ensures { result ≡ true → Contains nodes.now node.now }
-{
-    let mut at = places.last_at(node.pc);
-    let mut younger = nodes.len();
-    while let Some(number) = at {
-        if number >= younger {
-            return false;
+    /// Adds the points that follow the one at this instruction.
+    fn add_next(&mut self, typing: &Typing, instr: Instr, point: Point) -> Result<(), AllocError>
+        requires { def.IsInside typing.now instr point }
+        ensures { OnOk result (def.Adds self.old.found.items (def.Follows typing.now instr point)
+            self.new.found.items) }
+    {
+        let places = next_places(instr, point.pc as u32);
+        self.add_along(typing, instr, point, places.as_slice())?;
+        match by_loop(typing, instr, point) {
+            Some(point) => self.add(point),
+            None => Ok(()),
         }
-        if is_same(&nodes[number], node) {
-            return true;
-        }
-        at = places.earlier(number);
-        younger = number;
     }
-    false
 }
 
-/// Adds a node, unless it is there.
-fn add(nodes: &mut Vec<Node>, places: &mut Places, node: &Node) -> Result<(), AllocError>
-    ensures { IfOk result (λ _. def.Adds nodes.old.items node.now nodes.new.items) }
+/// Notes a rule for a place, if it is one.
+fn note(rules: &mut Vec<Option<Reliance>>, pc: usize, rule: Option<Reliance>)
+    requires { pc < length rules.old.items }
+    ensures { rules.new.items ≡ def.noted rules.old.items pc rule }
 {
-    if is_known(nodes.as_slice(), places, node) {
-        return Ok(());
+    if rule.is_some() {
+        rules[pc] = rule;
     }
-    places.add(node.pc)?;
-    nodes.push(copy(node))?;
-    Ok(())
 }
 
-/// Adds what follows the node at a place of the list.
-fn expand(
-    alloc: Global,
-    program: &Program,
-    function: u32,
-    loops: &CodeLoops<'_>,
-    nodes: &mut Vec<Node>,
-    places: &mut Places,
-    at: usize,
-) -> Result<(), AllocError>
-    requires function { function < length program.now.routines }
-    requires loops { loops.now ≡ (routine program.now function).code }
-    requires at { at < length nodes.old.items }
-    requires found { def.AreFound program.now function nodes.old.items }
-    ensures found { IfOk result (λ _. def.AreFound program.now function nodes.new.items) }
-    ensures grows { IfOk result (λ _. def.Grows nodes.old.items nodes.new.items) }
-    ensures spread { IfOk result (λ _. def.IsSpread program.now function nodes.old.items at
-        nodes.new.items) }
+fn instr_here(code: &[Instr], pc: usize) -> Instr
+    requires { pc < length code.now }
+    ensures { result ≡ instr_at code.now pc }
 {
-    let next = followers(alloc, program, function, loops, &nodes[at])?;
-    for number in 0..next.len() {
-        add(nodes, places, &next[number])?;
-    }
-    Ok(())
+    code[pc]
 }
 
-/// All nodes that the control paths of a function reach.
+/// The rule that the instruction at each place relies on, in some point that a control path reaches.
 ///
 /// # Errors
 ///
 /// Memory ran out.
-pub fn search(alloc: Global, program: &Program, function: u32) -> Result<Vec<Node>, AllocError>
-    requires { function < length program.now.routines }
-    ensures { IfOk result (λ v. def.AreAll program.now function v.items) }
+pub fn all_rules(
+    alloc: Global,
+    program: &Program,
+    function: u32,
+    typing: &Typing,
+) -> Result<Vec<Option<Reliance>>, AllocError>
+    requires { def.IsTyped program.now function typing.now }
+    ensures { IfOk result (λ rules. AreRules program.now function rules.items) }
 {
     let code = code_of(program, function as usize);
-    let tables = Tables::new(alloc, code)?;
-    let loops = CodeLoops::with_tables(code, &tables);
-    let mut nodes = Vec::new(alloc);
-    let mut places = Places::new(alloc, code.len())?;
-    places.add(0)?;
-    nodes.push(first(program, function))?;
+    let mut rules = filled(alloc, code.len(), None)?;
+    let mut points = Points::new(alloc, code.len())?;
+    points.add(first(program, function))?;
     for at in 0..usize::MAX {
-        if at >= nodes.len() {
+        if at >= points.found.len() {
             break;
         }
-        expand(
-            alloc,
-            program,
-            function,
-            &loops,
-            &mut nodes,
-            &mut places,
-            at,
-        )?;
+        let point = points.found[at];
+        let instr = instr_here(code, point.pc);
+        note(&mut rules, point.pc, relied_on(typing, instr, point));
+        points.add_next(typing, instr, point)?;
     }
-    Ok(nodes)
+    Ok(rules)
 }

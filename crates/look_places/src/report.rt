@@ -4,7 +4,7 @@ ghost use Rattle.std.specs.Prelude.{◌≡◌, IfOk, Ok};
 ghost use Rattle.sts_asm.specs.Text.{judged};
 ghost use Rattle.sts_output.specs.Output as cli;
 ghost use Rattle.sts_output.specs.Stops.{Prints};
-ghost use Rattle.sts_rules.specs.Refusal.{IsAccepted, IsRefusal};
+ghost use Rattle.sts_rules.specs.Refusal.{IsRefusal};
 ghost use Rattle.sts_text.specs.Words.{lines};
 ghost use Rattle.look_text.specs.Lines.{fault_lines as lines_of_fault};
 ghost use Rattle.look_places.specs.Faults.{code, refusal_code};
@@ -22,6 +22,7 @@ use std::io::Write;
 use sts_asm::AsmError;
 use sts_code::Program;
 use sts_output::{Output, Refusal, Status, Stopped, judge, write_shown};
+use sts_verify::Verified;
 
 /// The lines of a problem whose explanation is known.
 fn problem_lines(
@@ -104,13 +105,16 @@ fn refused(alloc: Global, source: &Source<'_, '_>, refusal: &Refusal) -> Result<
 }
 
 /// The report on an accepted program.
-fn accepted(alloc: Global, source: &Source<'_, '_>, program: &Program) -> Result<Output, AllocError>
-    requires { IsAccepted program.now }
-    ensures { IfOk result (λ o. def.IsVerdict source.now program.now o) }
+fn accepted(
+    alloc: Global,
+    source: &Source<'_, '_>,
+    verified: &Verified,
+) -> Result<Output, AllocError>
+    ensures { IfOk result (λ o. def.IsVerdict source.now verified.now o) }
 {
-    let notes = all_notes(alloc, program)?;
+    let notes = all_notes(alloc, verified)?;
     let mut bytes = Vec::new(alloc);
-    source.say_rules(alloc, &mut bytes, program, notes.as_slice())?;
+    source.say_rules(alloc, &mut bytes, verified.program(), notes.as_slice())?;
     Ok(Output { bytes, status: 0 })
 }
 
@@ -119,7 +123,7 @@ fn verdict(alloc: Global, source: &Source<'_, '_>, program: Program) -> Result<O
     ensures { IfOk result (λ o. def.IsVerdict source.now program o) }
 {
     match judge(alloc, program)? {
-        Ok(verified) => accepted(alloc, source, verified.program()),
+        Ok(verified) => accepted(alloc, source, &verified),
         Err(refusal) => refused(alloc, source, &refusal),
     }
 }

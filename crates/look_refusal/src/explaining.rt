@@ -1,7 +1,7 @@
 //! Explains what is wrong with a text, if anything is.
 
 ghost use Rattle.std.specs.Prelude.{◌≡◌, IfErr, IfOk, OnOk};
-ghost use Rattle.sts_rules.specs.Refusal.{IsAccepted, IsRefusal};
+ghost use Rattle.sts_rules.specs.Refusal.{IsRefusal};
 ghost use Rattle.sts_asm.specs.Source.{outline_or_empty, outlined};
 ghost use Rattle.sts_asm.specs.Text.{judged};
 ghost use Rattle.sts_budget.specs.Change.{cause_of};
@@ -91,23 +91,17 @@ impl Told<'_, '_> {
             _ => Ok(()),
         }
     }
+}
 
-    fn accepted(self, alloc: Global) -> Made
-        requires { IsAccepted self.program.now }
-        ensures { IfOk result (λ o. def.IsVerdict self.entry.program.now self.entry.outline.now o) }
-    {
-        let notes = all_notes(alloc, self.program)?;
-        let mut bytes = Vec::new(alloc);
-        say(&mut bytes, "accepted\n")?;
-        note_lines(
-            alloc,
-            &mut bytes,
-            self.outline,
-            self.program,
-            notes.as_slice(),
-        )?;
-        Ok(Output { bytes, status: 0 })
-    }
+fn accepted(alloc: Global, outline: &Outline<'_>, verified: &Verified) -> Made
+    ensures { IfOk result (λ o. def.IsVerdict verified.now outline.now o) }
+{
+    let notes = all_notes(alloc, verified)?;
+    let program = verified.program();
+    let mut bytes = Vec::new(alloc);
+    say(&mut bytes, "accepted\n")?;
+    note_lines(alloc, &mut bytes, outline, program, notes.as_slice())?;
+    Ok(Output { bytes, status: 0 })
 }
 
 /// Returns the explanation of a refusal.
@@ -144,11 +138,7 @@ pub fn verdict(alloc: Global, outline: &Outline<'_>, judged: &Result<Verified, R
     ensures { IfOk result (λ o. def.IsVerdict (program_in judged.now) outline.now o) }
 {
     match judged {
-        Ok(verified) => Told {
-            outline,
-            program: verified.program(),
-        }
-        .accepted(alloc),
+        Ok(verified) => accepted(alloc, outline, verified),
         Err(refusal) => refused(alloc, outline, refusal),
     }
 }

@@ -19,3 +19,4 @@ pub mod TogetherLemmas
 pub mod Found
 pub mod PathLemmas
 pub mod PointLemmas
+pub mod LeadLemmas

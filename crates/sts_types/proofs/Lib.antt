@@ -4,6 +4,7 @@ pub mod CauseLemmas
 pub mod ComparingLemmas
 pub mod EdgeLemmas
 pub mod Fitting
+pub mod FlowLemmas
 pub mod FollowLemmas
 pub mod Laws
 pub mod LoopMarking

@@ -6,5 +6,5 @@ use Rattle.look_places.proofs.report.accepted.Goals as goal
 pub returns : goal.returns
 returns c =
     let notes = c.in_ok-notes.notes.items in
-    let told : c.say_rules.new.out.items ≡ flat_map (rule_note c.args.source.now c.args.program.now) notes = search rules in
-    accepted notes (record { sound = c.requires.sound }) c.in_ok-notes.ensures (ap (λ (b : List ℕ). record { bytes = b; status = 0 }) told)
+    let told : c.say_rules.new.out.items ≡ flat_map (rule_note c.args.source.now c.args.verified.now) notes = search rules in
+    accepted notes (record { sound = c.program.ensures.accepted.sound }) c.in_ok-notes.ensures (ap (λ (b : List ℕ). record { bytes = b; status = 0 }) told)

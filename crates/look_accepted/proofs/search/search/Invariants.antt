@@ -1,5 +1,0 @@
-use Rattle.look_accepted.proofs.Searching.{IsSearched}
-use Rattle.look_accepted.proofs.search.search.Given as goal
-
-abbrev pub invariant-loop-at : goal.invariant-loop-at
-invariant-loop-at l = IsSearched l.program l.function l.at l.nodes.items
