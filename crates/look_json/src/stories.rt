@@ -5,6 +5,7 @@ ghost use Rattle.sts_asm.specs.Text.{judged};
 ghost use Rattle.sts_trace.specs.Reading.{trace_read};
 ghost use Rattle.sts_output.specs.Output as cli;
 ghost use Rattle.sts_output.specs.Kept.{KeepsFault};
+ghost use Rattle.sts_output.specs.Stops.{Keeps, Prints};
 ghost use Rattle.look_tell.specs.Telling.{IsStoryOf};
 ghost use Rattle.look_json.specs.Stories as def;
 
@@ -19,7 +20,7 @@ use std::alloc::{AllocError, Global};
 use std::io::Write;
 use sts_code::Program;
 use sts_model::Event;
-use sts_output::{Assembled, Output, Status, TakeError, failed, written};
+use sts_output::{Assembled, Output, Status, Stopped, write_shown};
 use sts_trace::read_trace;
 
 /// What `tell` prints.
@@ -74,15 +75,14 @@ fn of_trace(
     }
 }
 
-fn told(alloc: Global, asked: StoryOf<'_>, assembled: &mut Assembled) -> Result<Output, AllocError>
-    ensures told { IfOk result (λ o. def.Tells asked.entry.options (judged asked.entry.text.now)
-        asked.entry.text.now asked.entry.trace.now o) }
-    ensures fault { IfOk result (λ _. KeepsFault (judged asked.entry.text.now)
-        assembled.old assembled.new) }
+fn told(alloc: Global, asked: StoryOf<'_>, assembled: &mut Assembled) -> Result<Output, Stopped>
+    ensures output { Prints result (def.Tells asked.entry.options
+        (judged asked.entry.text.now) asked.entry.text.now asked.entry.trace.now) }
+    ensures fault { Keeps result (judged asked.entry.text.now) assembled.old assembled.new }
 {
     let ReadText { names, program } = read_text(alloc, asked.text)?;
     match program {
-        Ok(program) => of_trace(alloc, asked, &names, &program),
+        Ok(program) => Ok(of_trace(alloc, asked, &names, &program)?),
         Err(error) => {
             let line = faulty_text(alloc, error)?;
             *assembled = Assembled::Fault(error);
@@ -105,12 +105,11 @@ pub fn write_stories<W: Write>(
     out: &mut W,
     assembled: &mut Assembled,
 ) -> Status
-    ensures { IfOk result (λ s. (o : cli.Output) × def.AreStoriesOf
+    ensures output { IfOk result (λ s. (o : cli.Output) × def.AreStoriesOf
         asked.entry.options asked.entry.text.now asked.entry.trace.now o
         × cli.Writes (W.contents out.old) (W.contents out.new) s o) }
+    ensures fault { IfOk result (λ s. s ≡ 3
+        → KeepsFault (judged asked.entry.text.now) assembled.old assembled.new) }
 {
-    match told(alloc, asked, assembled) {
-        Ok(output) => written(out, output.bytes.as_slice(), output.status),
-        Err(_) => failed(TakeError::Memory, out),
-    }
+    write_shown(told(alloc, asked, assembled), out)
 }

@@ -102,9 +102,11 @@ pub fn write_run<F: Form, W: Write>(
     out: &mut W,
     assembled: &mut Assembled,
 ) -> Status
-    ensures { IfOk result (λ s. (o : AnyOutput)
+    ensures output { IfOk result (λ s. (o : AnyOutput)
         × def.IsShownOf (F.shows form.now) text.now trace.now o
         × Writes (W.contents out.old) (W.contents out.new) s o) }
+    ensures fault { IfOk result (λ s. s ≡ 3
+        → KeepsFault (judged text.now) assembled.old assembled.new) }
 {
     write_shown(shown_of_text(alloc, form, text, trace, assembled), out)
 }

@@ -5,6 +5,7 @@ ghost use Rattle.std.specs.String.{string_bytes};
 ghost use Rattle.sts_asm.specs.Text.{judged};
 ghost use Rattle.sts_plain.specs.Seen.{shown as shown_state};
 ghost use Rattle.sts_output.specs.Output as cli;
+ghost use Rattle.sts_output.specs.Kept.{KeepsFault};
 ghost use Rattle.sts_output.specs.Stops.{Keeps, Prints};
 ghost use Rattle.look_lines.specs.Form.{text_output};
 ghost use Rattle.look_lines.specs.Watched.{watched};
@@ -420,9 +421,11 @@ pub fn draw<W: io::Write>(
     out: &mut W,
     assembled: &mut Assembled,
 ) -> Status
-    ensures { IfOk result (λ s. (o : cli.Output)
+    ensures output { IfOk result (λ s. (o : cli.Output)
         × def.IsPictureOf options files.entry text.now trace.now o
         × cli.Writes (W.contents out.old) (W.contents out.new) s o) }
+    ensures fault { IfOk result (λ s. s ≡ 3
+        → KeepsFault (judged text.now) assembled.old assembled.new) }
 {
     write_shown(picture(alloc, options, files, text, trace, assembled), out)
 }

@@ -4,6 +4,7 @@
 ghost use Rattle.std.specs.Prelude.{◌≡◌, IfOk};
 ghost use Rattle.sts_asm.specs.Text.{judged};
 ghost use Rattle.sts_output.specs.Output.{Output as AnyOutput, Writes};
+ghost use Rattle.sts_output.specs.Kept.{KeepsFault};
 ghost use Rattle.sts_output.specs.Stops.{Keeps, Prints};
 ghost use Rattle.look_lines.specs.Form.{text_output};
 ghost use Rattle.look_view.specs.View as def;
@@ -76,8 +77,10 @@ pub fn write_view<W: io::Write>(
     out: &mut W,
     assembled: &mut Assembled,
 ) -> Status
-    ensures { IfOk result (λ s. (o : AnyOutput) × def.IsNamedViewOf wanted text.now trace.now o
+    ensures output { IfOk result (λ s. (o : AnyOutput) × def.IsNamedViewOf wanted text.now trace.now o
         × Writes (W.contents out.old) (W.contents out.new) s o) }
+    ensures fault { IfOk result (λ s. s ≡ 3
+        → KeepsFault (judged text.now) assembled.old assembled.new) }
 {
     write_shown(view(alloc, wanted, text, trace, assembled), out)
 }

@@ -10,6 +10,7 @@ ghost use Rattle.sts_asm.specs.Text.{judged};
 ghost use Rattle.sts_asm.specs.declared.fault.AsmError.{AsmError};
 ghost use Rattle.sts_trace.specs.declared.error.TraceError.TheVariants.{Memory};
 ghost use Rattle.sts_output.specs.Output.{Output as AnyOutput, Writes};
+ghost use Rattle.sts_output.specs.Kept.{KeepsFault};
 ghost use Rattle.sts_output.specs.Stops.{Keeps, Prints};
 ghost use Rattle.look_lines.specs.Form.{text_output};
 ghost use Rattle.look_views.specs.Views as def;
@@ -151,8 +152,10 @@ pub fn write_views<W: Write>(
     out: &mut W,
     assembled: &mut Assembled,
 ) -> Status
-    ensures { IfOk result (λ s. (o : AnyOutput) × def.AreViewsOf wanted text.now trace.now o
+    ensures output { IfOk result (λ s. (o : AnyOutput) × def.AreViewsOf wanted text.now trace.now o
         × Writes (W.contents out.old) (W.contents out.new) s o) }
+    ensures fault { IfOk result (λ s. s ≡ 3
+        → KeepsFault (judged text.now) assembled.old assembled.new) }
 {
     write_shown(views(alloc, wanted, text, trace, assembled), out)
 }

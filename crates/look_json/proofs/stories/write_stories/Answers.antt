@@ -1,7 +1,8 @@
-use Rattle.std.proofs.Common.{inr, refl}
-use Rattle.std.proofs.lemmas.Result.{IfOk-weaker}
-use Rattle.sts_output.specs.Output.{memory_output}
+use Rattle.sts_output.proofs.StopLemmas.{kept_if_fault, written_or_memory}
 use Rattle.look_json.proofs.stories.write_stories.Goals as goal
 
-pub returns-in-Err : goal.returns-in-Err
-returns-in-Err g c = IfOk-weaker c.failed.result _ _ (λ s h. (memory_output, inr refl, h)) c.failed.ensures
+pub returns-clause-output : goal.returns-clause-output
+returns-clause-output g c = written_or_memory c.told.result c.write_shown.result _ _ c.told.ensures.output c.write_shown.ensures
+
+pub returns-clause-fault : goal.returns-clause-fault
+returns-clause-fault g c = kept_if_fault _ c.told.result c.write_shown.result _ _ c.told.ensures.fault c.write_shown.ensures
