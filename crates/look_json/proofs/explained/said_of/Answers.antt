@@ -4,8 +4,8 @@ use Rattle.sts_output.proofs.StopLemmas.{judged_right}
 use Rattle.look_json.proofs.explained.said_of.Goals as goal
 
 pub of_judged-requires-clause-refusal : goal.of_judged-requires-clause-refusal
-of_judged-requires-clause-refusal c = (judged_right _ _ c.in_ok-judge.ensures).1
+of_judged-requires-clause-refusal c = (judged_right _ _ c.in_ok-judge-in-Ok.ensures).1
 
 pub of_judged-requires-clause-program : goal.of_judged-requires-clause-program
 of_judged-requires-clause-program c =
-    sym c.in_ok-read.ensures.program ∙ c.in-Ok.is ∙ ap (λ (p : Program). Ok p) (sym (judged_right _ _ c.in_ok-judge.ensures).0)
+    sym c.in_ok-read.ensures.program ∙ c.in-Ok.is ∙ ap (λ (p : Program). Ok p) (sym (judged_right _ _ c.in_ok-judge-in-Ok.ensures).0)

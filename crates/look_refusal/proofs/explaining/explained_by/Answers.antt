@@ -8,11 +8,11 @@ use Rattle.look_refusal.proofs.FaultLemmas.{verdict_explains}
 use Rattle.look_refusal.proofs.explaining.explained_by.Goals as goal
 
 pub verdict-requires : goal.verdict-requires
-verdict-requires c = (judged_right _ _ c.in_ok-judge.ensures).1
+verdict-requires c = (judged_right _ _ c.in_ok-judge-in-Ok.ensures).1
 
-pub returns-in-Ok : goal.returns-in-Ok
-returns-in-Ok c =
-    let right = judged_right _ _ c.in_ok-judge.ensures in
+pub returns-in_ok-judge-in-Ok : goal.returns-in_ok-judge-in-Ok
+returns-in_ok-judge-in-Ok c =
+    let right = judged_right _ _ c.in_ok-judge-in-Ok.ensures in
     IfOk-weaker c.verdict.result _ _
     (λ o h. verdict_explains c.args.text.now c.in-Ok.program c.args.outline.now o (sym c.requires.read ∙ c.in-Ok.is) c.requires.outline
     (subst (λ (p : Program). def.IsVerdict p c.args.outline.now o) right.0 h)) c.verdict.ensures
