@@ -1,4 +1,4 @@
-use Rattle.std.proofs.Common.{◌+◌, [], ◌∷◌, ◌++◌, ap, ◌∙◌, arith}
+use Rattle.std.proofs.Common.{[], ◌∷◌, ◌++◌, ap, ◌∙◌, arith}
 use Rattle.laws_words.proofs.AppendLemmas.{one_more, all_there}
 use Rattle.look_refusal.proofs.leads.none.Goals as goal
 
