@@ -1,4 +1,5 @@
--- The fault or the program of a text that is kept for the lines on standard error (this project's own).
+-- A text that was assembled leaves its program or its fault for the lines on standard error (this
+-- project's own).
 use Rattle.std.specs.Prelude.{◌≡◌, ⊤, Option, Some, None, Result, Ok, Err}
 use Rattle.sts_code.specs.Program.{Program}
 use Rattle.sts_asm.specs.declared.fault.AsmError.{AsmError}

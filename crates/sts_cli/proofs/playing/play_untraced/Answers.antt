@@ -18,8 +18,10 @@ returns-in-Err-clause-output g c =
 pub returns-in-Ok-clause-fault : goal.returns-in-Ok-clause-fault
 returns-in-Ok-clause-fault g c =
     IfOk-weaker c.print_ran.result _ _
-    (λ s h three.
-    (subst (KeepsFault (judged c.args.job.text.now) c.args.aside.now.assembled) (sym c.print_ran.ensures.kept) c.in-Ok.ensures.fault, c.print_ran.ensures.written))
+    (λ s h three. (
+      subst (KeepsFault (judged c.args.job.text.now) c.args.aside.now.assembled) (sym c.print_ran.ensures.kept) c.in-Ok.ensures.fault,
+      c.print_ran.ensures.written,
+    ))
     c.print_ran.ensures.output
 
 pub returns-in-Err-clause-fault : goal.returns-in-Err-clause-fault

@@ -9,5 +9,8 @@ returns-clause-output g c = c.in_ok-status.ensures.output
 
 pub returns-clause-note : goal.returns-clause-note
 returns-clause-note g c =
-    own_line c.args.notes.now.program.now c.in_ok-status.status c.args.text.name.now c.args.text.text.now (judged c.args.text.text.now) Nothing c.play_and_keep.new.assembled
-    c.fault.result _ _ _ c.in_ok-status.ensures.fault refl c.fault.ensures c.status.ensures.line
+    let name = c.args.text.name.now in
+    let text = c.args.text.text.now in
+    let program = c.args.notes.now.program.now in
+    own_line program c.in_ok-status.status name text (judged text) Nothing c.play_and_keep.new.assembled c.fault.result _ _ _ c.in_ok-status.ensures.fault refl
+    c.fault.ensures c.status.ensures.line

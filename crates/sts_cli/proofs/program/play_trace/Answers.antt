@@ -9,6 +9,9 @@ returns-clause-output g c = c.in_ok-status.ensures.output
 
 pub returns-clause-note : goal.returns-clause-note
 returns-clause-note g c =
+    let name = c.args.text.name.now in
+    let text = c.args.text.text.now in
+    let program = c.args.remarks.now.notes.program.now in
     rw c.idle.ensures.notes
-    (own_line c.args.remarks.now.notes.program.now c.in_ok-status.status c.args.text.name.now c.args.text.text.now (judged c.args.text.text.now) Nothing c.play_and_keep.new.assembled
-    c.fault.result _ _ _ c.in_ok-status.ensures.fault refl c.fault.ensures c.status.ensures.line)
+    (own_line program c.in_ok-status.status name text (judged text) Nothing c.play_and_keep.new.assembled c.fault.result _ _ _ c.in_ok-status.ensures.fault refl
+    c.fault.ensures c.status.ensures.line)
