@@ -1,16 +1,15 @@
--- Each way in the table leads to its place.
-use Rattle.std.proofs.Common.{◌≡◌, ◌≢◌, ℕ, ◌<◌, ◌≤◌, ◌⊎◌, inl, inr, List, [], ◌∷◌, zero, suc, Option, Some, None, Bool, true, false, get_or, length, slice_get, refl, sym, ap, ◌∙◌, subst, cond, arith, get_or-set_same, get_or-set_other, replicate}
-use Rattle.std.specs.Prelude.{Ok, IfSome, is_some, slice_index_or, slice_set, if◌then◌else◌}
-use Rattle.std.proofs.lemmas.Bool.{cases_eq, cases_lt}
-use Rattle.std.proofs.lemmas.Grind.{common_steps}
-use Rattle.std.proofs.lemmas.Option.{slice_get_read, same_Some}
+-- The ways to a place: along the edges of one before it, and the first one.
+use Rattle.std.proofs.Common.{◌≡◌, ◌≢◌, ℕ, ◌+◌, ◌<◌, ◌≤◌, ◌⊎◌, inl, inr, List, [], ◌∷◌, zero, suc, Option, Some, None, Ok, length, slice_get, refl, sym, ap, ◌∙◌, subst, arith, below_more}
+use Rattle.std.specs.Prelude.{MatchOption}
+use Rattle.std.proofs.lemmas.Option.{same_Some, slice_get_within}
 use Rattle.sts_code.specs.Program.{Program}
 use Rattle.sts_rules.specs.Edges.{edges, typing}
-use Rattle.sts_rules.specs.Flow.{Reaches, Leads, first, then}
+use Rattle.sts_rules.specs.Flow.{Reaches, Leads, first, then, IsAlone}
 use Rattle.sts_rules.specs.TypeState.{TypeState, entry}
 use Rattle.look_refusal.specs.declared.ways.WayOrigin.TheVariants.{Beginning, Edge}
 use Rattle.look_refusal.specs.declared.ways.Way.{Way}
-use Rattle.look_refusal.specs.Ways.{IsWayTo, AreWays}
+use Rattle.look_refusal.specs.Ways.{IsWayTo, IsOtherWay, ArriveAlike, IsReached}
+use Rattle.look_refusal.proofs.ForwardLemmas.{forward}
 
 -- the edge at a number of a list is one of its edges
 pub leads_at : (out : List (ℕ × TypeState)) (n : ℕ) (e : ℕ × TypeState) → slice_get out n ≡ Some e → Leads out e.0 e.1
@@ -18,44 +17,70 @@ leads_at [] n e h = absurd (cc)
 leads_at (x ∷ xs) zero e h = let same : x ≡ e = same_Some x e h in inl (ap (λ (y : ℕ × TypeState). y.0) same, ap (λ (y : ℕ × TypeState). y.1) same)
 leads_at (x ∷ xs) (suc n) e h = inr (leads_at xs n e h)
 
--- an edge out of a typestate that is reached is a way
-pub edge_way : (p : Program) (f from : ℕ) (before : TypeState) (out : List (ℕ × TypeState)) (n : ℕ) (e : ℕ × TypeState) → Reaches (typing p f) from before → edges p f from before ≡ Ok out → slice_get out n ≡ Some e → IsWayTo p f e.0 (record { origin = Edge from n; state = e.1 })
-edge_way p f from before out n e r g h = ((before, (out, (r, g, h))), (then) from before out r g (leads_at out n e h))
+-- each of its edges has a number
+number_of : (out : List (ℕ × TypeState)) (to : ℕ) (s : TypeState) → Leads out to s → (n : ℕ) × (slice_get out n ≡ Some (to, s))
+number_of [] to s l = absurd l
+number_of (e ∷ es) to s (inl h) = (zero, ap (λ (k : ℕ). Some (k, e.1)) h.0 ∙ ap (λ (x : TypeState). Some (to, x)) h.1)
+number_of (e ∷ es) to s (inr l) = let m = number_of es to s l in (suc m.0, m.1)
+
+-- ---- along the edges of one place, which one typestate reaches
+
+-- each of the first edges that leads there leads there with the typestate `known`
+abbrev pub AreAlike : Option TypeState → ℕ → List (ℕ × TypeState) → ℕ → Type 0
+AreAlike known to out count = (n : ℕ) → n < count → (s : TypeState) → slice_get out n ≡ Some (to, s) → known ≡ Some s
+
+-- one more
+pub alike_more : (known : Option TypeState) (to : ℕ) (out : List (ℕ × TypeState)) (n : ℕ) (e : ℕ × TypeState) → slice_get out n ≡ Some e → (e.0 ≡ to → known ≡ Some e.1) → AreAlike known to out n → AreAlike known to out (n + 1)
+alike_more known to out n e at here alike = below_more (λ (k : ℕ). (s : TypeState) → slice_get out k ≡ Some (to, s) → known ≡ Some s) n alike one
+  where
+    one : (s : TypeState) → slice_get out n ≡ Some (to, s) → known ≡ Some s
+    one s is = let same : e ≡ (to, s) = same_Some e (to, s) (sym at ∙ is) in here (ap (λ (x : ℕ × TypeState). x.0) same) ∙ ap (λ (x : ℕ × TypeState). Some x.1) same
+
+module _ (p : Program) (f from to : ℕ) (state : TypeState) (alone : IsAlone (typing p f) from state) (out : List (ℕ × TypeState)) (fine : edges p f from state ≡ Ok out) where
+  -- an edge is a way to where it leads
+  pub edge_way : (n : ℕ) (e : ℕ × TypeState) (s : TypeState) → slice_get out n ≡ Some e → e.0 ≡ to → s ≡ e.1 → IsWayTo p f to (record { origin = Edge from n; state = s })
+  edge_way n e s at there copied =
+      let is : slice_get out n ≡ Some (to, s) = at ∙ ap (λ (k : ℕ). Some (k, e.1)) there ∙ ap (λ (x : TypeState). Some (to, x)) (sym copied) in
+      ((state, (out, (alone.0, fine, is))), (then) from state out alone.0 fine (leads_at out n (to, s) is))
+
+  -- all edges were tested
+  pub all_arrive : (known : Option TypeState) (count : ℕ) → length out ≤ count → AreAlike known to out count → ArriveAlike p f to known from
+  all_arrive known count long tested n s h =
+      let both : Ok out ≡ Ok h.1.0 = sym fine ∙ ap (edges p f from) (sym (alone.1 h.0 h.1.1.0)) ∙ h.1.1.1 in
+      let same : out ≡ h.1.0 = cc in
+      let is : slice_get out n ≡ Some (to, s) = ap (λ (es : List (ℕ × TypeState)). slice_get es n) same ∙ h.1.1.2 in
+      tested n (omega (arith, slice_get_within out n (to, s) is)) s is
+
+-- ---- all ways
 
 -- the beginning of a function
-pub first_way : (p : Program) (f : ℕ) → IsWayTo p f 0 (record { origin = Beginning; state = entry p f })
-first_way p f = ((refl, refl), first)
+pub first_way : (p : Program) (f to : ℕ) (s : TypeState) → to ≡ 0 → s ≡ entry p f → IsWayTo p f to (record { origin = Beginning; state = s })
+first_way p f to s at is = ((at, is), subst (λ (x : TypeState). Reaches (typing p f) to x) (sym is) (subst (λ (k : ℕ). Reaches (typing p f) k (entry p f)) (sym at) first))
 
-nothing : (n k : ℕ) → get_or (replicate {A = Option Way} n None) k None ≡ None
-nothing zero k = refl
-nothing (suc n) zero = refl
-nothing (suc n) (suc k) = nothing n k
+-- if all ways from places before arrive with the typestate `known`, only the first typestate and it
+-- reach the place
+reached_alike : (p : Program) (f to : ℕ) (known : Option TypeState) (s : TypeState) → ((from : ℕ) → from < to → ArriveAlike p f to known from) → Reaches (typing p f) to s → ((to ≡ 0) × (s ≡ entry p f)) ⊎ (known ≡ Some s)
+reached_alike p f to known s alike first = inl (refl, refl)
+reached_alike p f to known s alike (then from before out r e l) =
+    let n = number_of out to s l in
+    inr (alike from (forward p f from before out to s e l) n.0 s (before, (out, (r, e, n.1))))
 
--- no way is kept
-pub no_ways : (p : Program) (f n : ℕ) → AreWays p f (replicate n None)
-no_ways p f n to = subst (λ (o : Option Way). IfSome o (IsWayTo p f to)) (sym (nothing n to)) tt
+-- if none arrives at a later place, no typestate reaches it
+pub first_found : (p : Program) (f to : ℕ) (r : Option Way) → to ≢ 0 → MatchOption r ((from : ℕ) → from < to → ArriveAlike p f to None from) (IsOtherWay p f to None) → MatchOption r (IsReached p f to → ⊥) (IsWayTo p f to)
+first_found p f to (Some w) ne h = h.0
+first_found p f to None ne alike = λ reached. elim (reached_alike p f to None reached.0 alike reached.1) [ inl at ↦ ne at.0 | inr e ↦ absurd (cc) ]
 
--- one more is kept
-pub kept_ways : (p : Program) (f : ℕ) (table : List (Option Way)) (to : ℕ) (w : Way) → AreWays p f table → IsWayTo p f to w → AreWays p f (if is_some (slice_index_or table to None) then table else slice_set table to (Some w))
-kept_ways p f table to w all is = by (is_some (slice_index_or table to None))
-  where
-    at : (k : ℕ) → (k ≡ to) ⊎ (k ≢ to) → (to < length table) ⊎ (length table ≤ to) → IfSome (slice_index_or (slice_set table to (Some w)) k None) (IsWayTo p f k)
-    at k (inl e) (inl lt) =
-        let here : slice_index_or (slice_set table to (Some w)) k None ≡ Some w = ap (λ (j : ℕ). slice_index_or (slice_set table to (Some w)) j None) e ∙ get_or-set_same table to (Some w) None lt in
-        subst (λ o. IfSome o (IsWayTo p f k)) (sym here) (subst (λ (j : ℕ). IsWayTo p f j w) (sym e) is)
-    at k (inl e) (inr le) =
-        let far : length (slice_set table to (Some w)) ≤ k = grind (arith, common_steps) in
-        let none : slice_index_or (slice_set table to (Some w)) k None ≡ None = grind (arith, common_steps) in
-        subst (λ o. IfSome o (IsWayTo p f k)) (sym none) tt
-    at k (inr ne) h = subst (λ o. IfSome o (IsWayTo p f k)) (sym (get_or-set_other table to k (Some w) None ne)) (all k)
+-- only one typestate reaches the first place
+alone_first : (p : Program) (f to : ℕ) (s : TypeState) → to ≡ 0 → Reaches (typing p f) to s → s ≡ entry p f
+alone_first p f to s e first = refl
+alone_first p f to s e (then from before out r g l) = let lt = forward p f from before out to s g l in absurd (omega arith)
 
-    by : (b : Bool) → AreWays p f (cond b table (slice_set table to (Some w)))
-    by true = all
-    by false = λ k. at k (cases_eq k to) (cases_lt to (length table))
-
--- an edge that is read from the list is kept
-pub spread_keeps : (p : Program) (f from : ℕ) (before : TypeState) (out seen : List (ℕ × TypeState)) (n : ℕ) (e : ℕ × TypeState) (s : TypeState) (table : List (Option Way)) → Reaches (typing p f) from before → edges p f from before ≡ Ok out → seen ≡ out → n < length seen → e ≡ get_or seen n e → s ≡ e.1 → AreWays p f table → AreWays p f (if is_some (slice_index_or table e.0 None) then table else slice_set table e.0 (Some (record { origin = Edge from n; state = s })))
-spread_keeps p f from before out seen n e s table r g same lt read is all =
-    let at : slice_get out n ≡ Some e = sym (ap (λ (es : List (ℕ × TypeState)). slice_get es n) same) ∙ slice_get_read seen (length seen) n e refl lt read in
-    kept_ways p f table e.0 (record { origin = Edge from n; state = s }) all
-    (subst (λ (x : TypeState). IsWayTo p f e.0 (record { origin = Edge from n; state = x })) (sym is) (edge_way p f from before out n e r g at))
+-- if no other one arrives, only the typestate of the way reaches the place
+pub alone_there : (p : Program) (f to : ℕ) (w : Way) → IsWayTo p f to w → ((from : ℕ) → from < to → ArriveAlike p f to (Some w.state) from) → IsAlone (typing p f) to w.state
+alone_there p f to w way alike = (
+  way.1,
+  λ s r. elim (reached_alike p f to (Some w.state) s alike r) [
+    | inl begun ↦ begun.1 ∙ sym (alone_first p f to w.state begun.0 way.1)
+    | inr same ↦ sym (same_Some w.state s same)
+  ],
+)

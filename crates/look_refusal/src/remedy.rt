@@ -395,7 +395,8 @@ fn typed_remedy(
     }
 }
 
-fn instr_here(code: &[Instr], pc: u32) -> Instr
+/// The instruction at a place.
+pub(crate) fn instr_here(code: &[Instr], pc: u32) -> Instr
     requires { pc < length code.now }
     ensures { result ≡ instr_at code.now pc }
 {

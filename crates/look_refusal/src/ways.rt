@@ -1,20 +1,19 @@
 //! The ways that arrive at a place, and two of them that differ.
 
-ghost use Rattle.std.specs.Prelude.{◌≡◌, ◌≢◌, ◌<◌, ◌^◌, IfOk, IfSome, MatchOption, None, Some};
-ghost use Rattle.std.specs.Prelude.{if◌then◌else◌, length, slice_set, is_some, slice_index_or};
-ghost use Rattle.std.specs.Prelude.{replicate};
+ghost use Rattle.std.specs.Prelude.{◌≡◌, ◌<◌, ◌↔◌, IfOk, IsTrue, MatchOption, Some, ℕ, length};
 ghost use Rattle.std.specs.Option.{option_copied};
-ghost use Rattle.sts_code.specs.Program.{routine};
 ghost use Rattle.sts_rules.specs.Edges as rules;
-ghost use Rattle.sts_rules.specs.Flow.{Reaches};
+ghost use Rattle.sts_rules.specs.Flow.{IsAlone, Reaches, TurnKeeps};
 ghost use Rattle.sts_rules.specs.Refusal.{IsTypeRefusal, size};
 ghost use Rattle.sts_rules.specs.declared.typing.Cause.TheVariants.{StatesDiffer};
+ghost use Rattle.sts_types.specs.Typing.{IsTypingTo};
 ghost use Rattle.look_refusal.specs.Ways as def;
 
+use crate::remedy::instr_here;
 use std::alloc::{AllocError, Global};
-use sts_code::{Instr, Program, code_of};
-use sts_types::loops::{CodeLoops, Tables};
-use sts_types::{TypeState, edges_with_loops, entry};
+use sts_code::{Program, code_of};
+use sts_types::loops::CodeLoops;
+use sts_types::{TypeState, Typing, back_to, edges_with_loops, entry, typed_before};
 
 /// The place or edge that a way comes from.
 #[derive(Clone, Copy)]
@@ -42,135 +41,89 @@ pub struct Meeting {
     pub other: Way,
 }
 
-/// A table of `count` places without a way.
-fn none(alloc: Global, count: usize) -> Result<Vec<Option<Way>>, AllocError>
-    ensures { IfOk result (λ t. t.items ≡ replicate count None) }
+/// Is this the known typestate?
+fn is_known(known: Option<&TypeState>, state: &TypeState) -> bool
+    ensures { IsTrue result ↔ (option_copied known.entry ≡ Some state.now) }
 {
-    let mut table = Vec::with_capacity(alloc, count)?;
-    for _ in 0..count {
-        table.push(None)?;
-    }
-    Ok(table)
-}
-
-/// Is there a way for the place?
-fn has_way(table: &[Option<Way>], to: usize) -> bool
-    ensures { result ≡ is_some (slice_index_or table.now to None) }
-{
-    match table.get(to) {
-        Some(way) => way.is_some(),
+    match known {
+        Some(known) => known.is_same(state),
         None => false,
     }
 }
 
-/// Keeps a way for the place where it arrives, unless another was kept before.
-fn keep(table: &mut Vec<Option<Way>>, to: u32, way: Way)
-    ensures { table.new.items ≡ (if is_some (slice_index_or table.old.items to None)
-        then table.old.items else slice_set table.old.items to (Some way)) }
-{
-    let to = to as usize;
-    if !has_way(table.as_slice(), to) && to < table.len() {
-        table[to] = Some(way);
-    }
-}
-
-/// Keeps the ways along the edges of the instruction at a place, in this typestate.
-fn spread(
+/// The first way along an edge of an instruction to a place, with a typestate other than `known`.
+fn other_from(
     program: &Program,
     function: u32,
-    loops: &CodeLoops<'_>,
-    pc: u32,
-    state: &TypeState,
-    table: &mut Vec<Option<Way>>,
-)
+    typing: &Typing,
+    from: u32,
+    to: u32,
+    known: Option<&TypeState>,
+) -> Option<Way>
     requires function { function < length program.now.routines }
-    requires loops { loops.now ≡ (routine program.now function).code }
-    requires pc { pc < size program.now function }
-    requires reached { Reaches (rules.typing program.now function) pc state.now }
-    requires ways { def.AreWays program.now function table.old.items }
-    ensures ways { def.AreWays program.now function table.new.items }
-    ensures more { def.KeepsMore pc table.old.items table.new.items }
-    ensures spread { def.IsSpread program.now function pc state.now table.new.items }
+    requires from { from < to }
+    requires to { to < size program.now function }
+    requires typing { IsTypingTo program.now function to typing.now }
+    ensures { MatchOption result
+        (def.ArriveAlike program.now function to (option_copied known.entry) from)
+        (def.IsOtherWay program.now function to (option_copied known.entry)) }
 {
-    if let Ok(edges) = edges_with_loops(program, function, loops, pc, state) {
-        let edges = edges.as_slice();
-        for number in 0..edges.len() {
-            let edge = &edges[number];
-            let way = Way {
-                origin: WayOrigin::Edge(pc, number),
+    let state = typing.state(from as usize);
+    let loops = CodeLoops::with_tables(code_of(program, function as usize), typing.tables());
+    let Ok(edges) = edges_with_loops(program, function, &loops, from, &state) else {
+        return None;
+    };
+    let edges = edges.as_slice();
+    for number in 0..edges.len() {
+        let edge = &edges[number];
+        if edge.0 == to && !is_known(known, &edge.1) {
+            return Some(Way {
+                origin: WayOrigin::Edge(from, number),
                 state: edge.1.copy(),
-            };
-            keep(table, edge.0, way);
+            });
         }
     }
+    None
 }
 
-/// The way that is kept for a place.
-fn way_at(table: &[Option<Way>], pc: u32) -> Option<&Way>
-    ensures { option_copied result ≡ slice_index_or table.now pc None }
-{
-    match table.get(pc as usize) {
-        Some(Some(way)) => Some(way),
-        _ => None,
-    }
-}
-
-fn copy(way: &Way) -> Way
-    ensures { result ≡ way.now }
-{
-    Way {
-        origin: way.origin,
-        state: way.state.copy(),
-    }
-}
-
-/// Keeps the ways along the edges of the instruction at a place that a way is kept for.
-fn spread_from(
+/// The first way to a place from one before it, with a typestate other than `known`.
+fn find_way(
     program: &Program,
     function: u32,
-    loops: &CodeLoops<'_>,
-    pc: u32,
-    table: &mut Vec<Option<Way>>,
-)
+    typing: &Typing,
+    to: u32,
+    known: Option<&TypeState>,
+) -> Option<Way>
     requires function { function < length program.now.routines }
-    requires loops { loops.now ≡ (routine program.now function).code }
-    requires pc { pc < size program.now function }
-    requires ways { def.AreWays program.now function table.old.items }
-    ensures ways { def.AreWays program.now function table.new.items }
-    ensures more { def.KeepsMore pc table.old.items table.new.items }
-    ensures spread { def.IsSpreadFrom program.now function pc table.new.items }
+    requires to { to < size program.now function }
+    requires typing { IsTypingTo program.now function to typing.now }
+    ensures { MatchOption result ((from : ℕ) → from < to
+        → def.ArriveAlike program.now function to (option_copied known.entry) from)
+        (def.IsOtherWay program.now function to (option_copied known.entry)) }
 {
-    let way = match way_at(table.as_slice(), pc) {
-        Some(way) => copy(way),
-        None => return,
-    };
-    spread(program, function, loops, pc, &way.state, table);
+    for from in 0..to {
+        if let Some(way) = other_from(program, function, typing, from, to, known) {
+            return Some(way);
+        }
+    }
+    None
 }
 
-/// The first way that arrives at each place, up to the last place.
-fn first_ways(
-    alloc: Global,
-    program: &Program,
-    function: u32,
-    loops: &CodeLoops<'_>,
-    last: u32,
-) -> Result<Vec<Option<Way>>, AllocError>
+/// The first way that arrives at a place.
+fn first_way(program: &Program, function: u32, typing: &Typing, to: u32) -> Option<Way>
     requires function { function < length program.now.routines }
-    requires loops { loops.now ≡ (routine program.now function).code }
-    requires last { last < size program.now function }
-    ensures { IfOk result (λ t. def.AreWays program.now function t.items
-        × def.AreSpread program.now function last last t.items) }
+    requires to { to < size program.now function }
+    requires typing { IsTypingTo program.now function to typing.now }
+    ensures { MatchOption result (¬ def.IsReached program.now function to)
+        (def.IsWayTo program.now function to) }
 {
-    let mut table = none(alloc, last as usize + 1)?;
-    let way = Way {
-        origin: WayOrigin::Beginning,
-        state: entry(program, function),
-    };
-    keep(&mut table, 0, way);
-    for pc in 0..last {
-        spread_from(program, function, loops, pc, &mut table);
+    if to == 0 {
+        return Some(Way {
+            origin: WayOrigin::Beginning,
+            state: entry(program, function),
+        });
     }
-    Ok(table)
+    find_way(program, function, typing, to, None)
 }
 
 /// The typestate that reaches a place, if no place before it has a cause.
@@ -190,122 +143,42 @@ pub(crate) fn state_at(
     requires clear { def.AreClear program.now function pc }
     ensures { IfOk result (λ s. Reaches (rules.typing program.now function) pc s) }
 {
-    let code = code_of(program, function as usize);
-    let tables = Tables::new(alloc, code)?;
-    let loops = CodeLoops::with_tables(code, &tables);
-    let table = first_ways(alloc, program, function, &loops, pc)?;
-    match way_at(table.as_slice(), pc) {
-        Some(way) => Ok(way.state.copy()),
+    let Some(typing) = typed_before(alloc, program, function, pc)? else {
+        unreachable!()
+    };
+    match first_way(program, function, &typing, pc) {
+        Some(way) => Ok(way.state),
         None => unreachable!(),
     }
 }
 
-/// A way along an edge of an instruction to a place, with a typestate other than `told`.
-fn other_from(
+/// The way to the beginning of the turn that ends at a place, and that turn, if their typestates
+/// differ. No other typestate reaches the place.
+fn turn_at(
     program: &Program,
     function: u32,
-    loops: &CodeLoops<'_>,
-    from: u32,
-    state: &TypeState,
-    to: u32,
-    told: &TypeState,
-) -> Option<Way>
-    requires function { function < length program.now.routines }
-    requires loops { loops.now ≡ (routine program.now function).code }
-    requires from { from < size program.now function }
-    requires reached { Reaches (rules.typing program.now function) from state.now }
-    ensures { MatchOption result
-        (def.LeadsAlike program.now function from state.now to told.now)
-        (λ w. def.Arrives program.now function to w.origin w.state × (w.state ≢ told.now)) }
-{
-    let Ok(edges) = edges_with_loops(program, function, loops, from, state) else {
-        return None;
-    };
-    let edges = edges.as_slice();
-    for number in 0..edges.len() {
-        let edge = &edges[number];
-        if edge.0 == to && !edge.1.is_same(told) {
-            return Some(Way {
-                origin: WayOrigin::Edge(from, number),
-                state: edge.1.copy(),
-            });
-        }
-    }
-    None
-}
-
-/// Two ways that arrive at a place with different typestates.
-fn meeting_at(
-    program: &Program,
-    function: u32,
-    loops: &CodeLoops<'_>,
+    typing: &Typing,
     pc: u32,
-    table: &[Option<Way>],
+    last: &TypeState,
 ) -> Option<Meeting>
     requires function { function < length program.now.routines }
-    requires loops { loops.now ≡ (routine program.now function).code }
     requires pc { pc < size program.now function }
-    requires ways { def.AreWays program.now function table.now }
-    ensures { MatchOption result (def.NoneMeet program.now function pc table.now)
+    requires typing { IsTypingTo program.now function pc typing.now }
+    requires alone { IsAlone (rules.typing program.now function) pc last.now }
+    ensures { MatchOption result (TurnKeeps (rules.typing program.now function) pc last.now)
         (def.Meets program.now function pc) }
 {
-    let one = way_at(table, pc)?;
-    for from in 0..pc {
-        if let Some(way) = way_at(table, from) {
-            if let Some(other) = other_from(
-                program, function, loops, from, &way.state, pc, &one.state,
-            ) {
-                return Some(Meeting {
-                    at: pc,
-                    one: copy(one),
-                    other,
-                });
-            }
-        }
-    }
-    None
-}
-
-/// The place of the beginning of the turn that ends here.
-fn back_to(instr: Instr, state: &TypeState) -> Option<u32>
-    requires { IfSome (rules.back_of instr state.now) (λ q. q < 2 ^ 32) }
-    ensures { result ≡ rules.back_of instr state.now }
-{
-    match instr {
-        Instr::Next => {
-            let innermost = state.loops().get(0)?;
-            Some(innermost.at + 1)
-        }
-        _ => None,
-    }
-}
-
-/// The way to the beginning of a turn, and the turn that ends here, if their typestates differ.
-fn turn_at(program: &Program, function: u32, pc: u32, table: &[Option<Way>]) -> Option<Meeting>
-    requires function { function < length program.now.routines }
-    requires pc { pc < size program.now function }
-    requires ways { def.AreWays program.now function table.now }
-    ensures { MatchOption result (def.TurnsAlike program.now function pc table.now)
-        (def.Meets program.now function pc) }
-{
-    let last = way_at(table, pc)?;
-    let at = back_to(
-        code_of(program, function as usize)[pc as usize],
-        &last.state,
-    )?;
-    let one = way_at(table, at)?;
-    if one.state.is_same(&last.state) {
+    let instr = instr_here(code_of(program, function as usize), pc);
+    let at = back_to(instr, last)?;
+    let one = first_way(program, function, typing, at)?;
+    if one.state.is_same(last) {
         return None;
     }
     let other = Way {
         origin: WayOrigin::Turn(pc),
-        state: last.state.copy(),
+        state: last.copy(),
     };
-    Some(Meeting {
-        at,
-        one: copy(one),
-        other,
-    })
+    Some(Meeting { at, one, other })
 }
 
 /// Two ways that meet with different typestates, at a place or at the beginning of the turn that
@@ -326,12 +199,14 @@ pub fn find_meeting(
         (¬ IsTypeRefusal program.now function pc StatesDiffer)
         (def.Meets program.now function pc)) }
 {
-    let code = code_of(program, function as usize);
-    let tables = Tables::new(alloc, code)?;
-    let loops = CodeLoops::with_tables(code, &tables);
-    let table = first_ways(alloc, program, function, &loops, pc)?;
-    match meeting_at(program, function, &loops, pc, table.as_slice()) {
-        Some(meeting) => Ok(Some(meeting)),
-        None => Ok(turn_at(program, function, pc, table.as_slice())),
+    let Some(typing) = typed_before(alloc, program, function, pc)? else {
+        return Ok(None);
+    };
+    let Some(one) = first_way(program, function, &typing, pc) else {
+        return Ok(None);
+    };
+    match find_way(program, function, &typing, pc, Some(&one.state)) {
+        Some(other) => Ok(Some(Meeting { at: pc, one, other })),
+        None => Ok(turn_at(program, function, &typing, pc, &one.state)),
     }
 }

@@ -15,8 +15,8 @@ pub record Typing : Type 0 where
   pub states : List TypeState
   pub loops : Tables
 
--- the first k places of the function have no cause: each is reached by its typestate and by no other.
--- The tables are those of its code
+-- the first k places of the function have no cause: each is reached by its typestate and by no
+-- other. The tables are those of its code
 pub record IsTypingTo (p : Program) (f k : ℕ) (t : Typing) : Type 0 where
   pub clear : IsAccepted (typing p f) k
   pub long : length t.states ≡ size p f

@@ -1,18 +1,19 @@
-use Rattle.std.proofs.Common.{subst, List, Option}
-use Rattle.std.specs.Prelude.{MatchOption}
-use Rattle.look_refusal.specs.declared.ways.Way.{Way}
-use Rattle.look_refusal.specs.Ways as def
-use Rattle.look_refusal.proofs.MeetingLemmas.{finds}
+use Rattle.std.proofs.Common.{◌≡◌}
+use Rattle.sts_rules.specs.declared.typing.Cause.TheVariants.{StatesDiffer, DeadCode}
+use Rattle.look_refusal.proofs.WayLemmas.{alone_there}
+use Rattle.look_refusal.proofs.MeetingLemmas.{reached_by, finds}
 use Rattle.look_refusal.proofs.ways.find_meeting.Goals as goal
+
+pub returns-in_default-first_way : goal.returns-in_default-first_way
+returns-in_default-first_way c =
+    λ refusal. c.in_default-first_way.ensures {u = tt} (reached_by c.args.program.now c.args.function c.args.pc StatesDiffer
+    (λ e. (let no : StatesDiffer ≡ DeadCode = e in absurd (cc))) refusal.1)
+
+pub turn_at-requires-clause-alone : goal.turn_at-requires-clause-alone
+turn_at-requires-clause-alone c =
+    alone_there c.args.program.now c.args.function c.args.pc c.in-Some-first_way.one c.in-Some-first_way.ensures c.in-None.ensures
 
 pub returns : goal.returns
 returns c =
-    let p = c.args.program.now in
-    let f = c.args.function in
-    let pc = c.args.pc in
-    let table = c.in_ok-table.table.items in
-    let kept : def.AreWays p f table × def.AreSpread p f pc pc table = c.in_ok-table.ensures in
-    finds p f pc table c.turn_at.result kept.0 kept.1
-    (subst (λ (t : List (Option Way)). def.NoneMeet p f pc t) c.as_slice.ensures.value c.in-None.ensures)
-    (subst (λ (t : List (Option Way)). MatchOption c.turn_at.result (def.TurnsAlike p f pc t) (def.Meets p f pc))
-    c.as_slice-in-None.ensures.value c.turn_at.ensures)
+    finds c.args.program.now c.args.function c.args.pc c.in-Some-first_way.one.state (alone_there c.args.program.now c.args.function c.args.pc
+    c.in-Some-first_way.one c.in-Some-first_way.ensures c.in-None.ensures) c.turn_at.result c.turn_at.ensures

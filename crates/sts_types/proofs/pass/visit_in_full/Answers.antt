@@ -22,7 +22,8 @@ none c =
 
 pub returns-in-Err : goal.returns-in-Err
 returns-in-Err c =
-    subst (TellsTo c.args.program.now c.args.function (c.args.pc + 1)) (sym c.refused.ensures) (cause_here (here (goal.at.returns-in-Err c).After-state) c.in-Err.cause
+    subst (TellsTo c.args.program.now c.args.function (c.args.pc + 1)) (sym c.refused.ensures)
+    (cause_here (here (goal.at.returns-in-Err c).After-state) c.in-Err.cause
     (least_is c.args.program.now c.args.function c.args.pc c.args.instr c.args.arrivals.now.state c.state.result.now _ _ c.state.ensures refl
     c.in-Err.ensures))
 
