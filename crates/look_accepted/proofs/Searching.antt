@@ -74,18 +74,14 @@ record Notes (before : List (Option Reliance)) (pc : ℕ) (rule : Option Relianc
 
 notes : (before : List (Option Reliance)) (pc : ℕ) (rule : Option Reliance) → pc < length before → Notes before pc rule (noted before pc rule)
 notes before pc None less = record { long = refl; kept = λ q is. is; here = λ e. cc; only = λ q r e. inl e }
-notes before pc (Some r) less = record { long = length-set before pc (Some r); kept = λ q is. kept q is (cases_eq q pc); here = λ e. ap is_some there; only = λ q s e. only q s e (cases_eq q pc) }
-  where
-    there : slice_index_or (slice_set before pc (Some r)) pc None ≡ Some r
-    there = get_or-set_same before pc (Some r) None less
-
-    kept : (q : ℕ) → is_some (slice_index_or before q None) ≡ true → (q ≡ pc) ⊎ (q ≡ pc → ⊥) → is_some (slice_index_or (slice_set before pc (Some r)) q None) ≡ true
-    kept q is (inl same) = ap (λ (n : ℕ). is_some (slice_index_or (slice_set before pc (Some r)) n None)) same ∙ ap is_some there
-    kept q is (inr other) = ap is_some (get_or-set_other before pc q (Some r) None other) ∙ is
-
-    only : (q : ℕ) (s : Reliance) → slice_index_or (slice_set before pc (Some r)) q None ≡ Some s → (q ≡ pc) ⊎ (q ≡ pc → ⊥) → (slice_index_or before q None ≡ Some s) ⊎ ((q ≡ pc) × (Some r ≡ Some s))
-    only q s e (inl same) = inr (same, sym there ∙ ap (λ (n : ℕ). slice_index_or (slice_set before pc (Some r)) n None) (sym same) ∙ e)
-    only q s e (inr other) = inl (sym (get_or-set_other before pc q (Some r) None other) ∙ e)
+notes before pc (Some r) less =
+    let there = get_or-set_same before pc (Some r) None less in
+    record {
+      long = length-set before pc (Some r);
+      kept = λ q is. elim (cases_eq q pc) [ inl same ↦ simp same (ap is_some there) | inr other ↦ ap is_some (get_or-set_other before pc q (Some r) None other) ∙ is ];
+      here = λ e. ap is_some there;
+      only = λ q s e. elim (cases_eq q pc) [ inl same ↦ inr (same, sym there ∙ (simp same at e)) | inr other ↦ inl (sym (get_or-set_other before pc q (Some r) None other) ∙ e) ];
+    }
 
 no_rule : (n pc : ℕ) → slice_index_or (replicate {A = Option Reliance} n None) pc None ≡ None
 no_rule zero pc = refl

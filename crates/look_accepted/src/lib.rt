@@ -1,8 +1,8 @@
 //! The places where an accepted program relies on a rule that JDK 25 doesn't share, with the line
 //! numbers of its text.
 //!
-//! `point` says where a control path can be, `search` finds all such points of a function, and
-//! `notes` lists the instructions that rely on such a rule.
+//! `point` says where a control path can be, `search` finds all such points of a function with the
+//! rules that they rely on, and `notes` lists the instructions.
 #![tactic(auto)]
 
 mod lines;

@@ -114,7 +114,7 @@ impl Points {
         let places = next_places(instr, point.pc as u32);
         self.add_along(typing, instr, point, places.as_slice())?;
         match by_loop(typing, instr, point) {
-            Some(point) => self.add(point),
+            Some(next) => self.add(next),
             None => Ok(()),
         }
     }

@@ -50,7 +50,8 @@ loop-at-preserved c =
     let x = c.index-point.result.now in
     let same = instr (goal.at.loop-at-preserved c).After-instr_here-instr in
     searched_more c.requires l.at l.points.found.items l.rules.items l.invariant x c.add_next.new.self.found.items c.note.new.rules.items
-    (omega arith) c.index-point.ensures (subst (λ (i : Instr). Adds l.points.found.items (Follows t i x) c.add_next.new.self.found.items) same c.in_ok-add_next.ensures)
+    (omega arith) c.index-point.ensures
+    (subst (λ (i : Instr). Adds l.points.found.items (Follows t i x) c.add_next.new.self.found.items) same c.in_ok-add_next.ensures)
     (c.note.ensures ∙ ap (noted l.rules.items x.pc) (c.relied_on.ensures ∙ ap (λ (i : Instr). relied_on i (state_at t x.pc) x.mark) same))
 
 pub returns : goal.returns

@@ -18,7 +18,8 @@ loop-to-preserved c =
     let old = c.args.self.now.found.items in
     let new = c.add.new.self.found.items in
     subst (λ (xs : List ℕ). Adds old (IsAlong c.args.typing.now c.args.instr c.args.point xs) new) (sym (take_more places i 0 c.loop-to-test.true))
-    (adds_along c.args.typing.now c.args.instr c.args.point (take i places) (get_or places i 0) c.loop-to.invariant (subst (λ (x : Point). Adds c.loop-to.self.found.items (λ y. x ≡ y) new) c.along.ensures c.in_ok-add.ensures))
+    (adds_along c.args.typing.now c.args.instr c.args.point (take i places) (get_or places i 0) c.loop-to.invariant
+    (subst (λ (x : Point). Adds c.loop-to.self.found.items (λ y. x ≡ y) new) c.along.ensures c.in_ok-add.ensures))
 
 pub returns : goal.returns
 returns c = subst (λ (xs : List ℕ). Adds c.args.self.now.found.items (IsAlong c.args.typing.now c.args.instr c.args.point xs) c.loop-to.self.found.items)

@@ -18,8 +18,10 @@ first c = subst (λ (xs : List ℕ). Adds c.args.self.now.found.items (IsAlong c
     (c.as_slice.ensures.value ∙ c.next_places-places.ensures) c.in_ok-add_along.ensures
 
 pub returns-in-Some : goal.returns-in-Some
-returns-in-Some c = on_ok_weaker c.add.result (λ g. adds_both (first (goal.at.returns-in-Some c).After-by_loop) g (λ y. elim [ inl a ↦ inl a | inr e ↦ inr (cc) ]) (λ y. elim [ inl a ↦ inl a | inr e ↦ inr (cc) ])) c.add.ensures
+returns-in-Some c = on_ok_weaker c.add.result (λ g. adds_both (first (goal.at.returns-in-Some c).After-by_loop) g
+    (λ y. elim [ inl a ↦ inl a | inr e ↦ inr (cc) ]) (λ y. elim [ inl a ↦ inl a | inr e ↦ inr (cc) ])) c.add.ensures
 
 pub returns-in-None : goal.returns-in-None
-returns-in-None c = adds_both (first (goal.at.returns-in-None c).After-by_loop) (adds_none _ (λ (y : Point). c.by_loop.result ≡ Some y) (λ y e. cc)) (λ y. elim [ inl a ↦ inl a | inr e ↦ inr (cc) ])
+returns-in-None c = adds_both (first (goal.at.returns-in-None c).After-by_loop) (adds_none _ (λ (y : Point). c.by_loop.result ≡ Some y) (λ y e. cc))
+    (λ y. elim [ inl a ↦ inl a | inr e ↦ inr (cc) ])
     (λ y. elim [ inl a ↦ inl a | inr e ↦ inr (cc) ])
