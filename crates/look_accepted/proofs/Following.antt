@@ -1,4 +1,4 @@
--- What follows a node is what follows its point, with the typestates of the typing.
+-- The nodes after a node are those of the points after its point, with the typestates of the typing.
 use Rattle.std.proofs.Common.{◌≡◌, ℕ, ◌+◌, ◌<◌, ◌≤◌, ◌⊎◌, inl, inr, List, ◌++◌, length, get_or, Option, Some, None, Ok, option_map, option_to_list, slice_get, refl, sym, ap, ◌∙◌, subst, arith}
 use Rattle.std.specs.Prelude.{slice_index_or}
 use Rattle.std.proofs.lemmas.Option.{slice_get-map}

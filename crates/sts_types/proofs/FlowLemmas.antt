@@ -1,4 +1,4 @@
--- What the typestates that are reached in a well-typed function lead to.
+-- Edges and turns of a well-typed function, from the typestates that are reached.
 use Rattle.std.proofs.Common.{◌≡◌, ℕ, ◌<◌, Some, Ok, sym, ap, ◌∙◌, subst, arith}
 use Rattle.sts_code.specs.Program.{Program, routine, instr_at}
 use Rattle.sts_rules.specs.Edges.{edges, follows, typing}
