@@ -6,7 +6,6 @@ use Rattle.ends_plain.specs.Ends.{AreAll}
 use Rattle.ends_plain.specs.Listed.{AreEnds, ends_of}
 use Rattle.ends_plain.specs.declared.config.Found.{Found}
 use Rattle.ends_plain.specs.declared.config.Setting.{Setting}
-use Rattle.sts_asm.specs.Text.{judged}
 use Rattle.sts_asm.specs.declared.fault.AsmError.{AsmError}
 use Rattle.sts_code.specs.Program.{Program}
 use Rattle.sts_output.specs.Output.{Output}
@@ -48,11 +47,12 @@ calls_of form text g number is_refused r l sound unsearched verdict printed = re
 }
 
 -- the listing of the program of a text that was read
-pub program_lists : {E : Type 0} (form : EndsForm) (read told : Result Program AsmError) (text : List ℕ) (wanted : EndsOptions) (number : Option ℕ) (p : Program) (r : Result Listing E)
-    → read ≡ told → read ≡ Ok p → IfOk r (ListsBy form wanted.manner text (setting p wanted) number) → IfOk r (ListsIn form told text wanted number)
-program_lists form read told text wanted number p r same is h =
-    IfOk-weaker r (ListsBy form wanted.manner text (setting p wanted) number) (ListsIn form told text wanted number)
-    (λ l k. subst (λ (j : Result Program AsmError). ListsIn form j text wanted number l) (sym is ∙ same) k) h
+pub program_lists : {E : Type 0} (form : EndsForm) (read told : Result Program AsmError) (named text : List ℕ) (wanted : EndsOptions) (number : Option ℕ) (p : Program) (r : Result Listing E)
+    → read ≡ told → named ≡ text → read ≡ Ok p → IfOk r (ListsBy form wanted.manner named (setting p wanted) number) → IfOk r (ListsIn form told text wanted number)
+program_lists form read told named text wanted number p r same names is h =
+    IfOk-weaker r (ListsBy form wanted.manner named (setting p wanted) number) (ListsIn form told text wanted number)
+    (λ l k. subst (λ (j : Result Program AsmError). ListsIn form j text wanted number l) (sym is ∙ same)
+    (subst (λ (t : List ℕ). ListsBy form wanted.manner t (setting p wanted) number l) names k)) h
 
 -- the output for a fault of a text, alone, is its listing
 pub fault_lists : (form : EndsForm) (read told : Result Program AsmError) (text : List ℕ) (wanted : EndsOptions) (number : Option ℕ) (o : Output) (l : Listing) → read ≡ told → l ≡ alone o → IsFaultIn form read text o → ListsIn form told text wanted number l
