@@ -14,6 +14,6 @@ pub returns-in-Err-Shown : goal.returns-in-Err-Shown
 returns-in-Err-Shown g c =
     let form = g.F.EndsForm.shows c.args.form.now in
     let text = c.args.text.now in
-    let fault = subst (λ e. Says (IsFaultIn form _ text) e) c.in-Err-Shown.field-0-is c.in-Err-Shown.ensures in
+    let fault = subst (λ e. Says (IsFaultIn form c.in_ok-names.field-0.program text) e) c.in-Err-Shown.field-0-is c.in-Err-Shown.ensures in
     let only = rw c.in-Err-Shown.field-0-is at c.alone.ensures in
     fault_lists form _ _ text c.args.wanted c.args.number c.in-Err-Shown.output c.alone.result c.in_ok-names.ensures.program only fault

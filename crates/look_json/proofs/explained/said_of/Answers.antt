@@ -8,4 +8,4 @@ of_judged-requires-clause-refusal c = (judged_right _ _ c.in_ok-judge-in-Ok.ensu
 
 pub of_judged-requires-clause-program : goal.of_judged-requires-clause-program
 of_judged-requires-clause-program c =
-    sym c.in_ok-read.ensures.program ∙ c.in-Ok.is ∙ ap (λ (p : Program). Ok p) (sym (judged_right _ _ c.in_ok-judge-in-Ok.ensures).0)
+    sym c.in_ok-outline.ensures.program ∙ c.in-Ok.is ∙ ap (λ (p : Program). Ok p) (sym (judged_right _ _ c.in_ok-judge-in-Ok.ensures).0)
