@@ -382,7 +382,7 @@ impl<'n, 't> Form for Picture<'n, 't> {
     }
 }
 
-fn drawing(
+fn of_text(
     alloc: Global,
     options: DrawOptions,
     files: Option<FileNames<'_>>,
@@ -427,5 +427,5 @@ pub fn draw<W: io::Write>(
     ensures fault { IfOk result (λ s. s ≡ 3
         → KeepsFault (judged text.now) assembled.old assembled.new) }
 {
-    write_shown(drawing(alloc, options, files, text, trace, assembled), out)
+    write_shown(of_text(alloc, options, files, text, trace, assembled), out)
 }
