@@ -19,11 +19,12 @@ use ends_plain::sample::{Sampling, sample_ends};
 use ends_whole::EndsByCalls;
 use look_end_lines::{Answer, EndLines, EndsForm, Sampled, Searched, found_at, has_number};
 use look_host::Progress;
-use look_names::{Names, ReadText, read_text};
+use look_names::Names;
 use look_options::{EndsOptions, Limits, Manner};
 use look_run::Told;
 use std::alloc::{AllocError, Global};
 use std::marker::Model;
+use sts_asm::{Source, read};
 use sts_code::Program;
 use sts_model::Event;
 use sts_output::{Output, Stopped};
@@ -268,9 +269,12 @@ pub fn listed_in<F: EndsForm, P: Progress>(
     ensures { IfOk result
         (def.ListsIn (F.shows form.now) (judged text.now) text.now wanted number) }
 {
-    let ReadText { names, program } = read_text(alloc, text)?;
+    let Source { outline, program } = read(alloc, text)?;
     match form.program_of(alloc, program, text) {
-        Ok(program) => of_program(alloc, form, program, wanted, number, &names, progress),
+        Ok(program) => {
+            let names = Names::new(alloc, text, outline)?;
+            of_program(alloc, form, program, wanted, number, &names, progress)
+        }
         Err(Stopped::Shown(output)) => Ok(alone(alloc, output)),
         Err(Stopped::Memory) => Err(AllocError),
     }

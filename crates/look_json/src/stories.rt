@@ -12,12 +12,13 @@ ghost use Rattle.look_json.specs.Stories as def;
 use crate::asked::StoryOf;
 use crate::explained::with_status;
 use crate::lines::said;
-use look_names::{Names, ReadText, read_text};
+use look_names::Names;
 use look_refusal::whole;
 use look_tell::story_of_program;
 use look_views::{faulty_text, faulty_trace};
 use std::alloc::{AllocError, Global};
 use std::io::Write;
+use sts_asm::{Source, read};
 use sts_code::Program;
 use sts_model::Event;
 use sts_output::{Assembled, Output, Status, Stopped, write_shown};
@@ -80,9 +81,12 @@ fn told(alloc: Global, asked: StoryOf<'_>, assembled: &mut Assembled) -> Result<
         (judged asked.entry.text.now) asked.entry.text.now asked.entry.trace.now) }
     ensures fault { Keeps result (judged asked.entry.text.now) assembled.old assembled.new }
 {
-    let ReadText { names, program } = read_text(alloc, asked.text)?;
+    let Source { outline, program } = read(alloc, asked.text)?;
     match program {
-        Ok(program) => Ok(of_trace(alloc, asked, &names, &program)?),
+        Ok(program) => {
+            let names = Names::new(alloc, asked.text, outline)?;
+            Ok(of_trace(alloc, asked, &names, &program)?)
+        }
         Err(error) => {
             let line = faulty_text(alloc, error)?;
             *assembled = Assembled::Fault(error);

@@ -1,18 +1,18 @@
 //! What is shown of a text and a trace, in any form.
 
 ghost use Rattle.std.specs.Prelude.{◌≡◌, IfOk};
-ghost use Rattle.sts_asm.specs.Fault.{IsJudged};
 ghost use Rattle.sts_asm.specs.Text.{judged};
 ghost use Rattle.sts_trace.specs.Reading.{trace_read};
 ghost use Rattle.sts_output.specs.Output.{Output as AnyOutput, Writes};
-ghost use Rattle.sts_output.specs.Kept.{KeepsFault, KeepsProgram};
+ghost use Rattle.sts_output.specs.Kept.{KeepsFault};
 ghost use Rattle.sts_output.specs.Stops.{Keeps, Prints};
+ghost use Rattle.sts_output.specs.declared.assembled.Assembled.TheVariants.{Program as Kept};
 ghost use Rattle.look_lines.specs.Form as def;
 
 use crate::form::{Form, Run};
 use std::alloc::{AllocError, Global};
 use std::io::Write;
-use sts_asm::{AsmError, Source, read};
+use sts_asm::{Source, read};
 use sts_code::Program;
 use sts_output::{Assembled, Output, Status, Stopped, write_shown};
 use sts_trace::read_trace;
@@ -39,8 +39,8 @@ fn traced<F: Form>(
     }
 }
 
-/// Reads the trace, and returns what is shown of the run of the program that was read, or of the
-/// fault of its text or of the trace. `assembled` gets the program, or the fault of the text.
+/// Reads the trace, and returns what is shown of the run of the program, or of the fault of the
+/// trace. `assembled` gets the program.
 ///
 /// # Errors
 ///
@@ -48,27 +48,17 @@ fn traced<F: Form>(
 pub fn shown<F: Form>(
     alloc: Global,
     form: &F,
-    read: Result<Program, AsmError>,
+    program: Program,
     trace: &[u8],
     assembled: &mut Assembled,
 ) -> Result<Output, AllocError>
-    requires { IsJudged read }
-    ensures shown { IfOk result (λ o. o ≡ def.text_output (F.shows form.now) read trace.now) }
-    ensures fault { IfOk result (λ _. KeepsFault read assembled.old assembled.new) }
-    ensures program { IfOk result (λ _. KeepsProgram read assembled.new) }
+    ensures shown { IfOk result (λ o. o
+        ≡ def.traced_output (F.shows form.now) program (trace_read trace.now)) }
+    ensures program { IfOk result (λ _. assembled.new ≡ Kept program) }
 {
-    match read {
-        Ok(program) => {
-            let shown = traced(alloc, form, &program, trace)?;
-            *assembled = Assembled::Program(program);
-            Ok(shown)
-        }
-        Err(error) => {
-            let shown = form.of_text_fault(alloc, error)?;
-            *assembled = Assembled::Fault(error);
-            Ok(shown)
-        }
-    }
+    let shown = traced(alloc, form, &program, trace)?;
+    *assembled = Assembled::Program(program);
+    Ok(shown)
 }
 
 fn shown_of_text<F: Form>(
@@ -83,7 +73,14 @@ fn shown_of_text<F: Form>(
     ensures fault { Keeps result (judged text.now) assembled.old assembled.new }
 {
     let Source { program, .. } = read(alloc, text)?;
-    Ok(shown(alloc, form, program, trace, assembled)?)
+    match program {
+        Ok(program) => Ok(shown(alloc, form, program, trace, assembled)?),
+        Err(error) => {
+            let shown = form.of_text_fault(alloc, error)?;
+            *assembled = Assembled::Fault(error);
+            Ok(shown)
+        }
+    }
 }
 
 /// Writes what is shown of a text and a trace, in a form without names, and returns the status.

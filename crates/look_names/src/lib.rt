@@ -5,5 +5,5 @@ mod marked;
 mod names;
 mod words;
 
-pub use names::{Names, ReadText, read_text};
+pub use names::Names;
 pub use words::{Said, say_arguments, say_function, say_line, say_place, say_sentence, say_value};

@@ -3,9 +3,7 @@
 ghost use Rattle.std.specs.Prelude.{◌≡◌, IfOk, ℤ, filter, map, option_copied, option_map};
 ghost use Rattle.std.specs.BTreeMap.{get};
 ghost use Rattle.std.specs.Ordering.{int_cmp};
-ghost use Rattle.sts_asm.specs.Fault.{IsJudged};
 ghost use Rattle.sts_asm.specs.Source.{sentence_at};
-ghost use Rattle.sts_asm.specs.Text.{judged};
 ghost use Rattle.sts_text.specs.Words.{lines};
 ghost use Rattle.look_names.specs.Marked as marks;
 ghost use Rattle.look_names.specs.Names as def;
@@ -14,8 +12,7 @@ use crate::marked::{begins_function, name_in, value_in};
 use std::alloc::{AllocError, Global};
 use std::collections::BTreeMap;
 use std::marker::Model;
-use sts_asm::{AsmError, Outline, Sentence, Source, read};
-use sts_code::Program;
+use sts_asm::{Outline, Sentence};
 use sts_text::cut_at_newline;
 
 /// The functions of a text with their lines, and the names that its marked comments give. To
@@ -47,29 +44,6 @@ impl<'t> Model for Names<'t> {
         ≡ map name_in (filter begins_function (lines_of n.text.now)))
         × ((v : ℤ) → option_map (λ s. s.now) (get int_cmp n.values v) ≡ value_name n.text.now v)
         × (n.outline ≡ outline_of n.text.now) };
-}
-
-/// A text that was read.
-#[derive(Drop)]
-pub struct ReadText<'t> {
-    pub names: Names<'t>,
-    /// The program that the text spells, or its first fault. Running out of memory is no fault.
-    pub program: Result<Program, AsmError>,
-}
-
-/// Reads a text: its lines and its names, also if it has a fault, and its program.
-///
-/// # Errors
-///
-/// Memory ran out.
-pub fn read_text<'t>(alloc: Global, text: &'t [u8]) -> Result<ReadText<'t>, AllocError>
-    ensures names { IfOk result (λ r. r.names ≡ text.now) }
-    ensures program { IfOk result (λ r. r.program ≡ judged text.now) }
-    ensures fault { IfOk result (λ r. IsJudged r.program) }
-{
-    let Source { outline, program } = read(alloc, text)?;
-    let names = Names::with_outline(alloc, text, outline)?;
-    Ok(ReadText { names, program })
 }
 
 /// Returns the lines of a text.
@@ -136,12 +110,13 @@ fn value_names<'t>(
 }
 
 impl<'t> Names<'t> {
-    /// The names of a text, and its functions with their lines.
-    fn with_outline(
-        alloc: Global,
-        text: &'t [u8],
-        outline: Outline<'t>,
-    ) -> Result<Names<'t>, AllocError>
+    /// Returns the names of a text, also of one with a fault. `outline` has its functions with their
+    /// lines, or none if a line has a fault.
+    ///
+    /// # Errors
+    ///
+    /// Memory ran out.
+    pub fn new(alloc: Global, text: &'t [u8], outline: Outline<'t>) -> Result<Names<'t>, AllocError>
         requires { outline ≡ def.outline_of text.now }
         ensures { IfOk result (λ n. n ≡ text.now) }
     {

@@ -22,13 +22,13 @@ use look_drawing::{
     keys, left_out, maybe_column, shown_events,
 };
 use look_lines::{Applied, Form, Run, Said, Watch, after, shown};
-use look_names::{Names, ReadText, read_text};
+use look_names::Names;
 use look_options::DrawOptions;
 use look_run::say_end;
 use look_tell::{Story, Told};
 use std::alloc::{AllocError, Global};
 use std::io;
-use sts_asm::AsmError;
+use sts_asm::{AsmError, Source, read};
 use sts_code::Program;
 use sts_model::{End, Event};
 use sts_output::{
@@ -395,13 +395,23 @@ fn of_text(
         trace.now) }
     ensures fault { Keeps result (judged text.now) assembled.old assembled.new }
 {
-    let ReadText { names, program } = read_text(alloc, text)?;
-    let form = Picture {
-        options,
-        files,
-        names: &names,
-    };
-    Ok(shown(alloc, &form, program, trace, assembled)?)
+    let Source { outline, program } = read(alloc, text)?;
+    match program {
+        Ok(program) => {
+            let names = Names::new(alloc, text, outline)?;
+            let form = Picture {
+                options,
+                files,
+                names: &names,
+            };
+            Ok(shown(alloc, &form, program, trace, assembled)?)
+        }
+        Err(error) => {
+            let shown = text_fault(alloc, error)?;
+            *assembled = Assembled::Fault(error);
+            Ok(shown)
+        }
+    }
 }
 
 /// Writes the picture of a text's run of a trace, and returns the status. The heading has the names

@@ -5,13 +5,15 @@ ghost use Rattle.std.specs.List.{before_first, position};
 ghost use Rattle.sts_output.specs.Output as cli;
 ghost use Rattle.sts_output.specs.Stops.{Prints};
 ghost use Rattle.sts_text.specs.Words.{lines};
+ghost use Rattle.look_names.specs.Names.{outline_of};
 ghost use Rattle.look_places.specs.Named as def;
 
-use look_names::{Names, ReadText, Said, read_text};
+use look_names::{Names, Said};
 use look_refusal::explained_by;
 use look_text::say;
 use std::alloc::{AllocError, Global};
 use std::io::Write;
+use sts_asm::{Outline, Source, read};
 use sts_output::{Output, Status, Stopped, write_shown};
 use sts_text::{Words, cut_at_newline, digits_up_to};
 
@@ -142,22 +144,28 @@ fn named(alloc: Global, names: &Names<'_>, told: &Output) -> Result<Output, Allo
 }
 
 /// An explanation with names; a fault of the text has none.
-fn named_if(alloc: Global, names: &Names<'_>, told: Output) -> Result<Output, AllocError>
-    ensures { IfOk result (λ o. o ≡ def.named names.now told) }
+fn named_if<'t>(
+    alloc: Global,
+    text: &'t [u8],
+    outline: Outline<'t>,
+    told: Output,
+) -> Result<Output, AllocError>
+    requires { outline ≡ outline_of text.now }
+    ensures { IfOk result (λ o. o ≡ def.named text.now told) }
 {
     if told.status == FAULTY {
-        Ok(told)
-    } else {
-        named(alloc, names, &told)
+        return Ok(told);
     }
+    let names = Names::new(alloc, text, outline)?;
+    named(alloc, &names, &told)
 }
 
 fn named_of(alloc: Global, text: &[u8]) -> Result<Output, Stopped>
     ensures { Prints result (def.IsNamed text.now) }
 {
-    let ReadText { names, program } = read_text(alloc, text)?;
-    let told = explained_by(alloc, names.outline(), program, text)?;
-    Ok(named_if(alloc, &names, told)?)
+    let Source { outline, program } = read(alloc, text)?;
+    let told = explained_by(alloc, &outline, program, text)?;
+    Ok(named_if(alloc, text, outline, told)?)
 }
 
 /// Writes what is wrong with a text, if anything is, with the names of the lines that it mentions,

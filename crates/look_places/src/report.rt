@@ -14,12 +14,12 @@ ghost use Rattle.look_places.specs.Reports as def;
 use crate::faults::{Finding, Problem, fault_line};
 use crate::marks::Source;
 use look_accepted::all_notes;
-use look_names::{ReadText, read_text};
+use look_names::Names;
 use look_refusal::refused as explained;
 use look_text::fault_lines;
 use std::alloc::{AllocError, Global};
 use std::io::Write;
-use sts_asm::AsmError;
+use sts_asm::{AsmError, read};
 use sts_code::Program;
 use sts_output::{Output, Refusal, Status, Stopped, judge, write_shown};
 use sts_verify::Verified;
@@ -146,7 +146,8 @@ fn report(alloc: Global, file: &str, text: &[u8]) -> Result<Output, Stopped>
     ensures { Prints result (def.Reports (record { file = file.now; text = text.now })
         (judged text.now)) }
 {
-    let ReadText { names, program } = read_text(alloc, text)?;
+    let sts_asm::Source { outline, program } = read(alloc, text)?;
+    let names = Names::new(alloc, text, outline)?;
     let source = Source::new(file, text, &names);
     Ok(reported(alloc, &source, program)?)
 }

@@ -10,10 +10,11 @@ ghost use Rattle.look_run.specs.Output as def;
 use crate::states::Told;
 use crate::traces::trace_fault;
 use look_lines::{Watch, after};
-use look_names::{Names, ReadText, read_text};
+use look_names::Names;
 use look_refusal::{Made, program_of};
 use std::alloc::Global;
 use std::io::Write;
+use sts_asm::{Source, read};
 use sts_code::Program;
 use sts_output::{Assembled, Output, Status, Stopped, state_status, write_shown};
 use sts_trace::read_trace;
@@ -58,8 +59,9 @@ fn explanation(
 ) -> Result<Output, Stopped>
     ensures { Prints result (def.Explains (judged text.now) text.now trace.now) }
 {
-    let ReadText { names, program } = read_text(alloc, text)?;
+    let Source { outline, program } = read(alloc, text)?;
     let program = program_of(alloc, program, text)?;
+    let names = Names::new(alloc, text, outline)?;
     let output = of_trace(alloc, &names, &program, trace)?;
     *assembled = Assembled::Program(program);
     Ok(output)

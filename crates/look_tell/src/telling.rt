@@ -10,12 +10,13 @@ ghost use Rattle.look_tell.specs.Telling as def;
 use crate::line::say_events;
 use crate::story::Story;
 use crate::words::Told;
-use look_names::{Names, ReadText, read_text};
+use look_names::Names;
 use look_options::TellOptions;
 use look_refusal::{Made, program_of};
 use look_run::trace_fault;
 use std::alloc::Global;
 use std::io::Write;
+use sts_asm::{Source, read};
 use sts_code::Program;
 use sts_model::Event;
 use sts_output::{Output, Status, Stopped, state_status, write_shown};
@@ -112,8 +113,9 @@ fn story_of(
 ) -> Result<Output, Stopped>
     ensures { Prints result (def.Tells options (judged text.now) text.now trace.now) }
 {
-    let ReadText { names, program } = read_text(alloc, text)?;
+    let Source { outline, program } = read(alloc, text)?;
     let program = program_of(alloc, program, text)?;
+    let names = Names::new(alloc, text, outline)?;
     Ok(story_of_program(alloc, options, &program, &names, trace)?)
 }
 

@@ -11,11 +11,11 @@ ghost use Rattle.look_view.specs.View as def;
 
 use crate::named::Named;
 use look_lines::{Form, Run, lines_output, shown};
-use look_names::{Names, ReadText, read_text};
+use look_names::Names;
 use look_options::ViewOptions;
 use std::alloc::{AllocError, Global};
 use std::io;
-use sts_asm::AsmError;
+use sts_asm::{AsmError, Source, read};
 use sts_output::{Assembled, Output, Status, Stopped, text_fault, trace_fault, write_shown};
 use sts_trace::TraceError;
 
@@ -53,12 +53,22 @@ fn view(
         ≡ text_output (def.named_form text.now wanted) (judged text.now) trace.now) }
     ensures fault { Keeps result (judged text.now) assembled.old assembled.new }
 {
-    let ReadText { names, program } = read_text(alloc, text)?;
-    let form = ViewOfText {
-        wanted,
-        names: &names,
-    };
-    Ok(shown(alloc, &form, program, trace, assembled)?)
+    let Source { outline, program } = read(alloc, text)?;
+    match program {
+        Ok(program) => {
+            let names = Names::new(alloc, text, outline)?;
+            let form = ViewOfText {
+                wanted,
+                names: &names,
+            };
+            Ok(shown(alloc, &form, program, trace, assembled)?)
+        }
+        Err(error) => {
+            let shown = text_fault(alloc, error)?;
+            *assembled = Assembled::Fault(error);
+            Ok(shown)
+        }
+    }
 }
 
 /// Writes the view of a text's run of a trace, with the lines and the names of the text, and returns

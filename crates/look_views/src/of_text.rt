@@ -18,12 +18,12 @@ ghost use Rattle.look_views.specs.Views as def;
 use crate::views::{JsonViews, VERSION, push_line};
 use look_cases::{Made, Scalar, object_of, text_fault, trace_fault, with_member};
 use look_lines::{Form, Run, shown, view_output};
-use look_names::{Names, ReadText, read_text};
+use look_names::Names;
 use look_options::ViewOptions;
 use serde_json::Value;
 use std::alloc::{AllocError, Global};
 use std::io::Write;
-use sts_asm::AsmError;
+use sts_asm::{AsmError, Source, read};
 use sts_output::{Assembled, Output, Status, Stopped, write_shown};
 use sts_trace::TraceError;
 
@@ -128,12 +128,22 @@ fn views(
         ≡ text_output (def.json_form text.now wanted) (judged text.now) trace.now) }
     ensures fault { Keeps result (judged text.now) assembled.old assembled.new }
 {
-    let ReadText { names, program } = read_text(alloc, text)?;
-    let form = ViewsOfText {
-        wanted,
-        names: &names,
-    };
-    Ok(shown(alloc, &form, program, trace, assembled)?)
+    let Source { outline, program } = read(alloc, text)?;
+    match program {
+        Ok(program) => {
+            let names = Names::new(alloc, text, outline)?;
+            let form = ViewsOfText {
+                wanted,
+                names: &names,
+            };
+            Ok(shown(alloc, &form, program, trace, assembled)?)
+        }
+        Err(error) => {
+            let shown = faulty_text(alloc, error)?;
+            *assembled = Assembled::Fault(error);
+            Ok(shown)
+        }
+    }
 }
 
 /// Writes the views of a text's run of a trace as lines of JSON, with the names of the text, and

@@ -2,7 +2,7 @@ use Rattle.std.proofs.Common.{ap, ◌∙◌, map}
 use Rattle.std.specs.Prelude.{filter}
 use Rattle.look_names.specs.Marked.{begins_function, name_in}
 use Rattle.look_names.specs.Names.{value_among}
-use Rattle.look_names.proofs.names.Names.with_outline.Goals as goal
+use Rattle.look_names.proofs.names.Names.new.Goals as goal
 
 pub invariant_of-result : goal.invariant_of-result
 invariant_of-result c =
