@@ -130,13 +130,20 @@ fn with_names(alloc: Global, names: &Names<'_>, told: &[u8]) -> Result<Vec<u8>, 
 }
 
 /// An explanation with names.
-fn named(alloc: Global, names: &Names<'_>, told: &Output) -> Result<Output, AllocError>
+fn named<'t>(
+    alloc: Global,
+    text: &'t [u8],
+    outline: Outline<'t>,
+    told: &Output,
+) -> Result<Output, AllocError>
+    requires { outline ≡ outline_of text.now }
     ensures { IfOk result (λ o. o ≡ record {
-      bytes = def.named_lines names.now (lines told.now.bytes);
+      bytes = def.named_lines text.now (lines told.now.bytes);
       status = told.now.status;
     }) }
 {
-    let bytes = with_names(alloc, names, told.bytes.as_slice())?;
+    let names = Names::new(alloc, text, outline)?;
+    let bytes = with_names(alloc, &names, told.bytes.as_slice())?;
     Ok(Output {
         bytes,
         status: told.status,
@@ -154,10 +161,10 @@ fn named_if<'t>(
     ensures { IfOk result (λ o. o ≡ def.named text.now told) }
 {
     if told.status == FAULTY {
-        return Ok(told);
+        Ok(told)
+    } else {
+        named(alloc, text, outline, &told)
     }
-    let names = Names::new(alloc, text, outline)?;
-    named(alloc, &names, &told)
 }
 
 fn named_of(alloc: Global, text: &[u8]) -> Result<Output, Stopped>

@@ -3,8 +3,8 @@ use Rattle.sts_asm.proofs.TextLemmas.{told_fault}
 use Rattle.sts_code.specs.Program.{Program}
 use Rattle.look_lines.proofs.of_text.shown_of_text.Goals as goal
 
-pub returns-clause-output : goal.returns-clause-output
-returns-clause-output g c =
+pub returns-in_ok-shown-in-Err-clause-output : goal.returns-in_ok-shown-in-Err-clause-output
+returns-in_ok-shown-in-Err-clause-output g c =
     let fault = rw c.in-Err.is at c.in_ok-program.ensures.fault in
     let told = c.in_ok-shown-in-Err.ensures (Err c.in-Err.error) (told_fault Program c.in-Err.error fault) in
     rw (sym c.in_ok-program.ensures.program ∙ c.in-Err.is) told.1

@@ -1,10 +1,5 @@
-use Rattle.std.proofs.Common.{ℕ, List, inl, ap, ◌∙◌}
-use Rattle.look_places.specs.Named.{named}
+use Rattle.std.proofs.Common.{inl}
 use Rattle.look_places.proofs.named.named_of.Goals as goal
 
 pub returns : goal.returns
-returns c = record {
-  explained = c.in_ok-told.told;
-  words = inl c.in_ok-told.ensures;
-  printed = c.in_ok-named_if.ensures ∙ ap (λ (text : List ℕ). named text c.in_ok-told.told) c.in_ok-names.ensures.names;
-}
+returns c = record { explained = c.in_ok-told.told; words = inl c.in_ok-told.ensures; printed = c.in_ok-named_if.ensures }
