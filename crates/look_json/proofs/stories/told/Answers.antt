@@ -5,6 +5,6 @@ use Rattle.look_json.proofs.stories.told.Goals as goal
 
 pub returns-clause-output : goal.returns-clause-output
 returns-clause-output c =
-    let fault = rw c.in-Err.is at c.in_ok-names.ensures.fault in
+    let fault = rw c.in-Err.is at c.in_ok-outline.ensures.fault in
     let told = c.in_ok-line-in-Err.ensures (Err c.in-Err.error) (told_fault Program c.in-Err.error fault) in
-    rw (sym c.in_ok-names.ensures.program ∙ c.in-Err.is) told.1
+    rw (sym c.in_ok-outline.ensures.program ∙ c.in-Err.is) told.1

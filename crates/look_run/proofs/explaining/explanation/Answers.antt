@@ -18,4 +18,4 @@ returns-in_err-program c =
     let text = c.args.text.now in
     let p = err_from_is_err_and c.from_residual-in_err-program.result c.from_residual-in_err-program.ensures.1 in
     rw (p.1, p.2) (says_less c.in_err-program.field-0.0 (IsTextFault _ text) (def.Explains (judged text) text c.args.trace.now)
-    (fault_explains _ (judged text) text c.args.trace.now c.in_ok-names.ensures.program) c.in_err-program.ensures)
+    (fault_explains _ (judged text) text c.args.trace.now c.in_ok-outline.ensures.program) c.in_err-program.ensures)
