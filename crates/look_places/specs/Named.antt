@@ -50,11 +50,12 @@ named_if text (b ∷ bs) = named_line text (b ∷ bs)
 abbrev pub named_lines : List ℕ → List (List ℕ) → List ℕ
 named_lines text told = flat_map (named_if text) told
 
+abbrev pub with_names : List ℕ → Output → Output
+with_names text o = record { bytes = named_lines text (lines o.bytes); status = o.status }
+
 -- a fault of the text is shown as it is
 abbrev pub named : List ℕ → Output → Output
-named text o =
-    if o.status == 3 then o
-    else record { bytes = named_lines text (lines o.bytes); status = o.status }
+named text o = if o.status == 3 then o else with_names text o
 
 -- an explanation, with the names of the lines that it mentions
 pub record IsNamed (text : List ℕ) (output : Output) : Type 0 where

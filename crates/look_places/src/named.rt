@@ -129,7 +129,18 @@ fn with_names(alloc: Global, names: &Names<'_>, told: &[u8]) -> Result<Vec<u8>, 
     Ok(bytes)
 }
 
-/// An explanation with names.
+/// An explanation with these names.
+fn named_by(alloc: Global, names: &Names<'_>, told: &Output) -> Result<Output, AllocError>
+    ensures { IfOk result (λ o. o ≡ def.with_names names.now told.now) }
+{
+    let bytes = with_names(alloc, names, told.bytes.as_slice())?;
+    Ok(Output {
+        bytes,
+        status: told.status,
+    })
+}
+
+/// An explanation with the names of its text.
 fn named<'t>(
     alloc: Global,
     text: &'t [u8],
@@ -137,17 +148,10 @@ fn named<'t>(
     told: &Output,
 ) -> Result<Output, AllocError>
     requires { outline ≡ outline_of text.now }
-    ensures { IfOk result (λ o. o ≡ record {
-      bytes = def.named_lines text.now (lines told.now.bytes);
-      status = told.now.status;
-    }) }
+    ensures { IfOk result (λ o. o ≡ def.with_names text.now told.now) }
 {
     let names = Names::new(alloc, text, outline)?;
-    let bytes = with_names(alloc, &names, told.bytes.as_slice())?;
-    Ok(Output {
-        bytes,
-        status: told.status,
-    })
+    named_by(alloc, &names, told)
 }
 
 /// An explanation with names; a fault of the text has none.
