@@ -7,7 +7,7 @@ use Rattle.look_ends.proofs.listing.listed_in.Goals as goal
 pub returns-in-Ok : goal.returns-in-Ok
 returns-in-Ok g c =
     program_lists (g.F.EndsForm.shows c.args.form.now) _ _ _ c.args.text.now c.args.wanted c.args.number c.in-Ok.program c.of_program.result
-    c.in_ok-outline.ensures.program c.in_ok-names.ensures c.in-Ok.ensures c.of_program.ensures
+    c.in_ok-outline.ensures.program c.in_ok-names-in-Ok.ensures c.in-Ok.ensures c.of_program.ensures
 
 pub returns-in-Err-Shown : goal.returns-in-Err-Shown
 returns-in-Err-Shown g c =
