@@ -3,7 +3,7 @@
 ghost use Rattle.std.specs.Prelude.{◌≡◌, ◌++◌, ◌≤◌, OnOk, IfOk, length, take, drop};
 ghost use Rattle.std.specs.String.{string_bytes};
 ghost use Rattle.sts_asm.specs.Text.{judged};
-ghost use Rattle.sts_plain.specs.Seen.{shown as shown_state};
+ghost use Rattle.sts_plain.specs.Seen.{shown};
 ghost use Rattle.sts_output.specs.Output as cli;
 ghost use Rattle.sts_output.specs.Kept.{KeepsFault};
 ghost use Rattle.sts_output.specs.Stops.{Keeps, Prints};
