@@ -87,7 +87,8 @@ pub fn write_view<W: io::Write>(
     out: &mut W,
     assembled: &mut Assembled,
 ) -> Status
-    ensures output { IfOk result (λ s. (o : AnyOutput) × def.IsNamedViewOf wanted text.now trace.now o
+    ensures output { IfOk result (λ s. (o : AnyOutput)
+        × def.IsNamedViewOf wanted text.now trace.now o
         × Writes (W.contents out.old) (W.contents out.new) s o) }
     ensures fault { IfOk result (λ s. s ≡ 3
         → KeepsFault (judged text.now) assembled.old assembled.new) }
