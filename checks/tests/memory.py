@@ -481,9 +481,9 @@ def workers(refusing, case):
             yield answer in right_answers(case) and found == count, f"{count} workers {journal}", (answer, found)
 
 
-# A `main` of 480,052 steps.  Each third of them asks whether its task was interrupted, which a worker does under the lock.
-LONG = "func main 0 / push 16 / times 16 / push 10000 / times 10000 / interrupted / pop / next / next / push 0 / ret / end"
-OF_LONG = "main steps 480052 / main tasks 1 / main scopes 0 / main binds 0 / success 0 / steps 480052"
+# A `main` of 990,103 steps.  Each third of them asks whether its task was interrupted, which a worker does under the lock.
+LONG = "func main 0 / push 33 / times 33 / push 10000 / times 10000 / interrupted / pop / next / next / push 0 / ret / end"
+OF_LONG = "main steps 990103 / main tasks 1 / main scopes 0 / main binds 0 / success 0 / steps 990103"
 
 
 def stops(refusing, case):
@@ -491,7 +491,7 @@ def stops(refusing, case):
     refusing.put(case)
     for words in (case.words, [*case.words, "--trace", "journal"]):
         case = case._replace(words=words)
-        whole, refused = ([refusing.cost(case, it) for _ in range(5)] for it in ("", "thread:3"))
+        whole, refused = ([refusing.cost(case, it) for _ in range(9)] for it in ("", "thread:3"))
         answers = {it for it, _ in whole}, {it for it, _ in refused}
         least = [min(seconds for _, seconds in it) for it in (whole, refused)]
         right = answers == ({(case.answer, 0)}, {NO_THREADS}) and 2 * least[1] < least[0]
